@@ -1,0 +1,10 @@
+//! Ids, texts and moments: the values that every other crate speaks of.
+#![tactic(auto)]
+
+mod ids;
+mod moment;
+mod text;
+
+pub use ids::{GroupId, SubjectId};
+pub use moment::Moment;
+pub use text::Text;
