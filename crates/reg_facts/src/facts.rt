@@ -1,0 +1,215 @@
+// The facts.
+ghost use Rattle.std.specs.Prelude.{◌≡◌, ◌<◌, IfOk, IsSome};
+ghost use Rattle.reg_facts.specs.Facts.{Lists, start, subject_id, group_id, has_row, member_ids, is_among, texts_where, member_texts, max_subjects, max_groups, max_rows, edit, CanEdit};
+ghost use Rattle.reg_facts.specs.declared.command.Command.TheVariants.{SubjectAdd, GroupAdd, MemberAdd};
+
+use crate::{Command, Entity, GroupRow, MemberRow, SubjectRow, Texts};
+use reg_base::{GroupId, Moment, SubjectId, Text};
+use std::alloc::{AllocError, Global};
+use std::marker::Model;
+
+/// What stands in the registry: lists of subjects, groups and immediate memberships, and how many
+/// subjects and groups were ever made. Contracts see the record of these lists.
+#[derive(Debug, Drop)]
+pub struct Facts {
+    subject_rows: Vec<SubjectRow>,
+    subject_count: u32,
+    group_rows: Vec<GroupRow>,
+    group_count: u32,
+    member_rows: Vec<MemberRow>,
+}
+
+impl Model for Facts {
+    ghost use Rattle.reg_facts.specs.Facts.{Lists};
+
+    ghost Value = { Lists };
+
+    ghost view = { λ f. record {
+      subjects = f.subject_rows.items;
+      subjects_made = f.subject_count;
+      groups = f.group_rows.items;
+      groups_made = f.group_count;
+      rows = f.member_rows.items;
+    } };
+}
+
+fn is_among(ids: &[SubjectId], id: SubjectId) -> bool
+    ensures { result ≡ is_among id ids.now }
+{
+    ids.iter().any(|other| *other == id)
+}
+
+impl Facts {
+    /// The root folder alone: no subject, no group, no membership.
+    pub fn start(alloc: Global) -> Result<Facts, AllocError>
+        ensures { IfOk result (λ f. f ≡ start) }
+    {
+        Ok(Facts {
+            subject_rows: Vec::new(alloc),
+            subject_count: 0,
+            group_rows: Vec::new(alloc),
+            group_count: 0,
+            member_rows: Vec::new(alloc),
+        })
+    }
+
+    /// The facts after a command (`docs/REGISTRY.md`). Where there is no memory they are gone.
+    pub fn edit(
+        self,
+        alloc: Global,
+        _at: Moment,
+        _by: &Entity,
+        command: &Command,
+    ) -> Result<Facts, AllocError>
+        requires { CanEdit command.now self }
+        ensures { IfOk result (λ f. f ≡ edit command.now self) }
+    {
+        match command {
+            Command::SubjectAdd { subject, display } => self.add_subject(alloc, subject, display),
+            Command::GroupAdd { group, display } => self.add_group(alloc, group, display),
+            Command::MemberAdd { group, member } => self.add_member(group, member),
+        }
+    }
+
+    fn add_subject(self, alloc: Global, text: &Text, display: &Text) -> Result<Facts, AllocError>
+        requires { CanEdit (SubjectAdd text.now display.now) self }
+        ensures { IfOk result (λ f. f ≡ edit (SubjectAdd text.now display.now) self) }
+    {
+        let mut facts = self;
+        let id = SubjectId::new(facts.subject_count + 1);
+        let text = text.copy(alloc)?;
+        let display = display.copy(alloc)?;
+        facts.subject_rows.push(SubjectRow { id, text, display })?;
+        facts.subject_count += 1;
+        Ok(facts)
+    }
+
+    fn add_group(self, alloc: Global, name: &Text, display: &Text) -> Result<Facts, AllocError>
+        requires { CanEdit (GroupAdd name.now display.now) self }
+        ensures { IfOk result (λ f. f ≡ edit (GroupAdd name.now display.now) self) }
+    {
+        let mut facts = self;
+        let id = GroupId::new(facts.group_count + 1);
+        let extension = name.copy(alloc)?;
+        let display = display.copy(alloc)?;
+        facts.group_rows.push(GroupRow {
+            id,
+            extension,
+            display,
+        })?;
+        facts.group_count += 1;
+        Ok(facts)
+    }
+
+    fn add_member(self, group: &Text, member: &Text) -> Result<Facts, AllocError>
+        requires { CanEdit (MemberAdd group.now member.now) self }
+        ensures { IfOk result (λ f. f ≡ edit (MemberAdd group.now member.now) self) }
+    {
+        let group = self.group_id(group.bytes()).unwrap();
+        let member = self.subject_id(member.bytes()).unwrap();
+        let mut facts = self;
+        facts.member_rows.push(MemberRow { group, member })?;
+        Ok(facts)
+    }
+
+    /// The id of the person of this text. None exactly where there is no such person.
+    pub fn subject_id(&self, text: &[u8]) -> Option<SubjectId>
+        ensures { result ≡ subject_id text.now self.now.subjects }
+    {
+        for row in &self.subject_rows {
+            if row.text.bytes() == text {
+                return Some(row.id);
+            }
+        }
+        None
+    }
+
+    /// The id of the group of this extension. None exactly where there is no such group.
+    pub fn group_id(&self, extension: &[u8]) -> Option<GroupId>
+        ensures { result ≡ group_id extension.now self.now.groups }
+    {
+        for row in &self.group_rows {
+            if row.extension.bytes() == extension {
+                return Some(row.id);
+            }
+        }
+        None
+    }
+
+    /// Whether this person is an immediate member of this group.
+    pub fn has_row(&self, group: GroupId, member: SubjectId) -> bool
+        ensures { result ≡ has_row group member self.now.rows }
+    {
+        self.member_rows
+            .iter()
+            .any(|row| row.group == group && row.member == member)
+    }
+
+    fn member_ids(&self, alloc: Global, group: GroupId) -> Result<Vec<SubjectId>, AllocError>
+        ensures { IfOk result (λ ids. ids.items ≡ member_ids group self.now.rows) }
+    {
+        self.member_rows
+            .iter()
+            .filter(|row| row.group == group)
+            .map(|row| row.member)
+            .collect(alloc)
+    }
+
+    fn texts_among(&self, alloc: Global, ids: &[SubjectId]) -> Result<Texts, AllocError>
+        ensures { IfOk result (λ texts. texts ≡ texts_where (λ s. is_among s ids.now) self.now.subjects) }
+    {
+        let mut texts = Texts::new(alloc);
+        for row in &self.subject_rows {
+            if is_among(ids, row.id) {
+                let text = row.text.copy(alloc)?;
+                texts.push(text)?;
+            }
+        }
+        Ok(texts)
+    }
+
+    /// The texts of the persons that are immediate members of the group, in the order of their ids.
+    #[tactic(auto, using(crate::proofs::Members::texts_of_members))]
+    pub fn member_texts(&self, alloc: Global, group: GroupId) -> Result<Texts, AllocError>
+        ensures { IfOk result (λ texts. texts ≡ member_texts group self.now) }
+    {
+        let ids = self.member_ids(alloc, group)?;
+        let texts = self.texts_among(alloc, &ids)?;
+        Ok(texts)
+    }
+
+    /// How many subjects were ever made.
+    pub fn subjects_made(&self) -> u32
+        ensures { result ≡ self.now.subjects_made }
+    {
+        self.subject_count
+    }
+
+    /// How many groups were ever made.
+    pub fn groups_made(&self) -> u32
+        ensures { result ≡ self.now.groups_made }
+    {
+        self.group_count
+    }
+
+    /// The subjects, by id.
+    pub fn subjects(&self) -> &[SubjectRow]
+        ensures { result.now ≡ self.now.subjects }
+    {
+        &self.subject_rows
+    }
+
+    /// The groups, by id.
+    pub fn groups(&self) -> &[GroupRow]
+        ensures { result.now ≡ self.now.groups }
+    {
+        &self.group_rows
+    }
+
+    /// The immediate memberships, in the order in which they were added.
+    pub fn rows(&self) -> &[MemberRow]
+        ensures { result.now ≡ self.now.rows }
+    {
+        &self.member_rows
+    }
+}

@@ -1,0 +1,14 @@
+//! What the registry knows: the facts as lists, the commands that change them, and the refusals.
+#![tactic(auto)]
+
+mod command;
+mod facts;
+mod refusal;
+mod rows;
+mod texts;
+
+pub use command::{Command, Entity, Stamped};
+pub use facts::Facts;
+pub use refusal::Refusal;
+pub use rows::{GroupRow, MemberRow, SubjectRow};
+pub use texts::Texts;
