@@ -1,0 +1,37 @@
+// Why a request wasn't read.
+ghost use Rattle.std.specs.Prelude.{◌≡◌};
+
+use reg_base::Text;
+use reg_facts::Refusal;
+use std::alloc::{AllocError, Global};
+
+/// Why a request wasn't read.
+#[derive(Debug, Drop)]
+pub enum ReadFault {
+    /// There was no memory.
+    Memory,
+    /// The line is no request.
+    Refused(Refusal),
+}
+
+impl From<AllocError> for ReadFault {
+    ghost use Rattle.reg_json.specs.declared.fault.ReadFault.TheVariants.{Memory};
+
+    ghost from_gives = { λ _ e. e ≡ Memory };
+
+    fn from(_: AllocError) -> Self {
+        ReadFault::Memory
+    }
+}
+
+ghost use Rattle.reg_json.specs.Steps.{IsBad};
+
+/// BadRequest of a field, or no memory to say so.
+pub fn bad(alloc: Global, field: &str) -> ReadFault
+    ensures { IsBad result field.now }
+{
+    match Text::new(alloc, field) {
+        Ok(field) => ReadFault::Refused(Refusal::BadRequest { field }),
+        Err(_) => ReadFault::Memory,
+    }
+}

@@ -1,0 +1,83 @@
+// Replies.
+ghost use Rattle.std.specs.Prelude.{◌≡◌, IfOk, string_bytes};
+ghost use Rattle.serde_json.specs.Data.{array};
+ghost use Rattle.serde_json.specs.View.{view};
+ghost use Rattle.reg_json.specs.Replies.{strings, refusal_data, answer_data, reply_data, text};
+
+use reg_base::Text;
+use reg_facts::Refusal;
+use reg_view::{Answer, Reply};
+use serde_json::{Value, json};
+use std::alloc::{AllocError, Global};
+
+#[tactic(auto, unfolding(crate::specs::Replies::refusal_data))]
+fn refusal_value(alloc: Global, refusal: &Refusal) -> Result<Value, AllocError>
+    ensures { IfOk result (λ v. view v ≡ refusal_data refusal.now) }
+{
+    match refusal {
+        Refusal::BadRequest { field } => {
+            json!(in alloc; {"code": 2u64, "field": field.as_str(), "refused": "BadRequest"})
+        }
+        Refusal::NotFound { object } => {
+            json!(in alloc; {"code": 6u64, "object": object.as_str(), "refused": "NotFound"})
+        }
+        Refusal::Already => json!(in alloc; {"code": 12u64, "refused": "Already"}),
+        Refusal::Full { kind, limit } => {
+            json!(in alloc; {"code": 26u64, "kind": kind.as_str(), "limit": *limit, "refused": "Full"})
+        }
+    }
+}
+
+#[tactic(auto, using(serde_json::specs::declared::value::Value::the_lemmas))]
+fn strings(alloc: Global, texts: &[Text]) -> Result<Value, AllocError>
+    ensures { IfOk result (λ v. view v ≡ array (strings texts.now)) }
+{
+    let mut list = Vec::new(alloc);
+    for text in texts {
+        let value = Value::try_from_str(alloc, text.as_str())?;
+        list.push(value)?;
+    }
+    Ok(Value::Array(list))
+}
+
+#[tactic(auto, unfolding(crate::specs::Replies::answer_data))]
+fn answer_value(alloc: Global, answer: &Answer) -> Result<Value, AllocError>
+    ensures { IfOk result (λ v. view v ≡ answer_data answer.now) }
+{
+    match answer {
+        Answer::Members { members } => {
+            let texts = strings(alloc, members.list())?;
+            json!(in alloc; {"members": texts, "ok": true})
+        }
+    }
+}
+
+#[tactic(auto, unfolding(crate::specs::Replies::reply_data))]
+fn reply_value(alloc: Global, reply: &Reply) -> Result<Value, AllocError>
+    ensures { IfOk result (λ v. view v ≡ reply_data reply.now) }
+{
+    match reply {
+        Reply::Number { number } => json!(in alloc; {"number": *number, "ok": true}),
+        Reply::Answer(answer) => answer_value(alloc, answer),
+        Reply::Refused(refusal) => refusal_value(alloc, refusal),
+        Reply::NoMemory => json!(in alloc; {"fault": "memory"}),
+    }
+}
+
+/// The text of a reply: compact JSON whose keys ascend, without an ending LF
+/// (`docs/REQUESTS.md`, "Replies").
+#[tactic(auto, using(crate::proofs::Floats::no_float), unfolding(crate::specs::Replies::text))]
+pub fn write_reply(alloc: Global, reply: &Reply) -> Result<String, AllocError>
+    ensures { IfOk result (λ s. string_bytes s ≡ text reply.now) }
+{
+    let value = reply_value(alloc, reply)?;
+    value.to_string(alloc)
+}
+
+/// The text of the reply that there was no memory, without memory.
+#[tactic(auto, unfolding(crate::specs::Replies::text, crate::specs::Replies::reply_data))]
+pub fn no_memory_text() -> &'static [u8]
+    ensures { result.now ≡ text Reply.NoMemory }
+{
+    b"{\"fault\":\"memory\"}"
+}

@@ -1,0 +1,12 @@
+//! Requests and replies, and what a query is answered.
+#![tactic(auto)]
+
+mod asking;
+mod query;
+mod reply;
+mod request;
+
+pub use asking::ask;
+pub use query::{Answer, Query};
+pub use reply::Reply;
+pub use request::{Op, Request};
