@@ -8,5 +8,5 @@ mod reply;
 mod request;
 mod words;
 
-pub use reply::{no_memory_text, write_reply};
+pub use reply::{no_memory_line, write_reply};
 pub use request::read_request;

@@ -1,5 +1,5 @@
 // Replies.
-ghost use Rattle.std.specs.Prelude.{◌≡◌, IfOk, string_bytes};
+ghost use Rattle.std.specs.Prelude.{◌≡◌, ◌++◌, ◌∷◌, [], IfOk, string_bytes};
 ghost use Rattle.serde_json.specs.Data.{array};
 ghost use Rattle.serde_json.specs.View.{view};
 ghost use Rattle.reg_json.specs.Replies.{strings, refusal_data, answer_data, reply_data, text};
@@ -74,10 +74,9 @@ pub fn write_reply(alloc: Global, reply: &Reply) -> Result<String, AllocError>
     value.to_string(alloc)
 }
 
-/// The text of the reply that there was no memory, without memory.
-#[tactic(auto, unfolding(crate::specs::Replies::text, crate::specs::Replies::reply_data))]
-pub fn no_memory_text() -> &'static [u8]
-    ensures { result.now ≡ text Reply.NoMemory }
+/// The text of the reply that there was no memory, with its LF. It takes none.
+pub fn no_memory_line() -> &'static [u8]
+    ensures { result.now ≡ text Reply.NoMemory ++ 10 ∷ [] }
 {
-    b"{\"fault\":\"memory\"}"
+    b"{\"fault\":\"memory\"}\n"
 }

@@ -1,7 +1,7 @@
 use Rattle.std.proofs.Common.{refl}
 use Rattle.json.specs.Print.{escape_byte}
 use Rattle.reg_json.specs.Replies.{text, reply_data}
-use Rattle.reg_json.proofs.reply.no_memory_text.Goals as goal
+use Rattle.reg_json.proofs.reply.no_memory_line.Goals as goal
 
 -- the constant is what the definition computes to
 pub returns : goal.returns

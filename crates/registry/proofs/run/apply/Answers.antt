@@ -1,0 +1,23 @@
+use Rattle.std.proofs.Common.{arith, rules}
+use Rattle.std.proofs.lemmas.List.{length-take-le}
+use Rattle.registry.proofs.Feeding.{at_end_before, taken_more, written_all}
+use Rattle.registry.proofs.run.apply.Goals as goal
+
+-- the input has ended, and all its lines are answered
+pub returns-then-count-eq0-clause-written : goal.returns-then-count-eq0-clause-written
+returns-then-count-eq0-clause-written g c =
+    let left = g.S.Source.left in
+    written_all (left c.args.input.now) (left c.loop-taken.input) (g.K.Sink.written c.args.out.now) (g.C.Clock.moments c.args.clock.now) _ _ _ _ _ _ _ _ _
+    c.loop-taken.invariant.done c.loop-taken.invariant.held
+    (at_end_before (left c.loop-taken.input) (left c.read_some.new.input) _ _ c.in_ok-count.ensures.bytes c.if-count-eq0.true (c.in_ok-count.ensures.end c.if-count-eq0.true))
+    c.in_ok-finish.ensures.answered
+
+-- one piece more was taken
+pub loop-taken-preserved : goal.loop-taken-preserved
+loop-taken-preserved g c = record {
+    done = taken_more _ _ _ _ _ _ _ _ _ _ _ _ c.loop-taken.invariant.done c.in_ok-count.ensures.bytes (length-take-le _ _ c.in_ok-count.ensures.filled) c.in_ok-service.ensures.fed;
+    held = c.loop-taken.invariant.held;
+    few = omega (arith, c.in_ok-count.ensures.within);
+    reads = search rules;
+    writes = search rules;
+  }

@@ -1,0 +1,35 @@
+-- The lines of bytes, and what they ask.
+use Rattle.std.specs.Prelude.{◌≡◌, ◌≢◌, ℕ, List, [], ◌∷◌, ◌++◌, ◌==◌, All, Bool, true, false, Result, if◌then◌else◌}
+use Rattle.std.specs.List.{join_with_byte}
+use Rattle.reg_view.specs.declared.request.Request.{Request}
+use Rattle.reg_facts.specs.declared.refusal.Refusal.{Refusal}
+use Rattle.reg_json.specs.Reading.{reading_of}
+
+-- the bytes cut at each LF, where the first line goes on from the bytes before
+abbrev pub lines_from : List ℕ → List ℕ → List (List ℕ)
+lines_from before [] = before ∷ []
+lines_from before (b ∷ bs) = if b == 10 then before ∷ lines_from [] bs else lines_from (before ++ b ∷ []) bs
+
+-- the lines of bytes; after a last LF stands a line of no bytes
+abbrev pub lines : List ℕ → List (List ℕ)
+lines bytes = lines_from [] bytes
+
+-- these lines are the bytes cut at each LF: joined by LF they are the bytes, and none holds an LF
+pub record IsCutAtLineFeeds (ls : List (List ℕ)) (bytes : List ℕ) : Type 0 where
+  pub joined : join_with_byte 10 ls ≡ bytes
+  pub apart : All (λ line. All (λ b. b ≢ 10) line) ls
+
+-- a line of no bytes, or of one CR, asks nothing
+abbrev pub is_skipped : List ℕ → Bool
+is_skipped [] = true
+is_skipped (b ∷ []) = b == 13
+is_skipped (b ∷ c ∷ bs) = false
+
+-- what lines ask, or why they are refused
+abbrev pub readings : List (List ℕ) → List (Result Request Refusal)
+readings [] = []
+readings (line ∷ ls) = if is_skipped line then readings ls else reading_of line ∷ readings ls
+
+-- what bytes ask
+abbrev pub asked : List ℕ → List (Result Request Refusal)
+asked bytes = readings (lines bytes)

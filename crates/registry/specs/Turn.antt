@@ -1,0 +1,78 @@
+-- One request: the reply, and the registry after it.
+use Rattle.std.specs.Prelude.{◌≡◌, ◌⊎◌, ℕ, List, [], ◌∷◌, ◌++◌, Option, Some, None, Result, Ok, Err, length, max, Bool, true, false}
+use Rattle.reg_facts.specs.declared.command.Entity.{Entity}
+use Rattle.reg_facts.specs.declared.command.Command.{Command}
+use Rattle.reg_facts.specs.declared.command.Stamped.{Stamped}
+use Rattle.reg_facts.specs.declared.refusal.Refusal.{Refusal}
+use Rattle.reg_machine.specs.History as history
+use Rattle.reg_machine.specs.History.{State, facts, refusal, appended}
+use Rattle.reg_view.specs.Answers.{answer_of}
+use Rattle.reg_view.specs.declared.query.Answer.{Answer}
+use Rattle.reg_view.specs.declared.request.Request.{Request}
+use Rattle.reg_view.specs.declared.request.Op.{Op}
+use Rattle.reg_view.specs.declared.request.Op.TheVariants as op
+use Rattle.reg_view.specs.declared.reply.Reply.{Reply}
+use Rattle.reg_view.specs.declared.reply.Reply.TheVariants as reply
+use Rattle.registry.specs.declared.service.Next.{Next}
+use Rattle.registry.specs.declared.service.Next.TheVariants as next
+use Rattle.registry.specs.declared.service.Cause.TheVariants as cause
+
+-- the empty history, at the moment 0
+abbrev pub start : State
+start = history.start
+
+-- the clock moves to a moment, and never back
+abbrev pub at_moment : State → ℕ → State
+at_moment s m = record { history = s.history; clock = max s.clock m }
+
+-- a command that isn't refused is appended and answered with its place in the history
+abbrev pub decided : State → Entity → Command → Option Refusal → Reply × State
+decided s by command None = (reply.Number (length (appended s by command).history), appended s by command)
+decided s by command (Some r) = (reply.Refused r, s)
+
+-- the reply to a query
+abbrev pub answered : Result Answer Refusal → Reply
+answered (Ok a) = reply.Answer a
+answered (Err r) = reply.Refused r
+
+-- the reply to what is asked at the clock, and the state after it
+abbrev pub requested : State → Entity → Op → Reply × State
+requested s by (op.Command command) = decided s by command (refusal s.history command)
+requested s by (op.Query query) = (answered (answer_of query (facts s.history)), s)
+
+-- the reply to a reading at a moment, and the state after it
+abbrev pub turn : State → ℕ → Result Request Refusal → Reply × State
+turn s m (Err r) = (reply.Refused r, at_moment s m)
+turn s m (Ok request) = requested (at_moment s m) request.by request.op
+
+-- there was no memory to answer: the history stays, and the clock moved or not
+pub record WantsMemory (s : State) (m : ℕ) (told : Reply) (after : State) : Type 0 where
+  pub fault : told ≡ reply.NoMemory
+  pub history : after.history ≡ s.history
+  pub clock : (after.clock ≡ s.clock) ⊎ (after.clock ≡ max s.clock m)
+
+-- a reply that may be given to a reading, and the state after it
+abbrev pub Turns : State → ℕ → Result Request Refusal → Reply → State → Type 0
+Turns s m reading told after = ((told, after) ≡ turn s m reading) ⊎ WantsMemory s m told after
+
+-- what follows at the clock: what is expected, or no memory with the state as it was
+abbrev pub Carries : State → Reply × State → Reply × Next → Type 0
+Carries s expected (told, next.Go after) = ((told, after) ≡ expected) ⊎ ((told ≡ reply.NoMemory) × (after ≡ s))
+Carries s expected (told, next.Stop why) = (told ≡ reply.NoMemory) × (why ≡ cause.Memory)
+
+-- what follows a reading: the service goes on after the turn, or stops for want of memory
+abbrev pub Follows : State → ℕ → Result Request Refusal → Reply × Next → Type 0
+Follows s m reading (told, next.Go after) = Turns s m reading told after
+Follows s m reading (told, next.Stop why) = (told ≡ reply.NoMemory) × (why ≡ cause.Memory)
+
+-- an accepted command alone goes into the history, at its end; whatever else is answered leaves the history as it was
+abbrev pub KeepsHistory : State → Reply → State → Type 0
+KeepsHistory s (reply.Number n) after = (stamped : Stamped) × (after.history ≡ s.history ++ stamped ∷ []) × (n ≡ length after.history)
+KeepsHistory s (reply.Answer a) after = after.history ≡ s.history
+KeepsHistory s (reply.Refused r) after = after.history ≡ s.history
+KeepsHistory s reply.NoMemory after = after.history ≡ s.history
+
+-- the history after a request is the one before or that with one command more, and the clock doesn't go back
+abbrev pub GoesOn : State → ℕ → Reply × Next → Type 0
+GoesOn s m (told, next.Go after) = KeepsHistory s told after × ((after.clock ≡ s.clock) ⊎ (after.clock ≡ max s.clock m))
+GoesOn s m (told, next.Stop why) = Unit {0}

@@ -1,0 +1,139 @@
+// The line that is being read.
+ghost use Rattle.std.specs.Prelude.{◌≡◌, ◌++◌, ◌∷◌, [], List, ℕ};
+ghost use Rattle.registry.specs.Lines.{is_skipped};
+ghost use Rattle.registry.specs.Pending.{Holds, Says};
+
+use reg_base::Text;
+use reg_facts::Refusal;
+use reg_json::read_request;
+use reg_view::Request;
+use std::alloc::Global;
+
+/// How many bytes a line may have.
+const MAX_LINE: usize = 8_388_608;
+
+const CARRIAGE_RETURN: u8 = 13;
+
+/// The bytes since the last LF, as far as they are kept.
+#[derive(Drop)]
+pub enum PendingLine {
+    /// All of them.
+    Kept(Vec<u8>),
+    /// There are too many: the line is refused, whatever they are.
+    TooLong,
+    /// There was no memory for one of them. `is_return` says whether the line is one CR.
+    Lost { is_return: bool },
+}
+
+/// What a line that isn't skipped asks.
+#[derive(Drop)]
+pub enum LineReading {
+    Asked(Request),
+    Refused(Refusal),
+    /// There was no memory to read it.
+    NoMemory,
+}
+
+fn is_skipped(line: &[u8]) -> bool
+    ensures { result ≡ is_skipped line.now }
+{
+    match line {
+        [] => true,
+        [b] => *b == CARRIAGE_RETURN,
+        _ => false,
+    }
+}
+
+/// What kept bytes ask.
+fn reading_of_bytes(alloc: Global, line: &[u8]) -> LineReading
+    ensures { Says result line.now }
+{
+    match read_request(alloc, line) {
+        Ok(Ok(request)) => LineReading::Asked(request),
+        Ok(Err(refusal)) => LineReading::Refused(refusal),
+        Err(_) => LineReading::NoMemory,
+    }
+}
+
+/// The refusal of a line of too many bytes.
+#[tactic(auto, using(crate::proofs::Long::too_long))]
+fn reading_of_long(alloc: Global) -> LineReading
+    ensures { (line : List ℕ) → Holds PendingLine.TooLong line → Says result line }
+{
+    match Text::new(alloc, "") {
+        Ok(field) => LineReading::Refused(Refusal::BadRequest { field }),
+        Err(_) => LineReading::NoMemory,
+    }
+}
+
+impl PendingLine {
+    /// The line of no bytes.
+    pub fn start(alloc: Global) -> PendingLine
+        ensures { Holds result [] }
+    {
+        PendingLine::Kept(Vec::new(alloc))
+    }
+
+    /// Takes one byte more. Where there is no memory for it, or the line gets too long, its bytes
+    /// are given up.
+    pub fn push(self, byte: u8) -> PendingLine
+        ensures { (line : List ℕ) → Holds self line → Holds result (line ++ byte ∷ []) }
+    {
+        match self {
+            PendingLine::Kept(bytes) => kept_with(bytes, byte),
+            PendingLine::TooLong => PendingLine::TooLong,
+            PendingLine::Lost { .. } => PendingLine::Lost { is_return: false },
+        }
+    }
+
+    /// Whether the line asks nothing: it has no bytes, or is one CR.
+    #[tactic(auto, using(crate::proofs::Long::long_asks))]
+    pub fn is_skipped(&self) -> bool
+        ensures { (line : List ℕ) → Holds self.now line → result ≡ is_skipped line }
+    {
+        match self {
+            PendingLine::Kept(bytes) => is_skipped(bytes),
+            PendingLine::TooLong => false,
+            PendingLine::Lost { is_return } => *is_return,
+        }
+    }
+
+    /// What the line asks, if it isn't skipped.
+    pub fn reading(&self, alloc: Global) -> LineReading
+        ensures { (line : List ℕ) → Holds self.now line → Says result line }
+    {
+        match self {
+            PendingLine::Kept(bytes) => reading_of_bytes(alloc, bytes),
+            PendingLine::TooLong => reading_of_long(alloc),
+            PendingLine::Lost { .. } => LineReading::NoMemory,
+        }
+    }
+
+    /// The line of no bytes again, over the memory that this one has.
+    pub fn clear(self, alloc: Global) -> PendingLine
+        ensures { Holds result [] }
+    {
+        match self {
+            PendingLine::Kept(mut bytes) => {
+                bytes.clear();
+                PendingLine::Kept(bytes)
+            }
+            _ => PendingLine::start(alloc),
+        }
+    }
+}
+
+/// Kept bytes and one more.
+fn kept_with(bytes: Vec<u8>, byte: u8) -> PendingLine
+    ensures { (line : List ℕ) → line ≡ bytes.items → Holds result (line ++ byte ∷ []) }
+{
+    if bytes.len() >= MAX_LINE {
+        return PendingLine::TooLong;
+    }
+    let mut bytes = bytes;
+    let is_return = bytes.is_empty() && byte == CARRIAGE_RETURN;
+    match bytes.push(byte) {
+        Ok(()) => PendingLine::Kept(bytes),
+        Err(_) => PendingLine::Lost { is_return },
+    }
+}

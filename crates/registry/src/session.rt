@@ -1,0 +1,163 @@
+// Lines in, replies out.
+ghost use Rattle.std.specs.Prelude.{◌≡◌, ◌≤◌, ◌∷◌, ◌++◌, [], List, ℕ, ◌⊎◌, IfOk, IfErr, OnOk, string_bytes};
+ghost use Rattle.std.specs.Io.KnownBytes.{append_known};
+ghost use Rattle.reg_outside.specs.Faults.{Rose};
+ghost use Rattle.reg_json.specs.Reading.{reading_of};
+ghost use Rattle.registry.specs.Pending.{Holds, Says};
+ghost use Rattle.registry.specs.Run.{line_of, is_accepted, WritesReply, AnswersLine, Feeds};
+ghost use Rattle.registry.specs.Turn.{Follows};
+
+use crate::pending::{LineReading, PendingLine};
+use crate::service::{Cause, Next, Service};
+use reg_base::Moment;
+use reg_json::{no_memory_line, write_reply};
+use reg_outside::{Clock, Failed, Sink, write_whole};
+use reg_view::Reply;
+use std::alloc::{AllocError, Global};
+
+const LINE_FEED: u8 = 10;
+
+/// Why a run stopped.
+#[derive(Clone, Copy, Debug, PartialEq, Eq)]
+pub enum Stop {
+    /// There was no memory to go on.
+    Memory,
+    /// The input failed.
+    Input,
+    /// The output failed.
+    Output,
+    /// Too many bytes were read.
+    TooMuch,
+}
+
+/// Whether a reply says that a command was accepted.
+fn is_accepted(reply: &Reply) -> bool
+    ensures { result ≡ is_accepted reply.now }
+{
+    matches!(reply, Reply::Number { .. })
+}
+
+/// The text of a reply, and LF.
+fn reply_line(alloc: Global, reply: &Reply) -> Result<String, AllocError>
+    ensures { IfOk result (λ s. string_bytes s ≡ line_of reply.now) }
+{
+    let mut line = write_reply(alloc, reply)?;
+    line.push('\n')?;
+    Ok(line)
+}
+
+fn write_bytes<K: Sink>(out: &mut K, bytes: &[u8]) -> Result<(), Stop>
+    ensures written { OnOk result (K.written out.new ≡ append_known (K.written out.old) bytes.now) }
+    ensures count { K.write_faults out.old ≤ K.write_faults out.new }
+    ensures output { IfErr result (λ e. (e ≡ Stop.Output) × Rose (K.write_faults out.old) (K.write_faults out.new)) }
+{
+    match write_whole(out, bytes) {
+        Ok(()) => Ok(()),
+        Err(Failed) => Err(Stop::Output),
+    }
+}
+
+/// Writes a reply. Where there is no memory to print it, that is written in its place, unless a
+/// command was accepted: that one reply can't be taken back, so nothing of it is written.
+fn write_line<K: Sink>(alloc: Global, reply: &Reply, out: &mut K) -> Result<(), Stop>
+    ensures written { OnOk result (WritesReply reply.now (K.written out.old) (K.written out.new)) }
+    ensures count { K.write_faults out.old ≤ K.write_faults out.new }
+    ensures output { IfErr result (λ e. e ≡ Stop.Output → Rose (K.write_faults out.old) (K.write_faults out.new)) }
+    ensures others { IfErr result (λ e. (e ≡ Stop.Memory) ⊎ (e ≡ Stop.Output)) }
+{
+    match reply_line(alloc, reply) {
+        Ok(line) => write_bytes(out, line.as_bytes()),
+        Err(AllocError) => {
+            if is_accepted(reply) {
+                return Err(Stop::Memory);
+            }
+            write_bytes(out, no_memory_line())
+        }
+    }
+}
+
+/// The reply to a line that isn't skipped, and what follows it.
+fn turn(alloc: Global, service: Service, at: Moment, reading: LineReading) -> (Reply, Next)
+    ensures { (line : List ℕ) → Says reading line → Follows service at (reading_of line) result }
+{
+    match reading {
+        LineReading::Asked(request) => service.request(alloc, at, request),
+        LineReading::Refused(refusal) => service.refuse(at, refusal),
+        LineReading::NoMemory => (Reply::NoMemory, Next::Go(service)),
+    }
+}
+
+/// Answers a line, unless it is skipped. The clock is read once, after the line.
+pub fn answer_line<K: Sink, C: Clock>(
+    alloc: Global,
+    service: Service,
+    line: &PendingLine,
+    out: &mut K,
+    clock: &mut C,
+) -> Result<Service, Stop>
+    ensures answered { IfOk result (λ after. (bytes : List ℕ) → Holds line.now bytes →
+        AnswersLine (record { written = K.written out.old; moments = C.moments clock.old; state = service })
+        bytes (record { written = K.written out.new; moments = C.moments clock.new; state = after })) }
+    ensures count { K.write_faults out.old ≤ K.write_faults out.new }
+    ensures output { IfErr result (λ e. e ≡ Stop.Output → Rose (K.write_faults out.old) (K.write_faults out.new)) }
+    ensures others { IfErr result (λ e. (e ≡ Stop.Memory) ⊎ (e ≡ Stop.Output)) }
+{
+    if line.is_skipped() {
+        return Ok(service);
+    }
+    let moment = clock.now();
+    let reading = line.reading(alloc);
+    let (reply, next) = turn(alloc, service, moment, reading);
+    write_line(alloc, &reply, out)?;
+    match next {
+        Next::Go(service) => Ok(service),
+        Next::Stop(Cause::Memory) => Err(Stop::Memory),
+    }
+}
+
+/// Takes the next byte: it ends the line, or goes on with it.
+fn take_byte<K: Sink, C: Clock>(
+    alloc: Global,
+    service: Service,
+    line: PendingLine,
+    byte: u8,
+    out: &mut K,
+    clock: &mut C,
+) -> Result<(Service, PendingLine), Stop>
+    ensures fed { IfOk result (λ after.
+        Feeds (record { written = K.written out.old; moments = C.moments clock.old; state = service }) line (byte ∷ [])
+        (record { written = K.written out.new; moments = C.moments clock.new; state = after.0 }) after.1) }
+    ensures count { K.write_faults out.old ≤ K.write_faults out.new }
+    ensures output { IfErr result (λ e. e ≡ Stop.Output → Rose (K.write_faults out.old) (K.write_faults out.new)) }
+    ensures others { IfErr result (λ e. (e ≡ Stop.Memory) ⊎ (e ≡ Stop.Output)) }
+{
+    if byte == LINE_FEED {
+        let service = answer_line(alloc, service, &line, out, clock)?;
+        return Ok((service, line.clear(alloc)));
+    }
+    Ok((service, line.push(byte)))
+}
+
+/// Answers the lines that a piece of input ends, and keeps the rest of it pending.
+pub fn feed<K: Sink, C: Clock>(
+    alloc: Global,
+    service: Service,
+    line: PendingLine,
+    piece: &[u8],
+    out: &mut K,
+    clock: &mut C,
+) -> Result<(Service, PendingLine), Stop>
+    ensures fed { IfOk result (λ after.
+        Feeds (record { written = K.written out.old; moments = C.moments clock.old; state = service }) line piece.now
+        (record { written = K.written out.new; moments = C.moments clock.new; state = after.0 }) after.1) }
+    ensures count { K.write_faults out.old ≤ K.write_faults out.new }
+    ensures output { IfErr result (λ e. e ≡ Stop.Output → Rose (K.write_faults out.old) (K.write_faults out.new)) }
+    ensures others { IfErr result (λ e. (e ≡ Stop.Memory) ⊎ (e ≡ Stop.Output)) }
+{
+    let mut service = service;
+    let mut line = line;
+    for byte in piece {
+        (service, line) = take_byte(alloc, service, line, *byte, out, clock)?;
+    }
+    Ok((service, line))
+}

@@ -1,0 +1,1 @@
+// Requests and replies to the byte, over the fakes in memory.
