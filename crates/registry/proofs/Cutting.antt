@@ -11,7 +11,7 @@ join_more : (x before bs : List ℕ) → join_with_byte 10 (x ∷ lines_from bef
 join_more x before [] = refl
 join_more x before (b ∷ bs) =
     elim (b == 10) as (λ t. join_with_byte 10 (x ∷ (if t then before ∷ lines_from [] bs else lines_from (before ++ b ∷ []) bs))
-        ≡ x ++ (10 ∷ join_with_byte 10 (if t then before ∷ lines_from [] bs else lines_from (before ++ b ∷ []) bs))) [
+    ≡ x ++ (10 ∷ join_with_byte 10 (if t then before ∷ lines_from [] bs else lines_from (before ++ b ∷ []) bs))) [
       | true ↦ refl
       | false ↦ join_more x (before ++ b ∷ []) bs
     ]

@@ -1,7 +1,10 @@
 -- From byte to byte of a run.
-use Rattle.std.proofs.Common.{◌≡◌, ◌≢◌, ◌++◌, ◌∷◌, ◌==◌, [], List, ℕ, Option, Some, None, Bool, true, false, refl, ap, append_assoc, append-nil, sym, ◌∙◌, ◌+◌, ◌<◌, take, length, length-append, eq-eqb, arith}
+use Rattle.std.proofs.Common.{◌≡◌, ◌≢◌, ◌++◌, ◌∷◌, ◌==◌, [], List, ℕ, Option, Some, None, Bool, true, false, refl, ap, append_assoc, append-nil, sym, ◌∙◌, ◌+◌, ◌<◌, take, length, length-append, drop, arith}
 use Rattle.std.specs.Prelude.{IfSome, All, unwrap_or, slice_index}
 use Rattle.std.proofs.lemmas.List.{take_more}
+use Rattle.std.proofs.Math.Seq.{take-add}
+use Rattle.std.proofs.lemmas.Bool.{ne_eqb}
+use Rattle.std.proofs.lemmas.List.Elements.{All-head, All-tail}
 use Rattle.std.specs.Io.KnownBytes.{append_known, prepend_known, IsAtEnd}
 use Rattle.reg_machine.specs.History.{State}
 use Rattle.registry.specs.Lines.{lines_from, lines, asked}
@@ -27,19 +30,35 @@ feeds_more p q r a b c xs ys f g line h =
 pub feeds_line_feed : (p q : Point) (pending kept : PendingLine) (byte : ℕ) → byte ≡ 10 → ((line : List ℕ) → Holds pending line → AnswersLine p line q) → Holds kept [] → Feeds p pending (byte ∷ []) q kept
 feeds_line_feed p q pending kept byte e answered held line h = ([], held, λ more all given. rw e (answered line h (lines_from [] more) all given))
 
--- another byte goes on with it
-pub feeds_byte : (p : Point) (pending kept : PendingLine) (byte : ℕ) → byte == 10 ≡ false → ((line : List ℕ) → Holds pending line → Holds kept (line ++ byte ∷ [])) → Feeds p pending (byte ∷ []) p kept
-feeds_byte p pending kept byte e push line h = (line ++ byte ∷ [], push line h, λ more all given. rw e given)
+lines_front : (front line more : List ℕ) → All (λ b. b ≢ 10) front → lines_from line (front ++ more) ≡ lines_from (line ++ front) more
+lines_front [] line more h = rw (append-nil line) refl
+lines_front (b ∷ front) line more h =
+    let other : b == 10 ≡ false = ne_eqb b 10 (All-head (λ x. x ≢ 10) b front h) in
+    rw other (lines_front front (line ++ b ∷ []) more (All-tail (λ x. x ≢ 10) b front h) ∙ ap (λ l. lines_from l more) (append_assoc line (b ∷ []) front))
+
+-- bytes with no LF go on with the line
+pub feeds_front : (p : Point) (pending kept : PendingLine) (front : List ℕ) → All (λ b. b ≢ 10) front → ((line : List ℕ) → Holds pending line → Holds kept (line ++ front)) → Feeds p pending front p kept
+feeds_front p pending kept front lacks extended line h = (line ++ front, extended line h, λ more all given. rw (lines_front front line more lacks) given)
+
+-- bytes up to an LF, and the LF
+pub feeds_line : (p q : Point) (a b c : PendingLine) (bytes : List ℕ) (n : ℕ) → n < length bytes → All (λ b. b ≢ 10) (take n bytes) → slice_index bytes n ≡ 10
+    → ((line : List ℕ) → Holds a line → Holds b (line ++ take n bytes)) → ((line : List ℕ) → Holds b line → AnswersLine p line q) → Holds c [] → Feeds p a (take (n + 1) bytes) q c
+feeds_line p q a b c bytes n h lacks there extended answered held =
+    rw (take_more bytes n 0 h) (feeds_more p p q a b c (take n bytes) (slice_index bytes n ∷ []) (feeds_front p a b (take n bytes) lacks extended) (feeds_line_feed p q b c (slice_index bytes n) there answered held))
+
+-- the bytes up to a place, and some from there on
+pub feeds_from : (p q r : Point) (a b c : PendingLine) (piece : List ℕ) (i n : ℕ) → Feeds p a (take i piece) q b → Feeds q b (take n (drop i piece)) r c → Feeds p a (take (i + n) piece) r c
+feeds_from p q r a b c piece i n f g = rw (take-add i n piece) (feeds_more p q r a b c (take i piece) (take n (drop i piece)) f g)
 
 -- a piece more was taken
 pub taken_more : (left mid now : Option (List ℕ)) (p q r : Point) (a b c : PendingLine) (count n : ℕ) (piece : List ℕ) → HasTaken left mid p q a b count
     → mid ≡ prepend_known piece now → length piece ≡ n → Feeds q b piece r c → HasTaken left now p r a c (count + n)
 taken_more left mid now p q r a b c count n piece done read long fed = record {
-    taken = done.taken ++ piece;
-    input = done.input ∙ (rw read (prepend_more done.taken piece now));
-    fed = feeds_more p q r a b c done.taken piece done.fed fed;
-    counted = omega (arith, length-append done.taken piece, done.counted, long);
-  }
+  taken = done.taken ++ piece;
+  input = done.input ∙ (rw read (prepend_more done.taken piece now));
+  fed = feeds_more p q r a b c done.taken piece done.fed fed;
+  counted = omega (arith, length-append done.taken piece, done.counted, long);
+}
   where
     prepend_more : (xs ys : List ℕ) (now : Option (List ℕ)) → prepend_known xs (prepend_known ys now) ≡ prepend_known (xs ++ ys) now
     prepend_more xs ys None = refl
@@ -71,10 +90,6 @@ written_all (Some bytes) (Some rest) (Some before) (Some moments) w1 ms1 w2 ms2 
     let whole : done.taken ++ [] ≡ bytes = rw (← end) (sym (ap (λ o. unwrap_or o []) done.input)) in
     let leads : MayWrite (Some before) (Some moments) start (lines bytes) w2 = rw whole at all in
     record { replies = leads.0; given = leads.1; text = leads.2; exact = answers_exact start moments (asked bytes) leads.0 leads.1; cut = lines_are_cut bytes }
-
--- the bytes up to a place, and the byte there
-pub feeds_at : (p q r : Point) (a b c : PendingLine) (piece : List ℕ) (i : ℕ) → i < length piece → Feeds p a (take i piece) q b → Feeds q b (slice_index piece i ∷ []) r c → Feeds p a (take (i + 1) piece) r c
-feeds_at p q r a b c piece i h f g = rw (take_more piece i 0 h) (feeds_more p q r a b c (take i piece) (slice_index piece i ∷ []) f g)
 
 -- an end that a read of nothing found stood before it
 pub at_end_before : (old now : Option (List ℕ)) (bs : List ℕ) (n : ℕ) → old ≡ prepend_known (take n bs) now → n ≡ 0 → IsAtEnd now → IsAtEnd old

@@ -1,5 +1,5 @@
 // The line that is being read.
-ghost use Rattle.std.specs.Prelude.{◌≡◌, ◌++◌, ◌∷◌, [], List, ℕ};
+ghost use Rattle.std.specs.Prelude.{◌≡◌, ◌<◌, ◌++◌, [], List, ℕ, length};
 ghost use Rattle.registry.specs.Lines.{is_skipped};
 ghost use Rattle.registry.specs.Pending.{Holds, Says};
 
@@ -74,13 +74,17 @@ impl PendingLine {
         PendingLine::Kept(Vec::new(alloc))
     }
 
-    /// Takes one byte more. Where there is no memory for it, or the line gets too long, its bytes
+    /// Takes further bytes. Where there is no memory for them, or the line gets too long, its bytes
     /// are given up.
-    pub fn push(self, byte: u8) -> PendingLine
-        ensures { (line : List ℕ) → Holds self line → Holds result (line ++ byte ∷ []) }
+    #[tactic(auto, using(crate::proofs::Long::longer_asks, crate::proofs::Long::nothing_more))]
+    pub fn extend(self, more: &[u8]) -> PendingLine
+        ensures { (line : List ℕ) → Holds self line → Holds result (line ++ more.now) }
     {
+        if more.is_empty() {
+            return self;
+        }
         match self {
-            PendingLine::Kept(bytes) => kept_with(bytes, byte),
+            PendingLine::Kept(bytes) => kept_with(bytes, more),
             PendingLine::TooLong => PendingLine::TooLong,
             PendingLine::Lost { .. } => PendingLine::Lost { is_return: false },
         }
@@ -123,16 +127,18 @@ impl PendingLine {
     }
 }
 
-/// Kept bytes and one more.
-fn kept_with(bytes: Vec<u8>, byte: u8) -> PendingLine
-    ensures { (line : List ℕ) → line ≡ bytes.items → Holds result (line ++ byte ∷ []) }
+/// Kept bytes and more.
+#[tactic(auto, using(crate::proofs::Long::longer_asks))]
+fn kept_with(bytes: Vec<u8>, more: &[u8]) -> PendingLine
+    requires { 0 < length more.now }
+    ensures { Holds result (bytes.items ++ more.now) }
 {
-    if bytes.len() >= MAX_LINE {
+    if more.len() > MAX_LINE || bytes.len() > MAX_LINE - more.len() {
         return PendingLine::TooLong;
     }
     let mut bytes = bytes;
-    let is_return = bytes.is_empty() && byte == CARRIAGE_RETURN;
-    match bytes.push(byte) {
+    let is_return = bytes.is_empty() && is_skipped(more);
+    match bytes.extend_from_slice(more) {
         Ok(()) => PendingLine::Kept(bytes),
         Err(_) => PendingLine::Lost { is_return },
     }

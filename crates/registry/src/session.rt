@@ -1,5 +1,5 @@
 // Lines in, replies out.
-ghost use Rattle.std.specs.Prelude.{◌≡◌, ◌≤◌, ◌∷◌, ◌++◌, [], List, ℕ, ◌⊎◌, IfOk, IfErr, OnOk, string_bytes};
+ghost use Rattle.std.specs.Prelude.{◌≡◌, ◌≢◌, ◌≤◌, ◌<◌, ◌∷◌, ◌++◌, [], List, ℕ, ◌⊎◌, All, IfOk, IfErr, OnOk, length, take, slice_index, string_bytes};
 ghost use Rattle.std.specs.Io.KnownBytes.{append_known};
 ghost use Rattle.reg_outside.specs.Faults.{Rose};
 ghost use Rattle.reg_json.specs.Reading.{reading_of};
@@ -115,27 +115,46 @@ pub fn answer_line<K: Sink, C: Clock>(
     }
 }
 
-/// Takes the next byte: it ends the line, or goes on with it.
-fn take_byte<K: Sink, C: Clock>(
+/// How many bytes stand before the first LF.
+fn line_end(bytes: &[u8]) -> usize
+    ensures within { result ≤ length bytes.now }
+    ensures before { All (λ b. b ≢ LINE_FEED) (take result bytes.now) }
+    ensures there { result < length bytes.now → slice_index bytes.now result ≡ LINE_FEED }
+{
+    for (at, byte) in bytes.iter().enumerate() {
+        if *byte == LINE_FEED {
+            return at;
+        }
+    }
+    bytes.len()
+}
+
+/// Takes bytes up to and with the first LF, which ends the line, and says how many they are.
+fn feed_line<K: Sink, C: Clock>(
     alloc: Global,
     service: Service,
     line: PendingLine,
-    byte: u8,
+    bytes: &[u8],
     out: &mut K,
     clock: &mut C,
-) -> Result<(Service, PendingLine), Stop>
+) -> Result<(Service, PendingLine, usize), Stop>
+    ensures within { IfOk result (λ after. after.2 ≤ length bytes.now) }
+    ensures some { IfOk result (λ after. 0 < length bytes.now → 0 < after.2) }
     ensures fed { IfOk result (λ after.
-        Feeds (record { written = K.written out.old; moments = C.moments clock.old; state = service }) line (byte ∷ [])
-        (record { written = K.written out.new; moments = C.moments clock.new; state = after.0 }) after.1) }
+        Feeds (record { written = K.written out.old; moments = C.moments clock.old; state = service }) line (take after.2 bytes.now)
+            (record { written = K.written out.new; moments = C.moments clock.new; state = after.0 }) after.1) }
     ensures count { K.write_faults out.old ≤ K.write_faults out.new }
     ensures output { IfErr result (λ e. e ≡ Stop.Output → Rose (K.write_faults out.old) (K.write_faults out.new)) }
     ensures others { IfErr result (λ e. (e ≡ Stop.Memory) ⊎ (e ≡ Stop.Output)) }
 {
-    if byte == LINE_FEED {
-        let service = answer_line(alloc, service, &line, out, clock)?;
-        return Ok((service, line.clear(alloc)));
+    let end = line_end(bytes);
+    let (front, _) = bytes.split_at(end);
+    let line = line.extend(front);
+    if end == bytes.len() {
+        return Ok((service, line, end));
     }
-    Ok((service, line.push(byte)))
+    let service = answer_line(alloc, service, &line, out, clock)?;
+    Ok((service, line.clear(alloc), end + 1))
 }
 
 /// Answers the lines that a piece of input ends, and keeps the rest of it pending.
@@ -149,15 +168,19 @@ pub fn feed<K: Sink, C: Clock>(
 ) -> Result<(Service, PendingLine), Stop>
     ensures fed { IfOk result (λ after.
         Feeds (record { written = K.written out.old; moments = C.moments clock.old; state = service }) line piece.now
-        (record { written = K.written out.new; moments = C.moments clock.new; state = after.0 }) after.1) }
+            (record { written = K.written out.new; moments = C.moments clock.new; state = after.0 }) after.1) }
     ensures count { K.write_faults out.old ≤ K.write_faults out.new }
     ensures output { IfErr result (λ e. e ≡ Stop.Output → Rose (K.write_faults out.old) (K.write_faults out.new)) }
     ensures others { IfErr result (λ e. (e ≡ Stop.Memory) ⊎ (e ≡ Stop.Output)) }
 {
     let mut service = service;
     let mut line = line;
-    for byte in piece {
-        (service, line) = take_byte(alloc, service, line, *byte, out, clock)?;
+    let mut at = 0;
+    while at < piece.len() {
+        let (_, rest) = piece.split_at(at);
+        let count;
+        (service, line, count) = feed_line(alloc, service, line, rest, out, clock)?;
+        at += count;
     }
     Ok((service, line))
 }

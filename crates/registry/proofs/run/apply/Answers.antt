@@ -15,9 +15,9 @@ returns-then-count-eq0-clause-written g c =
 -- one piece more was taken
 pub loop-taken-preserved : goal.loop-taken-preserved
 loop-taken-preserved g c = record {
-    done = taken_more _ _ _ _ _ _ _ _ _ _ _ _ c.loop-taken.invariant.done c.in_ok-count.ensures.bytes (length-take-le _ _ c.in_ok-count.ensures.filled) c.in_ok-service.ensures.fed;
-    held = c.loop-taken.invariant.held;
-    few = omega (arith, c.in_ok-count.ensures.within);
-    reads = search rules;
-    writes = search rules;
-  }
+  done = taken_more _ _ _ _ _ _ _ _ _ _ _ _ c.loop-taken.invariant.done c.in_ok-count.ensures.bytes (length-take-le _ _ c.in_ok-count.ensures.filled) c.in_ok-service.ensures.fed;
+  held = c.loop-taken.invariant.held;
+  few = omega (arith, c.in_ok-count.ensures.within);
+  reads = search rules;
+  writes = search rules;
+}

@@ -12,7 +12,7 @@ invariant-loop-taken g l =
     let moments = g.C.Clock.moments in
     record {
       done : HasTaken (left l.fn.input) (left l.input) (record { written = written l.fn.out; moments = moments l.fn.clock; state = start })
-            (record { written = written l.out; moments = moments l.clock; state = l.service }) l.initial.line l.line l.taken;
+          (record { written = written l.out; moments = moments l.clock; state = l.service }) l.initial.line l.line l.taken;
       held : Holds l.initial.line [];
       few : l.taken ≤ 2 ^ 32;
       reads : g.S.Source.read_faults l.fn.input ≤ g.S.Source.read_faults l.input;

@@ -1,10 +1,13 @@
-use Rattle.std.proofs.Common.{rules}
-use Rattle.registry.proofs.Feeding.{feeds_at}
+use Rattle.std.proofs.Common.{◌≤◌, length, drop, arith, rules, length-drop}
+use Rattle.registry.proofs.Feeding.{feeds_from}
 use Rattle.registry.proofs.session.feed.Goals as goal
 
--- one byte more was taken
-pub loop-byte-preserved : goal.loop-byte-preserved
-loop-byte-preserved g c = record {
-    fed = feeds_at _ _ _ c.args.line c.loop-byte.line c.in_ok-service.field-0-1 c.args.piece.now c.loop-byte.byte-index c.loop-byte-test.true c.loop-byte.invariant.fed c.in_ok-service.ensures.fed;
-    count = search rules;
-  }
+-- the bytes of one line more were taken
+pub loop-at-preserved : goal.loop-at-preserved
+loop-at-preserved g c =
+    let rest : _ = rw c.split_at.ensures.back at c.in_ok-service.ensures.within in
+    record {
+      fed = feeds_from _ _ _ c.args.line c.loop-at.line c.in_ok-service.field-0-1 c.args.piece.now c.loop-at.at c.in_ok-service.field-0-2 c.loop-at.invariant.fed (rw c.split_at.ensures.back at c.in_ok-service.ensures.fed);
+      within = omega (arith, rest, length-drop c.loop-at.at c.args.piece.now);
+      count = search rules;
+    }

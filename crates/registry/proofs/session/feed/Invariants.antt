@@ -1,15 +1,19 @@
-use Rattle.std.proofs.Common.{◌≡◌, ◌≤◌, take}
+use Rattle.std.proofs.Common.{◌≤◌, ◌-◌, length, take}
 use Rattle.registry.specs.Run.{Feeds}
 use Rattle.registry.proofs.session.feed.Given as goal
 
--- the bytes so far were taken
-abbrev pub invariant-loop-byte : goal.invariant-loop-byte
-invariant-loop-byte g l =
+-- the bytes up to a place were taken
+abbrev pub invariant-loop-at : goal.invariant-loop-at
+invariant-loop-at g l =
     let written = g.K.Sink.written in
     let moments = g.C.Clock.moments in
     let faults = g.K.Sink.write_faults in
     record {
-      fed : Feeds (record { written = written l.fn.out; moments = moments l.fn.clock; state = l.fn.service }) l.fn.line (take l.byte-index l.piece)
+      fed : Feeds (record { written = written l.fn.out; moments = moments l.fn.clock; state = l.fn.service }) l.fn.line (take l.at l.piece)
             (record { written = written l.out; moments = moments l.clock; state = l.service }) l.line;
+      within : l.at ≤ length l.piece;
       count : faults l.fn.out ≤ faults l.out;
     }
+
+abbrev pub decreases-loop-at : goal.decreases-loop-at
+decreases-loop-at g l = length l.piece - l.at
