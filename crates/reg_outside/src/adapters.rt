@@ -152,16 +152,16 @@ impl<'a, R: rt::Clock> SystemClock<'a, R> {
     }
 }
 
-/// The microseconds of the greatest moment.
-const GREATEST: u64 = 253_402_300_799_999_999;
+/// The microseconds of the greatest moment, 9999-12-31T23:59:59.999999Z.
+const GREATEST_MOMENT: u64 = 253_402_300_799_999_999;
 
 /// The moment nearest to a time after 1970 began: the nearest whole microsecond, a half upwards,
 /// and the greatest moment for all that is later.
 fn nearest_moment(since_1970: Duration) -> Moment
-    ensures { result ≡ min ((as_nanos since_1970 + 500) / 1_000) GREATEST }
+    ensures { result ≡ min ((as_nanos since_1970 + 500) / 1_000) GREATEST_MOMENT }
 {
     let micros = since_1970.as_nanos().saturating_add(500) / 1_000;
-    let within = micros.min(u128::from(GREATEST)) as u64;
+    let within = micros.min(u128::from(GREATEST_MOMENT)) as u64;
     match Moment::new(within) {
         Some(moment) => moment,
         None => unreachable!(),
@@ -171,7 +171,7 @@ fn nearest_moment(since_1970: Duration) -> Moment
 impl<R: rt::Clock> Clock for SystemClock<'_, R> {
     ghost moments = { λ _. None };
 
-    ghost goes_on = { λ _. tt };
+    ghost one_at_least = { λ _. tt };
 
     /// The moment nearest to the system's time, so moment 0 before 1970. Where the clock can't be
     /// read it is the moment that was given last.

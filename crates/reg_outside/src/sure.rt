@@ -1,5 +1,5 @@
 // A source and a sink that never fail.
-ghost use Rattle.std.specs.Prelude.{◌≡◌, ◌<◌, ◌↔◌, ◌++◌, [], Some, None, Ok, length, take, drop, option_map, IfOk, IfSome, OnOk, OnErr};
+ghost use Rattle.std.specs.Prelude.{◌≡◌, ◌<◌, ◌↔◌, ◌++◌, [], Some, None, Ok, length, take, drop, option_map, IfOk, IfSome, IsOk};
 ghost use Rattle.reg_outside.specs.Faults.{HasCause, Rose};
 ghost use Rattle.reg_outside.specs.Memory.{Pieces, after_read, read_count};
 ghost use Rattle.reg_outside.specs.Streams.{Reads, Writes};
@@ -90,7 +90,7 @@ impl Sink for SureSink {
 
     /// Never `Failed`.
     fn flush(&mut self) -> Result<(), Failed>
-        ensures { OnErr result ⊥ }
+        ensures { IsOk result }
     {
         Ok(())
     }
