@@ -1,5 +1,6 @@
-// The real source, sink and clock over std: the trusted edge. They tell no content.
-ghost use Rattle.std.specs.Prelude.{if◌then◌else◌, ◌≡◌, ◌<◌, ◌≤◌, ◌+◌, ◌/◌, None, min, length, is_err, is_ok, IfOk, IfSome, OnOk, OnErr, option_map};
+// The real source, sink and clock over std: the trusted edge. As a source, sink or clock they tell no
+// content; their own clauses hand on what std's reader and writer tell.
+ghost use Rattle.std.specs.Prelude.{if◌then◌else◌, ◌≡◌, ◌<◌, ◌+◌, ◌/◌, None, min, length, is_err, IfOk};
 ghost use Rattle.std.specs.Duration.{as_nanos};
 ghost use Rattle.std.specs.Io.KnownBytes.{Keeps, ReadConsumes, WriteAppends};
 ghost use Rattle.reg_outside.specs.Faults.{HasCause, Rose};

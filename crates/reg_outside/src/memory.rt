@@ -1,5 +1,5 @@
 // A source and a sink in memory, of which chosen calls fail.
-ghost use Rattle.std.specs.Prelude.{◌≡◌, IsTrue, IsErr, ◌<◌, ◌↔◌, ◌++◌, [], Some, true, false, is_ok, is_err, length, take, drop, option_map, IfOk, IfSome, OnOk, OnErr};
+ghost use Rattle.std.specs.Prelude.{◌≡◌, IsTrue, IsErr, ◌<◌, ◌↔◌, ◌++◌, [], Some, is_err, length, take, drop, IfOk, OnOk, OnErr};
 ghost use Rattle.reg_outside.specs.Faults.{HasCause, Rose};
 ghost use Rattle.reg_outside.specs.Memory.{SourceState, SinkState, after_read, called, failed, is_listed, no_calls, read_count};
 ghost use Rattle.reg_outside.specs.Streams.{Reads, Writes};

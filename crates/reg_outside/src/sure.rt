@@ -1,8 +1,7 @@
 // A source and a sink that never fail.
-ghost use Rattle.std.specs.Prelude.{◌≡◌, ◌<◌, ◌↔◌, ◌++◌, [], Some, None, Ok, length, take, drop, option_map, IfOk, IfSome, IsOk};
-ghost use Rattle.reg_outside.specs.Faults.{HasCause, Rose};
+ghost use Rattle.std.specs.Prelude.{◌≡◌, ◌<◌, ◌↔◌, ◌++◌, [], Some, None, Ok, length, take, drop, IfOk, IsOk};
 ghost use Rattle.reg_outside.specs.Memory.{Pieces, after_read, read_count};
-ghost use Rattle.reg_outside.specs.Streams.{Reads, Writes};
+ghost use Rattle.reg_outside.specs.Streams.{Reads};
 
 use crate::{Failed, Sink, Source};
 use std::marker::Model;
