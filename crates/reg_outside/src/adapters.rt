@@ -1,6 +1,8 @@
-// The real source, sink and clock over std: the trusted edge. They tell no content.
-ghost use Rattle.std.specs.Prelude.{if◌then◌else◌, ◌≡◌, ◌<◌, ◌≤◌, ◌+◌, ◌/◌, None, min, length, is_err, is_ok, IfOk, IfSome, OnOk, OnErr, option_map};
+// The real source, sink and clock over std: the trusted edge. As a source, sink or clock they tell no
+// content; their own clauses hand on what std's reader and writer tell.
+ghost use Rattle.std.specs.Prelude.{if◌then◌else◌, ◌≡◌, ◌<◌, ◌+◌, ◌/◌, None, min, length, is_err, IfOk};
 ghost use Rattle.std.specs.Duration.{as_nanos};
+ghost use Rattle.std.specs.Io.KnownBytes.{Keeps, ReadConsumes, WriteAppends};
 ghost use Rattle.reg_outside.specs.Faults.{HasCause, Rose};
 ghost use Rattle.reg_outside.specs.Memory.{one_more};
 ghost use Rattle.reg_outside.specs.Streams.{Reads, Writes, is_write_fault};
@@ -12,25 +14,26 @@ use std::marker::Model;
 use std::rt;
 use std::time::Duration;
 
-/// A reader of std. Contracts see how often a read has failed.
+/// A reader of std. Contracts see the bytes that it has left, where std tells them, and how often
+/// a read has failed.
 #[derive(Drop)]
-pub struct StdSource<R> {
+pub struct StdSource<R: Read> {
     reader: R,
     faults: u64,
 }
 
-impl<R> Model for StdSource<R> {
-    ghost use Rattle.std.specs.Prelude.{ℕ};
+impl<R: Read> Model for StdSource<R> {
+    ghost use Rattle.reg_outside.specs.Adapters.{ReaderState};
 
-    ghost Value = { ℕ };
+    ghost Value = { ReaderState };
 
-    ghost view = { λ s. s.faults };
+    ghost view = { λ s. record { left = R.remaining s.reader; faults = s.faults } };
 }
 
 impl<R: Read> StdSource<R> {
     /// No read has failed yet.
     pub fn new(reader: R) -> StdSource<R>
-        ensures { result ≡ 0 }
+        ensures { result ≡ record { left = R.remaining reader; faults = 0 } }
     {
         StdSource { reader, faults: 0 }
     }
@@ -39,13 +42,15 @@ impl<R: Read> StdSource<R> {
 impl<R: Read> Source for StdSource<R> {
     ghost left = { λ _. None };
 
-    ghost read_faults = { λ faults. faults };
+    ghost read_faults = { λ s. s.faults };
 
-    /// `Failed` comes where the reader fails. Each such read is counted, and no other.
+    /// One read of the reader. `Failed` comes where it fails. Each such read is counted, and no
+    /// other.
     fn read(&mut self, buf: &mut [u8]) -> Result<usize, Failed>
         ensures bytes { Reads None None result buf.new }
-        ensures cause { HasCause self.old self.new result }
-        ensures counted { self.new ≡ (if is_err result then one_more self.old else self.old) }
+        ensures cause { HasCause self.old.faults self.new.faults result }
+        ensures reader { ReadConsumes self.old.left self.new.left result buf.new }
+        ensures counted { self.new.faults ≡ (if is_err result then one_more self.old.faults else self.old.faults) }
     {
         match self.reader.read(buf) {
             Ok(count) => Ok(count),
@@ -57,25 +62,26 @@ impl<R: Read> Source for StdSource<R> {
     }
 }
 
-/// A writer of std. Contracts see how often a write or a flush has failed.
+/// A writer of std. Contracts see the bytes that it holds, where std tells them, and how often a
+/// write or a flush has failed.
 #[derive(Drop)]
-pub struct StdSink<W> {
+pub struct StdSink<W: Write> {
     writer: W,
     faults: u64,
 }
 
-impl<W> Model for StdSink<W> {
-    ghost use Rattle.std.specs.Prelude.{ℕ};
+impl<W: Write> Model for StdSink<W> {
+    ghost use Rattle.reg_outside.specs.Adapters.{WriterState};
 
-    ghost Value = { ℕ };
+    ghost Value = { WriterState };
 
-    ghost view = { λ s. s.faults };
+    ghost view = { λ s. record { held = W.contents s.writer; faults = s.faults } };
 }
 
 impl<W: Write> StdSink<W> {
     /// No write and no flush has failed yet.
     pub fn new(writer: W) -> StdSink<W>
-        ensures { result ≡ 0 }
+        ensures { result ≡ record { held = W.contents writer; faults = 0 } }
     {
         StdSink { writer, faults: 0 }
     }
@@ -86,15 +92,17 @@ impl<W: Write> Sink for StdSink<W> {
 
     ghost flushed = { λ _. None };
 
-    ghost write_faults = { λ faults. faults };
+    ghost write_faults = { λ s. s.faults };
 
-    /// `Failed` comes where the writer fails. Each such write is counted, and each that takes none
-    /// of a piece that isn't empty, and no other.
+    /// One write of the writer. `Failed` comes where it fails. Each such write is counted, and each
+    /// that takes none of a piece that isn't empty, and no other.
     fn write(&mut self, bytes: &[u8]) -> Result<usize, Failed>
         ensures bytes { Writes None None result bytes.now }
-        ensures none { IfOk result (λ n. n ≡ 0 → 0 < length bytes.now → Rose self.old self.new) }
-        ensures cause { HasCause self.old self.new result }
-        ensures counted { self.new ≡ (if is_write_fault result bytes.now then one_more self.old else self.old) }
+        ensures none { IfOk result (λ n. n ≡ 0 → 0 < length bytes.now → Rose self.old.faults self.new.faults) }
+        ensures cause { HasCause self.old.faults self.new.faults result }
+        ensures writer { WriteAppends self.old.held self.new.held result bytes.now }
+        ensures counted { self.new.faults ≡
+            (if is_write_fault result bytes.now then one_more self.old.faults else self.old.faults) }
     {
         match self.writer.write(bytes) {
             Ok(count) => {
@@ -110,10 +118,12 @@ impl<W: Write> Sink for StdSink<W> {
         }
     }
 
-    /// `Failed` comes where the writer fails. Each such flush is counted, and no other.
+    /// One flush of the writer. `Failed` comes where it fails. Each such flush is counted, and no
+    /// other.
     fn flush(&mut self) -> Result<(), Failed>
-        ensures cause { HasCause self.old self.new result }
-        ensures counted { self.new ≡ (if is_err result then one_more self.old else self.old) }
+        ensures cause { HasCause self.old.faults self.new.faults result }
+        ensures writer { Keeps self.old.held self.new.held }
+        ensures counted { self.new.faults ≡ (if is_err result then one_more self.old.faults else self.old.faults) }
     {
         match self.writer.flush() {
             Ok(()) => Ok(()),
@@ -152,16 +162,16 @@ impl<'a, R: rt::Clock> SystemClock<'a, R> {
     }
 }
 
-/// The microseconds of the greatest moment.
-const GREATEST: u64 = 253_402_300_799_999_999;
+/// The microseconds of the greatest moment, 9999-12-31T23:59:59.999999Z.
+const GREATEST_MOMENT: u64 = 253_402_300_799_999_999;
 
 /// The moment nearest to a time after 1970 began: the nearest whole microsecond, a half upwards,
 /// and the greatest moment for all that is later.
 fn nearest_moment(since_1970: Duration) -> Moment
-    ensures { result ≡ min ((as_nanos since_1970 + 500) / 1_000) GREATEST }
+    ensures { result ≡ min ((as_nanos since_1970 + 500) / 1_000) GREATEST_MOMENT }
 {
     let micros = since_1970.as_nanos().saturating_add(500) / 1_000;
-    let within = micros.min(u128::from(GREATEST)) as u64;
+    let within = micros.min(u128::from(GREATEST_MOMENT)) as u64;
     match Moment::new(within) {
         Some(moment) => moment,
         None => unreachable!(),
@@ -171,7 +181,7 @@ fn nearest_moment(since_1970: Duration) -> Moment
 impl<R: rt::Clock> Clock for SystemClock<'_, R> {
     ghost moments = { λ _. None };
 
-    ghost goes_on = { λ _. tt };
+    ghost one_at_least = { λ _. tt };
 
     /// The moment nearest to the system's time, so moment 0 before 1970. Where the clock can't be
     /// read it is the moment that was given last.

@@ -18,13 +18,13 @@ pub trait Clock {
         ensures later { moments self.new ≡ option_map later_moments (moments self.old) };
 
     /// Where moments are told, there is one at least.
-    ghost goes_on: { (clock : Self) → IfSome (moments clock) (λ ms. 0 < length ms) };
+    ghost one_at_least: { (clock : Self) → IfSome (moments clock) (λ ms. 0 < length ms) };
 }
 
 impl<C: Clock> Clock for &mut C {
     ghost moments = { λ c. C.moments c.now };
 
-    ghost goes_on = { λ c. C.goes_on c.now };
+    ghost one_at_least = { λ c. C.one_at_least c.now };
 
     fn now(&mut self) -> Moment {
         (**self).now()
@@ -68,7 +68,7 @@ impl Clock for ListClock {
 
     ghost moments = { λ c. Some (moments_of c) };
 
-    ghost goes_on = { λ c. Prim.search rules };
+    ghost one_at_least = { λ c. Prim.search rules };
 
     fn now(&mut self) -> Moment {
         let moment = self.list[self.at];

@@ -1,5 +1,7 @@
 //! What the registry asks of the outside: bytes to read, bytes to write, and the time. The real
 //! sources, sinks and clock over std stand beside those in memory, of which chosen calls fail.
+//! Each object counts its own faults, and a call answers `Failed` only where that count rose. The
+//! rules stand in `docs/REGISTRY.md`.
 #![tactic(auto)]
 
 mod adapters;
@@ -9,6 +11,8 @@ mod memory;
 mod sink;
 mod source;
 mod sure;
+#[cfg(test)]
+mod tests;
 
 pub use adapters::{StdSink, StdSource, SystemClock};
 pub use clock::{Clock, ListClock};

@@ -1,5 +1,5 @@
 // A source and a sink in memory, of which chosen calls fail.
-ghost use Rattle.std.specs.Prelude.{◌≡◌, ◌<◌, ◌↔◌, ◌++◌, [], Some, true, false, is_ok, is_err, length, take, drop, option_map, IfOk, IfSome, OnOk, OnErr};
+ghost use Rattle.std.specs.Prelude.{◌≡◌, IsTrue, IsErr, ◌<◌, ◌↔◌, ◌++◌, [], Some, is_err, length, take, drop, IfOk, OnOk, OnErr};
 ghost use Rattle.reg_outside.specs.Faults.{HasCause, Rose};
 ghost use Rattle.reg_outside.specs.Memory.{SourceState, SinkState, after_read, called, failed, is_listed, no_calls, read_count};
 ghost use Rattle.reg_outside.specs.Streams.{Reads, Writes};
@@ -123,7 +123,7 @@ impl Sink for MemorySink {
         ensures none { IfOk result (λ n. n ≡ 0 → 0 < length bytes.now →
             Rose self.old.calls.faults self.new.calls.faults) }
         ensures cause { HasCause self.old.calls.faults self.new.calls.faults result }
-        ensures listed { is_listed self.old.calls ≡ true → is_err result ≡ true }
+        ensures listed { IsTrue (is_listed self.old.calls) → IsErr result }
         ensures count { IfOk result (λ n. n ≡ length bytes.now) }
         ensures after { OnOk result (self.new ≡ record self.old {
           written = self.old.written ++ bytes.now;

@@ -1,8 +1,7 @@
 // A source and a sink that never fail.
-ghost use Rattle.std.specs.Prelude.{◌≡◌, ◌<◌, ◌↔◌, ◌++◌, [], Some, None, Ok, length, take, drop, option_map, IfOk, IfSome, OnOk, OnErr};
-ghost use Rattle.reg_outside.specs.Faults.{HasCause, Rose};
+ghost use Rattle.std.specs.Prelude.{◌≡◌, ◌<◌, ◌↔◌, ◌++◌, [], Some, None, Ok, length, take, drop, IfOk, IsOk};
 ghost use Rattle.reg_outside.specs.Memory.{Pieces, after_read, read_count};
-ghost use Rattle.reg_outside.specs.Streams.{Reads, Writes};
+ghost use Rattle.reg_outside.specs.Streams.{Reads};
 
 use crate::{Failed, Sink, Source};
 use std::marker::Model;
@@ -90,7 +89,7 @@ impl Sink for SureSink {
 
     /// Never `Failed`.
     fn flush(&mut self) -> Result<(), Failed>
-        ensures { OnErr result ⊥ }
+        ensures { IsOk result }
     {
         Ok(())
     }
