@@ -1,2 +1,4 @@
 pub mod Calendar
 pub mod MomentText
+pub mod Names
+pub mod Entities
