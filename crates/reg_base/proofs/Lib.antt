@@ -1,3 +1,4 @@
 pub mod Days
 pub mod Texts
 pub mod Persons
+pub mod Extensions

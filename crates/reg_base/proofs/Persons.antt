@@ -26,10 +26,10 @@ split_ascii text place slash source id i =
     elim (cases_lt i place) [
       | inl before ↦ omega (arith, source i, get_or-take place text i 0 before)
       | inr from ↦ elim (cases_lt place i) [
-          | inl after ↦ let same : place + 1 + (i - (place + 1)) ≡ i = omega arith in
+        | inl after ↦ let same : place + 1 + (i - (place + 1)) ≡ i = omega arith in
             omega (arith, id (i - (place + 1)), rw same at (get_or-drop (place + 1) text (i - (place + 1)) 0))
-          | inr upto ↦ let same : i ≡ place = omega arith in rw same slash
-        ]
+        | inr upto ↦ let same : i ≡ place = omega arith in rw same slash
+      ]
     ]
 
 at_ascii : (text : List ℕ) (found : Option ℕ) → position (λ b. nat_eq b 47) text ≡ found → is_person_at text found ≡ true → IsAscii text

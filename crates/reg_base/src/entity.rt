@@ -76,3 +76,62 @@ impl Entity {
         }
     }
 }
+
+#[cfg(test)]
+mod tests {
+    use super::{Entity, Name, Text};
+    use crate::bytes::Bytes;
+    use std::alloc::{AllocError, Global};
+    use std::test::Fail;
+
+    // the text that an entity is read from, or `?` where there is none
+    fn shown(alloc: Global, text: &str) -> Result<Text, AllocError> {
+        match Entity::parse(alloc, text.as_bytes())? {
+            None => Text::new(alloc, "?"),
+            Some(entity) => match entity.copy(alloc)? {
+                Entity::Person(person) => person.copy(alloc),
+                Entity::Group(name) => {
+                    let bytes = name.copy(alloc)?;
+                    let text = Text::of(alloc, bytes.bytes())?;
+                    match text {
+                        Some(text) => Ok(text),
+                        None => Text::new(alloc, "no text"),
+                    }
+                }
+                Entity::System => Text::new(alloc, "system"),
+                Entity::Everyone => Text::new(alloc, "everyone"),
+            },
+        }
+    }
+
+    const READ: [(&str, &str); 10] = [
+        ("uni/ann", "uni/ann"),
+        ("g:gsa/app:web:admins", "app:web:admins"),
+        ("g:isa/GrouperSystem", "system"),
+        ("g:isa/GrouperAll", "everyone"),
+        ("g:isa/GrouperOther", "?"),
+        ("g:isa/grouperall", "?"),
+        ("g:gsa/", "?"),
+        ("g:gsa/a::b", "?"),
+        ("G:gsa/a", "?"),
+        ("", "?"),
+    ];
+
+    #[test]
+    fn texts_name_entities(rt: HostRuntime) -> Result<(), Fail> {
+        for (text, wanted) in READ.iter() {
+            let found = shown(rt.alloc(), text)?;
+            assert_eq!(rt; found.as_str(), *wanted, "{text}");
+        }
+        Ok(())
+    }
+
+    #[test]
+    fn names_and_bytes_are_held(rt: HostRuntime) -> Result<(), Fail> {
+        let name = Name::parse(rt.alloc(), b"app:web")?.ok_or("a name")?;
+        assert_eq!(rt; name.bytes(), b"app:web".as_slice());
+        let bytes = Bytes::of(rt.alloc(), &[0, 255])?.copy(rt.alloc())?;
+        assert_eq!(rt; bytes.bytes(), [0, 255].as_slice());
+        Ok(())
+    }
+}

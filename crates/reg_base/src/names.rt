@@ -25,7 +25,8 @@ pub fn is_extension(text: &[u8]) -> bool
 fn are_extensions(text: &[u8]) -> bool
     ensures { result ≡ list_all is_extension (extensions_of text.now) }
 {
-    text.split(|byte| *byte == b':').all(|piece| is_extension(piece))
+    text.split(|byte| *byte == b':')
+        .all(|piece| is_extension(piece))
 }
 
 /// Whether the text is a name: extensions joined by `:`, at most 1,000 bytes in all. It takes no memory.
@@ -71,6 +72,63 @@ pub fn is_person(text: &[u8]) -> bool
             let (source, _) = text.split_at(place);
             let (_, id) = text.split_at(place + 1);
             is_part(32, source) && is_part(64, id)
+        }
+    }
+}
+
+#[cfg(test)]
+mod tests {
+    use super::{is_extension, is_name, is_person};
+    use std::test::Fail;
+
+    const NAMES: [&str; 5] = ["a", "app:web:admins", "etc:sysadmingroup", "-._:Z9", "etc"];
+
+    const NO_NAMES: [&str; 8] = ["", ":", "a:", ":a", "a::b", "a b", "a/b", "a@b"];
+
+    const PERSONS: [&str; 4] = ["uni/ann", "a@b/c@d", "u/1", "-/._"];
+
+    const NO_PERSONS: [&str; 8] = [
+        "",
+        "ann",
+        "/ann",
+        "uni/",
+        "uni/ann/b",
+        "g:gsa/a",
+        "uni/a b",
+        "u:i/ann",
+    ];
+
+    #[test]
+    fn names_are_extensions_joined_by_colons(rt: HostRuntime) {
+        for text in NAMES.iter() {
+            assert!(rt; is_name(text.as_bytes()), "{text}");
+        }
+        for text in NO_NAMES.iter() {
+            assert!(rt; !is_name(text.as_bytes()), "{text}");
+        }
+    }
+
+    #[test]
+    fn lengths_end_at_100_and_1000_bytes(rt: HostRuntime) -> Result<(), Fail> {
+        let mut long = [b'a'; 1001];
+        assert!(rt; is_extension(&long[..100]));
+        assert!(rt; !is_extension(&long[..101]));
+        for place in 1..20 {
+            long[place * 50] = b':';
+        }
+        let whole = long.get(..1000).ok_or("1,000 bytes")?;
+        assert!(rt; is_name(whole));
+        assert!(rt; !is_name(&long));
+        Ok(())
+    }
+
+    #[test]
+    fn persons_have_a_source_and_an_id(rt: HostRuntime) {
+        for text in PERSONS.iter() {
+            assert!(rt; is_person(text.as_bytes()), "{text}");
+        }
+        for text in NO_PERSONS.iter() {
+            assert!(rt; !is_person(text.as_bytes()), "{text}");
         }
     }
 }

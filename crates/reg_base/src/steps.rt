@@ -41,3 +41,28 @@ impl<L: Ledger> Steps<L> {
         self.book.add(&mut self.share, 1);
     }
 }
+
+#[cfg(test)]
+mod tests {
+    use super::Steps;
+    use std::marker::Brand;
+    use std::sync::ledger::{Blank, Ledger};
+
+    // the contract states the number, since code can't read it
+    fn counted<L: Ledger>(blank: Blank) -> Steps<L>
+        requires name { blank.name ≡ L.name }
+        requires parts { blank.parts ≡ L.parts }
+        requires some { 0 < blank.parts }
+        ensures { result ≡ 2 }
+    {
+        let mut steps = Steps::<L>::open(blank);
+        steps.tick();
+        steps.tick();
+        steps
+    }
+
+    #[test]
+    fn two_steps_are_counted() {
+        let _steps = counted::<Brand>(Blank::new(1));
+    }
+}
