@@ -49,9 +49,10 @@ alone text plain = let one = slice_split_none is_colon text plain in (ap last_of
 pub in_folder : (folder text : List ℕ) → All (λ b. is_colon b ≡ false) text → (extension_of (folder ++ 58 ∷ text) ≡ text) × (folder_of (folder ++ 58 ∷ text) ≡ Some folder)
 unfolding extension_of folder_of
 in_folder folder text plain =
-    let pieces = extensions_of-join folder text ∙ ap (λ more. extensions_of folder ++ more) (slice_split_none is_colon text plain) in
-    (ap last_of pieces ∙ last_of-push (extensions_of folder) text,
-    ap (λ found. joined (front_of found)) pieces ∙ ap joined (front_of-push (extensions_of folder) text) ∙ joined_some (extensions_of folder) (some_pieces folder) ∙ ap (λ name. Some name) (join_with_byte-slice_split 58 folder))
+    let pieces = extensions_of-join folder text ∙ ap (λ more. extensions_of folder ++ more) (slice_split_none is_colon text plain) in (
+      ap last_of pieces ∙ last_of-push (extensions_of folder) text,
+      ap (λ found. joined (front_of found)) pieces ∙ ap joined (front_of-push (extensions_of folder) text) ∙ joined_some (extensions_of folder) (some_pieces folder) ∙ ap (λ name. Some name) (join_with_byte-slice_split 58 folder),
+    )
 
 -- the two sides of a colon and the colon are the text
 whole_at : (text : List ℕ) (start : ℕ) → 0 < start → start ≤ length text → get_or text (start - 1) 0 ≡ 58 → take (start - 1) text ++ 58 ∷ drop start text ≡ text
