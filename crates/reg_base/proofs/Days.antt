@@ -1,7 +1,7 @@
 -- The day of a number is that day of the calendar.
-use Rattle.std.proofs.Common.{◌≡◌, ◌⊎◌, ℕ, zero, suc, ◌+◌, ◌-◌, ◌<◌, ◌≤◌, Bool, true, false, nat_lt, inl, inr, refl, sym, ◌∙◌, ap, arith, ℤ, pos, ◌+ℤ◌, ◌≤ℤ◌, ◌<ℤ◌, neg_ℤ, unsigned_abs, to_z, w8, w16}
+use Rattle.std.proofs.Common.{◌≡◌, ℕ, zero, suc, ◌+◌, ◌-◌, ◌<◌, ◌≤◌, true, inl, inr, refl, sym, ◌∙◌, ap, arith, ℤ, pos, ◌+ℤ◌, unsigned_abs, to_z, w8, w16}
 use Rattle.std.proofs.lemmas.Int.{to_z_pos}
-use Rattle.std.proofs.lemmas.Bool.{cases_lt, lt-ltb, le-ltb}
+use Rattle.std.proofs.lemmas.Bool.{cases_lt, lt-ltb, le-ltb, and_parts, leb-true}
 use Rattle.std.proofs.lemmas.Bool.Decides.{nat_tests}
 use Rattle.jiff_core.specs.declared.civil.date.Date.{Date}
 use Rattle.jiff_core.specs.Date.{epoch_day, IsYmd}
@@ -118,3 +118,26 @@ date_number date year month day n parts low y m d counted =
     number_is year month day n low
     (civil_same date.year (pos year) date.month month date.day day same_year same_month same_day (civil date))
     (rw (← same_year, ← same_month, ← same_day) counted)
+
+exists_bounds : (year month day : ℕ) → day_exists year month day ≡ true → (1970 ≤ year) × (year ≤ 9999) × (1 ≤ month) × (month ≤ 12) × (1 ≤ day) × (day ≤ days_in_month (pos year) month)
+exists_bounds year month day exists =
+    let p = and_parts _ _ exists in
+    let q = and_parts _ _ p.0 in
+    let r = and_parts _ _ q.0 in
+    let s = and_parts _ _ r.0 in
+    let t = and_parts _ _ s.0 in
+    (leb-true _ _ t.0, leb-true _ _ t.1, leb-true _ _ s.1, leb-true _ _ r.1, leb-true _ _ q.1, leb-true _ _ p.1)
+
+-- a day that exists is the day of its number, which is at most that of 9999-12-31
+pub number_back : (year month day : ℕ) → day_exists year month day ≡ true → (day_number year month day ≤ 2_932_896) × ((day_of (day_number year month day)).year ≡ year) × ((day_of (day_number year month day)).month ≡ month) × ((day_of (day_number year month day)).day ≡ day)
+number_back year month day exists =
+    let bounds : (1970 ≤ year) × (year ≤ 9999) × (1 ≤ month) × (month ≤ 12) × (1 ≤ day) × (day ≤ days_in_month (pos year) month) = exists_bounds year month day exists in
+    let low : IsCivilDate (pos year) month day = ((omega (arith, signed_arith), omega (arith, signed_arith)), (bounds.2, bounds.3), (bounds.4, bounds.5)) in
+    let first = from_1970 year month day bounds.0 bounds.4 in
+    let last = day_count_bounds (pos year) month day low in
+    let number : days_from_civil (pos year) month day ≡ pos (day_count (pos year) month day - 4_371_953) = omega (arith, signed_arith, days_from_civil-day_count (pos year) month day) in
+    let is : day_number year month day ≡ day_count (pos year) month day - 4_371_953 = ap unsigned_abs number in
+    let date : Date = record { year = pos year; month = month; day = day; year_in = low.0; month_in = low.1; day_in = low.2 } in
+    let small : day_number year month day ≤ 2_932_896 = omega arith in
+    let same = date_is date (day_number year month day) small (number ∙ ap pos (sym is)) in
+    (small, omega (arith, signed_arith, same.0), sym same.1, sym same.2)

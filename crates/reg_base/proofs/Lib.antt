@@ -2,3 +2,4 @@ pub mod Days
 pub mod Texts
 pub mod Persons
 pub mod Extensions
+pub mod Printed

@@ -1,11 +1,11 @@
 -- The text that is printed for a moment reads back as that moment.
-use Rattle.std.proofs.Common.{◌≡◌, ℕ, ◌+◌, ◌-◌, ◌*◌, ◌/◌, ◌%◌, ◌<◌, ◌≤◌, Bool, true, false, nat_le, List, Option, Some, None, length, refl, sym, ◌∙◌, ap, arith, pos}
+use Rattle.std.proofs.Common.{◌≡◌, ℕ, ◌+◌, ◌*◌, ◌/◌, ◌%◌, ◌<◌, ◌≤◌, true, nat_le, List, Some, refl, ◌∙◌, ap, arith, pos}
 use Rattle.std.proofs.lemmas.Bool.Decides.{nat_tests}
 use Rattle.reg_base.specs.declared.calendar.Day.{Day}
 use Rattle.reg_base.specs.Calendar.{day_exists, day_number, day_micros, day_of}
-use Rattle.reg_base.specs.MomentText.{full_shape, fits, digit, is_digit, two_at, year_at, is_day, is_time, day_at, time_at, moment_in_full, moment_of, stamp, text_of}
+use Rattle.reg_base.specs.MomentText.{full_shape, fits, digit, two_at, year_at, is_day, is_time, day_at, time_at, moment_in_full, moment_of, stamp, text_of}
 use Rattle.jiff_core.proofs.CalendarLemmas.{days_in_month_bounds}
-use Rattle.reg_base.proofs.Days.{IsDay, day_of_is, day_of_exists, day_of_number}
+use Rattle.reg_base.proofs.Days.{day_of_is, day_of_exists, day_of_number}
 
 -- a printed digit is a digit
 is_digit_low : (n : ℕ) → nat_le 48 (48 + n) ≡ true

@@ -1,5 +1,5 @@
 -- Names of objects, extension by extension, and the texts of persons.
-use Rattle.std.specs.Prelude.{ℕ, List, ◌+◌, ◌==◌, Bool, true, false, ◌&&◌, ◌||◌, nat_le, nat_lt, if◌then◌else◌, Option, Some, None, length, take, drop, position}
+use Rattle.std.specs.Prelude.{ℕ, List, ◌+◌, ◌==◌, Bool, false, ◌&&◌, ◌||◌, nat_le, nat_lt, if◌then◌else◌, Option, Some, None, length, take, drop, position}
 use Rattle.std.specs.List.{list_all, slice_split}
 
 -- an ASCII letter or digit, `_`, `-` or `.`

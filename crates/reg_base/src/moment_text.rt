@@ -191,11 +191,12 @@ fn stamp(day: Day, micros: u64) -> [u8; 27]
 impl Moment {
     /// The moment that a text names: `YYYY-MM-DDThh:mm:ssZ`, with optionally a point and 1 to 6 digits after the
     /// seconds. None exactly where the text has another shape, the day doesn't exist from 1970 to 9999, or the hour is
-    /// past 23 or the minute or second past 59. It takes no memory. RFC 3339, narrowed: no offset but `Z`, no leap
-    /// second, no small letters.
+    /// past 23 or the minute or second past 59. What it takes is printed again with all six digits and else
+    /// unchanged. It takes no memory. RFC 3339, narrowed: no offset but `Z`, no leap second, no small letters.
     #[tactic(auto, unfolding(crate::specs::MomentText::moment_of))]
     pub fn parse(text: &[u8]) -> Option<Moment>
-        ensures { result ≡ moment_of text.now }
+        ensures value { result ≡ moment_of text.now }
+        ensures printed { IfSome result (λ moment. text_of moment ≡ full_text text.now) }
     {
         if !has_length(text.len()) {
             return None;

@@ -1,5 +1,4 @@
-use Rattle.std.proofs.Common.{◌≡◌, ◌∙◌, pos, arith, sym, ap, Some}
-use Rattle.jiff_core.specs.Date.{epoch_day}
+use Rattle.std.proofs.Common.{arith, sym, ap, Some}
 use Rattle.reg_base.proofs.Days.{date_number}
 use Rattle.reg_base.proofs.calendar.day_number.Goals as goal
 

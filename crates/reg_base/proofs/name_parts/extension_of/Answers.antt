@@ -1,4 +1,4 @@
-use Rattle.std.proofs.Common.{◌≡◌, ◌∙◌, sym, ap}
+use Rattle.std.proofs.Common.{◌∙◌, sym, ap}
 use Rattle.reg_base.specs.Names.{is_extension}
 use Rattle.reg_base.proofs.Extensions.{extension_at, name_extension}
 use Rattle.reg_base.proofs.name_parts.extension_of.Goals as goal

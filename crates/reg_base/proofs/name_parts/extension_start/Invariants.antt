@@ -1,4 +1,4 @@
-use Rattle.std.proofs.Common.{◌≡◌, ℕ, ◌≤◌, ◌<◌, length, drop, false}
+use Rattle.std.proofs.Common.{◌≡◌, ◌≤◌, length, drop, false}
 use Rattle.std.specs.List.{All}
 use Rattle.reg_base.specs.Names.{is_colon}
 use Rattle.reg_base.proofs.name_parts.extension_start.Given as goal

@@ -1,4 +1,4 @@
-use Rattle.std.proofs.Common.{◌≡◌, ◌∙◌, ◌<◌, sym, ap, Some, arith}
+use Rattle.std.proofs.Common.{◌∙◌, ◌<◌, sym, ap, Some, arith}
 use Rattle.reg_base.specs.Names.{is_name}
 use Rattle.reg_base.proofs.Extensions.{alone, cut_at, name_cut}
 use Rattle.reg_base.proofs.name_parts.folder_of.Goals as goal

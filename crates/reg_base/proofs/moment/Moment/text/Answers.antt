@@ -1,5 +1,5 @@
-use Rattle.std.proofs.Common.{◌≡◌, arith, ◌∙◌, ap}
-use Rattle.reg_base.specs.MomentText.{moment_of, text_of}
+use Rattle.std.proofs.Common.{arith}
+use Rattle.reg_base.specs.MomentText.{text_of}
 use Rattle.reg_base.proofs.Texts.{text_of_reads}
 use Rattle.reg_base.proofs.moment.Moment.text.Goals as goal
 
