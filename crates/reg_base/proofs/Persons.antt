@@ -1,14 +1,15 @@
--- The text of a person is ASCII, so UTF-8.
-use Rattle.std.proofs.Common.{◌≡◌, ℕ, ◌+◌, ◌-◌, ◌<◌, true, nat_eq, List, [], ◌∷◌, Option, Some, None, take, drop, get_or, inl, inr, refl, arith}
-use Rattle.std.specs.List.{list_all, position}
+-- The texts of persons and names are ASCII, so UTF-8.
+use Rattle.std.proofs.Common.{length, cond, ◌≡◌, ℕ, ◌+◌, ◌-◌, ◌<◌, Bool, true, false, nat_eq, List, [], ◌∷◌, Option, Some, None, take, drop, get_or, inl, inr, refl, sym, arith}
+use Rattle.std.specs.List.{onto_first, list_all, position}
 use Rattle.std.specs.Str.{IsAscii, IsUtf8}
-use Rattle.std.proofs.lemmas.Bool.{cases_lt, and_parts, false≢true}
+use Rattle.std.proofs.lemmas.Bool.{and_from, cases_lt, and_parts, false≢true}
 use Rattle.std.proofs.lemmas.Bool.Decides.{nat_tests}
 use Rattle.std.proofs.lemmas.List.{get_or-take, get_or-drop}
+use Rattle.std.proofs.lemmas.List.Splits.{length-slice_split}
 use Rattle.std.proofs.lemmas.List.Quantifiers.{position-Some}
 use Rattle.std.proofs.lemmas.Str.{IsUtf8-from_ascii}
 use Rattle.std.proofs.lemmas.Str.Ascii.{IsAscii-nil, IsAscii-cons}
-use Rattle.reg_base.specs.Names.{is_person_byte, is_part, is_person_at, is_person}
+use Rattle.reg_base.specs.Names.{is_extension_byte, is_extension, extensions_of, is_colon, is_name, is_person_byte, is_part, is_person_at, is_person}
 
 byte_ascii : (b : ℕ) → is_person_byte b ≡ true → b < 128
 byte_ascii b h = grind (arith, nat_tests)
@@ -42,3 +43,34 @@ at_ascii text (Some place) at h =
 -- so a person's text is UTF-8
 pub person_utf8 : (text : List ℕ) → is_person text ≡ true → IsUtf8 text
 person_utf8 text h = IsUtf8-from_ascii text (at_ascii text _ refl h)
+
+extension_ascii : (b : ℕ) → is_extension_byte b ≡ true → b < 128
+extension_ascii b h = grind (arith, nat_tests)
+
+-- every piece holds bytes of extensions alone
+pieces_of_bytes : (pieces : List (List ℕ)) → list_all is_extension pieces ≡ true → list_all (list_all is_extension_byte) pieces ≡ true
+pieces_of_bytes [] h = refl
+pieces_of_bytes (piece ∷ more) h =
+    let both = and_parts _ _ h in
+    and_from _ _ (and_parts _ _ both.0).1 (pieces_of_bytes more both.1)
+
+first_ascii : (x : ℕ) (pieces : List (List ℕ)) → 0 < length pieces → list_all (list_all is_extension_byte) (onto_first x pieces) ≡ true → (x < 128) × (list_all (list_all is_extension_byte) pieces ≡ true)
+first_ascii x [] some h = absurd (omega arith)
+first_ascii x (piece ∷ more) some h =
+    let both = and_parts _ _ h in
+    let first = and_parts _ _ both.0 in
+    (extension_ascii x first.0, and_from _ _ first.1 both.1)
+
+byte_of_pieces : (test : Bool) (x : ℕ) (pieces : List (List ℕ)) → is_colon x ≡ test → 0 < length pieces → list_all (list_all is_extension_byte) (cond test ([] ∷ pieces) (onto_first x pieces)) ≡ true → (x < 128) × (list_all (list_all is_extension_byte) pieces ≡ true)
+byte_of_pieces true x pieces colon some h = (grind (arith, nat_tests), h)
+byte_of_pieces false x pieces colon some h = first_ascii x pieces some h
+
+pieces_ascii : (text : List ℕ) → list_all (list_all is_extension_byte) (extensions_of text) ≡ true → IsAscii text
+pieces_ascii [] h = IsAscii-nil
+pieces_ascii (b ∷ text) h =
+    let parts = byte_of_pieces (is_colon b) b (extensions_of text) refl (omega (arith, length-slice_split is_colon text)) h in
+    IsAscii-cons b text parts.0 (pieces_ascii text parts.1)
+
+-- so a name is UTF-8
+pub name_utf8 : (text : List ℕ) → is_name text ≡ true → IsUtf8 text
+name_utf8 text h = IsUtf8-from_ascii text (pieces_ascii text (pieces_of_bytes (extensions_of text) (and_parts _ _ h).1))

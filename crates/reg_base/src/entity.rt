@@ -40,6 +40,7 @@ fn person_entity(alloc: Global, text: &[u8]) -> Result<Option<Entity>, AllocErro
     }
     match Text::of(alloc, text)? {
         Some(text) => Ok(Some(Entity::Person(text))),
+        // no person comes here, since its bytes are ASCII
         None => Ok(None),
     }
 }
@@ -91,12 +92,8 @@ mod tests {
             Some(entity) => match entity.copy(alloc)? {
                 Entity::Person(person) => person.copy(alloc),
                 Entity::Group(name) => {
-                    let bytes = name.copy(alloc)?;
-                    let text = Text::of(alloc, bytes.bytes())?;
-                    match text {
-                        Some(text) => Ok(text),
-                        None => Text::new(alloc, "no text"),
-                    }
+                    let name = name.copy(alloc)?;
+                    Text::new(alloc, name.as_str())
                 }
                 Entity::System => Text::new(alloc, "system"),
                 Entity::Everyone => Text::new(alloc, "everyone"),

@@ -9,18 +9,18 @@ use std::marker::Model;
 /// The name of an object from below the root: extensions joined by `:`, at most 1,000 bytes. Contracts see its bytes.
 #[derive(Debug, Drop)]
 pub struct Name {
-    items: Vec<u8>,
+    string: String,
 }
 
 impl Model for Name {
-    ghost use Rattle.std.specs.Prelude.{List, ℕ, IsTrue};
+    ghost use Rattle.std.specs.Prelude.{List, ℕ, IsTrue, string_bytes};
     ghost use Rattle.reg_base.specs.Names.{is_name};
 
     ghost Value = { List ℕ };
 
-    ghost view = { λ n. n.items.items };
+    ghost view = { λ n. string_bytes n.string };
 
-    ghost invariant = { λ n. IsTrue (is_name n.items.items) };
+    ghost invariant = { λ n. IsTrue (is_name (string_bytes n.string)) };
 }
 
 impl Name {
@@ -31,8 +31,14 @@ impl Name {
         if !is_name(text) {
             return Ok(None);
         }
-        let items = text.to_vec(alloc)?;
-        Ok(Some(Name { items }))
+        match str::from_utf8(text) {
+            Ok(text) => {
+                let string = String::from_str(alloc, text)?;
+                Ok(Some(Name { string }))
+            }
+            // no name comes here, since its bytes are ASCII
+            Err(_) => Ok(None),
+        }
     }
 
     /// The bytes of the name. It takes no memory.
@@ -40,14 +46,21 @@ impl Name {
         ensures value { result.now ≡ self.now }
         ensures is_name { IsTrue (is_name result.now) }
     {
-        self.items.as_slice()
+        self.string.as_bytes()
+    }
+
+    /// The same as a string slice. It takes no memory.
+    pub fn as_str(&self) -> &str
+        ensures { result.now ≡ self.now }
+    {
+        self.string.as_str()
     }
 
     /// An equal name. The only error is out of memory.
     pub fn copy(&self, alloc: Global) -> Result<Name, AllocError>
         ensures { IfOk result (λ name. name ≡ self.now) }
     {
-        let items = self.items.as_slice().to_vec(alloc)?;
-        Ok(Name { items })
+        let string = String::from_str(alloc, self.string.as_str())?;
+        Ok(Name { string })
     }
 }
