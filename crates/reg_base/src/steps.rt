@@ -1,0 +1,72 @@
+// A counter of steps. The count is for contracts alone and takes no memory.
+ghost use Rattle.std.specs.Prelude.{◌≡◌, ◌+◌, ◌<◌};
+
+use std::marker::Model;
+use std::sync::ledger::{Blank, Book, Ledger, Share};
+
+/// How many steps were taken, in a ledger `L` of the caller's. Only `tick` changes the count, which contracts see and
+/// code can't read.
+#[derive(Drop)]
+pub struct Steps<L: Ledger> {
+    book: Book<L>,
+    share: Share<L>,
+}
+
+impl<L: Ledger> Model for Steps<L> {
+    ghost use Rattle.std.specs.Prelude.{ℕ, ◌<◌};
+
+    ghost Value = { ℕ };
+
+    ghost view = { λ s. s.book.total };
+
+    ghost invariant = { λ s. 0 < s.share.parts };
+}
+
+impl<L: Ledger> Steps<L> {
+    /// A counter at 0, over a blank ledger of at least one part. A caller that counts nothing gives `Blank::new(1)`.
+    pub fn open(blank: Blank) -> Steps<L>
+        requires name { blank.name ≡ L.name }
+        requires parts { blank.parts ≡ L.parts }
+        requires some { 0 < blank.parts }
+        ensures { result ≡ 0 }
+    {
+        let (book, share) = blank.open();
+        Steps { book, share }
+    }
+
+    /// One step more.
+    pub fn tick(&mut self)
+        ensures { self.new ≡ self.old + 1 }
+    {
+        self.book.add(&mut self.share, 1);
+    }
+}
+
+#[cfg(test)]
+mod tests {
+    use super::Steps;
+    use std::marker::Brand;
+    use std::sync::ledger::{Blank, Ledger};
+
+    // the contract states the number, since code can't read it
+    fn tick_twice<L: Ledger>(steps: &mut Steps<L>)
+        ensures { steps.new ≡ steps.old + 2 }
+    {
+        steps.tick();
+        steps.tick();
+    }
+
+    fn counted<L: Ledger>(blank: Blank)
+        requires name { blank.name ≡ L.name }
+        requires parts { blank.parts ≡ L.parts }
+        requires some { 0 < blank.parts }
+    {
+        let mut steps = Steps::<L>::open(blank);
+        tick_twice(&mut steps);
+    }
+
+    #[test]
+    fn two_steps_are_counted() {
+        counted::<Brand>(Blank::new(1));
+    }
+}
