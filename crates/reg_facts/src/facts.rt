@@ -3,8 +3,8 @@ ghost use Rattle.std.specs.Prelude.{◌≡◌, ◌<◌, IfOk, IsSome};
 ghost use Rattle.reg_facts.specs.Facts.{Lists, start, subject_id, group_id, has_row, member_ids, is_among, texts_where, member_texts, max_subjects, max_groups, max_rows, edit, CanEdit};
 ghost use Rattle.reg_facts.specs.declared.command.Command.TheVariants.{SubjectAdd, GroupAdd, MemberAdd};
 
-use crate::{Command, Entity, GroupRow, MemberRow, SubjectRow, Texts};
-use reg_base::{GroupId, Moment, SubjectId, Text};
+use crate::{Command, GroupRow, MemberRow, SubjectRow, Texts};
+use reg_base::{Entity, GroupId, Moment, SubjectId, Text};
 use std::alloc::{AllocError, Global};
 use std::marker::Model;
 

@@ -7,7 +7,7 @@ mod refusal;
 mod rows;
 mod texts;
 
-pub use command::{Command, Entity, Stamped};
+pub use command::{Command, Stamped};
 pub use facts::Facts;
 pub use refusal::Refusal;
 pub use rows::{GroupRow, MemberRow, SubjectRow};

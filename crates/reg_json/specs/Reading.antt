@@ -5,11 +5,12 @@ use Rattle.std.specs.Str.{bytes_eq, is_utf8}
 use Rattle.serde_json.specs.Data.{Data, Members, no_members, member}
 use Rattle.serde_json.specs.Read.{read}
 use Rattle.serde_json.specs.Find.{get, as_str, as_object}
+use Rattle.reg_base.specs.Names.{is_extension, is_person}
 use Rattle.reg_view.specs.declared.request.Request.{Request}
 use Rattle.reg_view.specs.declared.request.Op.{Op}
 use Rattle.reg_view.specs.declared.request.Op.TheVariants as op
 use Rattle.reg_view.specs.declared.query.Query.TheVariants as query
-use Rattle.reg_facts.specs.declared.command.Entity.TheVariants.{System}
+use Rattle.reg_base.specs.declared.entity.Entity.TheVariants.{System}
 use Rattle.reg_facts.specs.declared.command.Command.TheVariants.{SubjectAdd, GroupAdd, MemberAdd}
 use Rattle.reg_json.specs.declared.op_kind.OpKind.{OpKind}
 use Rattle.reg_json.specs.declared.op_kind.OpKind.TheVariants as kind
@@ -20,31 +21,6 @@ use Rattle.reg_json.specs.Steps.{◌>>=◌, ensured}
 -- how many bytes a line may have
 abbrev pub max_line : ℕ
 max_line = 8388608
-
--- a byte of a person's source or id: an ASCII letter, a digit, or one of _ - . @
-abbrev pub is_person_byte : ℕ → Bool
-is_person_byte b = (nat_le 48 b && nat_le b 57) || (nat_le 64 b && nat_le b 90) || (nat_le 97 b && nat_le b 122) || (b == 45) || (b == 46) || (b == 95)
-
--- a source or an id: 1 to this many of a person's bytes
-abbrev pub is_part : ℕ → List ℕ → Bool
-is_part limit s = nat_lt 0 (length s) && nat_le (length s) limit && list_all is_person_byte s
-
--- a text, and where its first slash stands
-abbrev pub is_person_split : List ℕ → Option ℕ → Bool
-is_person_split text None = false
-is_person_split text (Some i) = is_part 32 (take i text) && is_part 64 (drop (i + 1) text)
-
--- a source, a slash and an id
-abbrev pub is_person : List ℕ → Bool
-is_person text = is_person_split text (position (λ b. b == 47) text)
-
--- a byte of an extension: an ASCII letter, a digit, or one of _ - .
-abbrev pub is_extension_byte : ℕ → Bool
-is_extension_byte b = (nat_le 48 b && nat_le b 57) || (nat_le 65 b && nat_le b 90) || (nat_le 97 b && nat_le b 122) || (b == 45) || (b == 46) || (b == 95)
-
--- an extension: 1 to 100 of these bytes
-abbrev pub is_extension : List ℕ → Bool
-is_extension s = nat_lt 0 (length s) && nat_le (length s) 100 && list_all is_extension_byte s
 
 -- an object's keys
 abbrev pub key_list : Members → List (List ℕ)

@@ -5,11 +5,11 @@ ghost use Rattle.reg_json.specs.Steps.{Gives};
 ghost use Rattle.reg_json.specs.Reading.{data_of, subject_add, group_add, member_add, members, known_kind, kind_of, op_of, reading_of};
 
 use crate::fault::{ReadFault, bad};
-use crate::fields::{ensured, is_extension, is_person, no_other, text_at, text_or_empty};
+use crate::fields::{ensured, no_other, text_at, text_or_empty};
 use crate::op_kind::OpKind;
 use crate::words::kind_of;
-use reg_base::Text;
-use reg_facts::{Command, Entity, Refusal};
+use reg_base::{Entity, Text, is_extension, is_person};
+use reg_facts::{Command, Refusal};
 use reg_view::{Op, Query, Request};
 use serde_json::Value;
 use std::alloc::{AllocError, Global};

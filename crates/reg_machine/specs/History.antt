@@ -3,7 +3,7 @@ use Rattle.std.specs.Prelude.{ℕ, List, [], ◌∷◌, ◌++◌, Bool, true, fa
 use Rattle.reg_facts.specs.Facts as the_facts
 use Rattle.reg_facts.specs.Facts.{Lists, edit, subject_id, group_id, has_row, row_of, max_subjects, max_groups, max_rows}
 use Rattle.reg_facts.specs.declared.command.Stamped.{Stamped}
-use Rattle.reg_facts.specs.declared.command.Entity.{Entity}
+use Rattle.reg_base.specs.declared.entity.Entity.{Entity}
 use Rattle.reg_facts.specs.declared.command.Command.{Command}
 use Rattle.reg_facts.specs.declared.command.Command.TheVariants.{SubjectAdd, GroupAdd, MemberAdd}
 use Rattle.reg_facts.specs.declared.refusal.Refusal.{Refusal}

@@ -2,8 +2,8 @@
 ghost use Rattle.std.specs.Prelude.{◌≡◌, ◌≤◌, ◌++◌, ◌∷◌, [], IfOk, None};
 ghost use Rattle.reg_machine.specs.History.{State, start, refusal, first_of, subject_checks, group_checks, member_checks, appended};
 
-use reg_base::{Moment, Text};
-use reg_facts::{Command, Entity, Facts, Refusal, Stamped};
+use reg_base::{Entity, Moment, Text};
+use reg_facts::{Command, Facts, Refusal, Stamped};
 use std::alloc::{AllocError, AllocFailed, Global};
 use std::marker::Model;
 

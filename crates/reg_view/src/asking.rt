@@ -4,8 +4,8 @@ ghost use Rattle.reg_machine.specs.History.{facts};
 ghost use Rattle.reg_view.specs.Answers.{answer_of, members_of};
 
 use crate::{Answer, Query};
-use reg_base::Text;
-use reg_facts::{Entity, Facts, Refusal};
+use reg_base::{Entity, Text};
+use reg_facts::{Facts, Refusal};
 use reg_machine::Machine;
 use std::alloc::{AllocError, Global};
 

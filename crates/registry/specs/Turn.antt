@@ -1,6 +1,6 @@
 -- One request: the reply, and the registry after it.
 use Rattle.std.specs.Prelude.{◌≡◌, ◌⊎◌, ℕ, List, [], ◌∷◌, ◌++◌, Option, Some, None, Result, Ok, Err, length, max, Bool, true, false}
-use Rattle.reg_facts.specs.declared.command.Entity.{Entity}
+use Rattle.reg_base.specs.declared.entity.Entity.{Entity}
 use Rattle.reg_facts.specs.declared.command.Command.{Command}
 use Rattle.reg_facts.specs.declared.command.Stamped.{Stamped}
 use Rattle.reg_facts.specs.declared.refusal.Refusal.{Refusal}

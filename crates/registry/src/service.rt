@@ -2,8 +2,8 @@
 ghost use Rattle.std.specs.Prelude.{◌≡◌, IfOk};
 ghost use Rattle.registry.specs.Turn.{start, turn, requested, at_moment, Carries, Follows, GoesOn};
 
-use reg_base::Moment;
-use reg_facts::{Command, Entity, Refusal};
+use reg_base::{Entity, Moment};
+use reg_facts::{Command, Refusal};
 use reg_machine::Machine;
 use reg_view::{Op, Query, Reply, Request, ask};
 use std::alloc::{AllocError, Global};
