@@ -3,6 +3,8 @@ ghost use Rattle.std.specs.Prelude.{◌≡◌, ◌<◌, IfOk, IsSome};
 ghost use Rattle.reg_facts.specs.Facts.{Lists, start, subject_id, group_id, has_row, member_ids, is_among, texts_where, member_texts, max_subjects, max_groups, max_rows, edit, CanEdit};
 ghost use Rattle.reg_facts.specs.declared.command.Command.TheVariants.{SubjectAdd, GroupAdd, MemberAdd};
 
+use crate::pair_set::PairSet;
+use crate::text_index::TextIndex;
 use crate::{Command, GroupRow, MemberRow, SubjectRow, Texts};
 use reg_base::{Entity, GroupId, Moment, SubjectId, Text};
 use std::alloc::{AllocError, Global};
@@ -17,10 +19,15 @@ pub struct Facts {
     group_rows: Vec<GroupRow>,
     group_count: u32,
     member_rows: Vec<MemberRow>,
+    // The same rows by what they are looked up by.
+    subject_index: TextIndex,
+    group_index: TextIndex,
+    member_pairs: PairSet,
 }
 
 impl Model for Facts {
     ghost use Rattle.reg_facts.specs.Facts.{Lists};
+    ghost use Rattle.reg_facts.specs.Index.{AreIndexed};
 
     ghost Value = { Lists };
 
@@ -31,6 +38,8 @@ impl Model for Facts {
       groups_made = f.group_count;
       rows = f.member_rows.items;
     } };
+
+    ghost invariant = { λ f. AreIndexed f.subject_index f.group_index f.member_pairs f.subject_rows.items f.group_rows.items f.member_rows.items };
 }
 
 fn is_among(ids: &[SubjectId], id: SubjectId) -> bool
@@ -50,6 +59,9 @@ impl Facts {
             group_rows: Vec::new(alloc),
             group_count: 0,
             member_rows: Vec::new(alloc),
+            subject_index: TextIndex::new(alloc),
+            group_index: TextIndex::new(alloc),
+            member_pairs: PairSet::new(alloc),
         })
     }
 
@@ -76,11 +88,17 @@ impl Facts {
         ensures { IfOk result (λ f. f ≡ edit (SubjectAdd text.now display.now) self) }
     {
         let mut facts = self;
-        let id = SubjectId::new(facts.subject_count + 1);
-        let text = text.copy(alloc)?;
+        let number = facts.subject_count + 1;
+        let id = SubjectId::new(number);
+        let copied = text.copy(alloc)?;
         let display = display.copy(alloc)?;
-        facts.subject_rows.push(SubjectRow { id, text, display })?;
-        facts.subject_count += 1;
+        facts.subject_index.insert(alloc, text.as_str(), number)?;
+        facts.subject_rows.push(SubjectRow {
+            id,
+            text: copied,
+            display,
+        })?;
+        facts.subject_count = number;
         Ok(facts)
     }
 
@@ -89,15 +107,17 @@ impl Facts {
         ensures { IfOk result (λ f. f ≡ edit (GroupAdd name.now display.now) self) }
     {
         let mut facts = self;
-        let id = GroupId::new(facts.group_count + 1);
+        let number = facts.group_count + 1;
+        let id = GroupId::new(number);
         let extension = name.copy(alloc)?;
         let display = display.copy(alloc)?;
+        facts.group_index.insert(alloc, name.as_str(), number)?;
         facts.group_rows.push(GroupRow {
             id,
             extension,
             display,
         })?;
-        facts.group_count += 1;
+        facts.group_count = number;
         Ok(facts)
     }
 
@@ -105,44 +125,35 @@ impl Facts {
         requires { CanEdit (MemberAdd group.now member.now) self }
         ensures { IfOk result (λ f. f ≡ edit (MemberAdd group.now member.now) self) }
     {
-        let group = self.group_id(group.bytes()).unwrap();
-        let member = self.subject_id(member.bytes()).unwrap();
+        let group = self.group_id(group).unwrap();
+        let member = self.subject_id(member).unwrap();
         let mut facts = self;
+        facts.member_pairs.insert(group.number(), member.number())?;
         facts.member_rows.push(MemberRow { group, member })?;
         Ok(facts)
     }
 
     /// The id of the person of this text. None exactly where there is no such person.
-    pub fn subject_id(&self, text: &[u8]) -> Option<SubjectId>
+    pub fn subject_id(&self, text: &Text) -> Option<SubjectId>
         ensures { result ≡ subject_id text.now self.now.subjects }
     {
-        for row in &self.subject_rows {
-            if row.text.bytes() == text {
-                return Some(row.id);
-            }
-        }
-        None
+        self.subject_index.number(text.as_str()).map(SubjectId::new)
     }
 
     /// The id of the group of this extension. None exactly where there is no such group.
-    pub fn group_id(&self, extension: &[u8]) -> Option<GroupId>
+    pub fn group_id(&self, extension: &Text) -> Option<GroupId>
         ensures { result ≡ group_id extension.now self.now.groups }
     {
-        for row in &self.group_rows {
-            if row.extension.bytes() == extension {
-                return Some(row.id);
-            }
-        }
-        None
+        self.group_index
+            .number(extension.as_str())
+            .map(GroupId::new)
     }
 
     /// Whether this person is an immediate member of this group.
     pub fn has_row(&self, group: GroupId, member: SubjectId) -> bool
         ensures { result ≡ has_row group member self.now.rows }
     {
-        self.member_rows
-            .iter()
-            .any(|row| row.group == group && row.member == member)
+        self.member_pairs.contains(group.number(), member.number())
     }
 
     fn member_ids(&self, alloc: Global, group: GroupId) -> Result<Vec<SubjectId>, AllocError>

@@ -3,8 +3,10 @@
 
 mod command;
 mod facts;
+mod pair_set;
 mod refusal;
 mod rows;
+mod text_index;
 mod texts;
 
 pub use command::{Command, Stamped};

@@ -123,7 +123,7 @@ impl Machine {
     fn decide_subject(&self, alloc: Global, subject: &Text) -> Result<Option<Refusal>, AllocError>
         ensures { IfOk result (λ found. found ≡ first_of (subject_checks self.now.history (facts self.now.history) subject.now)) }
     {
-        if self.known.subject_id(subject.bytes()).is_some() {
+        if self.known.subject_id(subject).is_some() {
             return Ok(Some(Refusal::Already));
         }
         if self.known.subjects_made() >= MAX_SUBJECTS {
@@ -138,7 +138,7 @@ impl Machine {
     fn decide_group(&self, alloc: Global, group: &Text) -> Result<Option<Refusal>, AllocError>
         ensures { IfOk result (λ found. found ≡ first_of (group_checks self.now.history (facts self.now.history) group.now)) }
     {
-        if self.known.group_id(group.bytes()).is_some() {
+        if self.known.group_id(group).is_some() {
             return Ok(Some(Refusal::Already));
         }
         if self.known.groups_made() >= MAX_GROUPS {
@@ -158,11 +158,11 @@ impl Machine {
     ) -> Result<Option<Refusal>, AllocError>
         ensures { IfOk result (λ found. found ≡ first_of (member_checks self.now.history (facts self.now.history) group.now member.now)) }
     {
-        let Some(group_id) = self.known.group_id(group.bytes()) else {
+        let Some(group_id) = self.known.group_id(group) else {
             let object = group.copy(alloc)?;
             return Ok(Some(Refusal::NotFound { object }));
         };
-        let Some(member_id) = self.known.subject_id(member.bytes()) else {
+        let Some(member_id) = self.known.subject_id(member) else {
             let object = member.copy(alloc)?;
             return Ok(Some(Refusal::NotFound { object }));
         };

@@ -16,7 +16,7 @@ fn members_of(
 ) -> Result<Result<Answer, Refusal>, AllocError>
     ensures { IfOk result (λ r. r ≡ members_of group.now facts.now) }
 {
-    match facts.group_id(group.bytes()) {
+    match facts.group_id(group) {
         Some(id) => {
             let members = facts.member_texts(alloc, id)?;
             Ok(Ok(Answer::Members { members }))
