@@ -4,27 +4,25 @@
 set -u
 cd "$(dirname "$0")" || exit 1
 top=$(pwd)
-# RT names another command that takes rt's words.
-rt=${RT:-rt}
 
 stop() {
     echo "quickstart: $1" >&2
     exit 1
 }
 
-command -v "$rt" > /dev/null || stop "the kit's command rt is not on the PATH"
+command -v rt > /dev/null || stop "the kit's command rt is not on the PATH"
 
 echo "== Step 1 of 3: prove the seven crates, lowest first."
 echo "   From nothing this takes about 5 minutes on four free processors; with nothing changed, half a minute."
 before=$(date +%s)
-"$rt" all check || stop "a crate was not proved; the lines above say where"
+rt all check || stop "a crate was not proved; the lines above say where"
 echo "   proved in $(($(date +%s) - before)) seconds"
 
 echo "== Step 2 of 3: build the program and run it on these lines:"
 sed 's/^/   /' crates/registry/stdin
 echo "   (the program's words: journal apply; the word for the journal file is taken and not used yet)"
 before=$(date +%s)
-replies=$(cd crates/registry && "$rt" run -- journal apply < stdin)
+replies=$(cd crates/registry && rt run -- journal apply < stdin)
 status=$?
 echo "   built and run in $(($(date +%s) - before)) seconds, exit status $status"
 [ "$status" -eq 0 ] || stop "the program ended with status $status"
