@@ -14,7 +14,7 @@ command -v rt > /dev/null || stop "the kit's command rt is not on the PATH"
 
 echo "== Step 1 of 3: prove the seven crates, lowest first."
 echo "   From nothing this takes 11 processor minutes, and took 12 minutes on four busy processors;"
-echo "   with nothing changed since it takes a minute or less. The check says how far it is."
+echo "   with nothing changed since it takes half a minute. The check says how far it is."
 before=$(date +%s)
 rt all check || stop "a crate was not proved; the lines above say where"
 echo "   proved in $(($(date +%s) - before)) seconds"
