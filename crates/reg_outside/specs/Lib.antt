@@ -1,0 +1,5 @@
+pub mod Faults
+pub mod Disk
+pub mod DiskSteps
+pub mod MemoryDisk
+pub mod FileDisk
