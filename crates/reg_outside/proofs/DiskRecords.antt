@@ -47,6 +47,7 @@ grew R first steps step into = record {
   where
     at_most : (k : ℕ) → k ≤ length (steps ++ step ∷ []) → (k ≤ length steps) ⊎ (length (steps ++ step ∷ []) ≤ k)
     at_most k le = grind (arith, length-append steps (step ∷ []))
+
     old_or_new : (t : ℕ) (c : List ℕ) (left : LeftSince first (steps ++ step ∷ []) t c) → (left.0 ≤ length steps) ⊎ (length (steps ++ step ∷ []) ≤ left.0) → LeftSince first steps t c ⊎ After R (MayLeave first steps) c
     old_or_new t c left (inl before) = inl (left.0, left.1, before, subst (λ (s : List Step). MayLeave first s c) (take-append-le left.0 steps (step ∷ []) before) left.3)
     old_or_new t c left (inr now) = inr (into c (subst (λ (s : List Step). MayLeave first s c) (take_all left.0 (steps ++ step ∷ []) now) left.3))

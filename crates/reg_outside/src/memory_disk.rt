@@ -64,7 +64,11 @@ impl MemoryDisk {
         ensures fail { IfOk result (λ d. fail_of d ≡ fail.items) }
         ensures counts { IfOk result (λ d. (calls_of d ≡ 0) × (faults_of d ≡ 0)) }
     {
-        let calls = Calls { fail, made: 0, faults: 0 };
+        let calls = Calls {
+            fail,
+            made: 0,
+            faults: 0,
+        };
         let held = Record::new(alloc, bytes)?;
         Ok(MemoryDisk { held, calls })
     }

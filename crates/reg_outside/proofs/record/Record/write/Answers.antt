@@ -20,8 +20,8 @@ invariant_of-self-else-is_err c =
     let inside = le_true c.args.at (length (replay was.first.items was.steps.items)) (length was.bytes.items) c.requires (ap length was.replayed) in
     record {
       replayed =
-        ap (replay was.first.items) pushed ∙ replay-push was.first.items was.steps.items (Write c.args.at kept)
-        ∙ ap (put c.args.at kept.items) was.replayed ∙ ap (λ l. put c.args.at l was.bytes.items) same ∙ sym next;
+          ap (replay was.first.items) pushed ∙ replay-push was.first.items was.steps.items (Write c.args.at kept)
+          ∙ ap (put c.args.at kept.items) was.replayed ∙ ap (λ l. put c.args.at l was.bytes.items) same ∙ sym next;
       valid = ap (is_valid was.first.items) pushed ∙ is_valid-push was.first.items was.steps.items (Write c.args.at kept) was.valid inside;
     }
 
