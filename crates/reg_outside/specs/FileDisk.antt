@@ -2,11 +2,15 @@
 use Rattle.std.specs.Prelude.{◌≡◌, ℕ, List, if◌then◌else◌, Result, is_err}
 use Rattle.reg_outside.specs.declared.file_disk.FileDisk.{FileDisk}
 use Rattle.reg_outside.specs.Disk.{Changes}
-use Rattle.reg_outside.specs.MemoryDisk.{one_more}
+use Rattle.reg_outside.specs.Memory.{one_more}
 
 -- how many of its calls failed
 abbrev pub faults_of : FileDisk → ℕ
 faults_of d = d.faults
+
+-- where the file is
+abbrev pub path_of : FileDisk → List ℕ
+path_of d = d.path.now
 
 -- what a crash may leave isn't told
 abbrev pub NoImage : FileDisk → List ℕ → Type 0

@@ -1,4 +1,5 @@
 pub mod Faults
+pub mod Memory
 pub mod Disk
 pub mod DiskSteps
 pub mod MemoryDisk

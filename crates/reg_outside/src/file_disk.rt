@@ -2,8 +2,8 @@
 ghost use Rattle.std.specs.Prelude.{◌≡◌, ◌≤◌, ◌<◌, ◌+◌, ◌^◌, None, List, ℕ, length, option_map, ⊤, IfOk, OnOk};
 ghost use Rattle.reg_outside.specs.Disk.{Only, Same, Torn, put};
 ghost use Rattle.reg_outside.specs.Faults.{Rose, HasCause};
-ghost use Rattle.reg_outside.specs.FileDisk.{faults_of, NoImage, NoImageSince, TellsNothing, CountsFaults};
-ghost use Rattle.reg_outside.specs.MemoryDisk.{one_more};
+ghost use Rattle.reg_outside.specs.FileDisk.{faults_of, path_of, NoImage, NoImageSince, TellsNothing, CountsFaults};
+ghost use Rattle.reg_outside.specs.Memory.{one_more};
 
 use crate::{Disk, Failed};
 use std::fs::{File, OpenOptions};
@@ -26,7 +26,8 @@ pub struct FileDisk<'a> {
 impl<'a> FileDisk<'a> {
     /// The file of this path. Nothing is opened yet.
     pub fn new(rt: &'a HostRuntime, path: &'a str) -> FileDisk<'a>
-        ensures { faults_of result ≡ 0 }
+        ensures faults { faults_of result ≡ 0 }
+        ensures path { path_of result ≡ path.now }
     {
         FileDisk {
             rt,

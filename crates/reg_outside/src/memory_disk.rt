@@ -1,49 +1,18 @@
 // A disk in memory. It keeps a record of its writes and syncs, so that what a crash might have left is known.
-ghost use Rattle.std.specs.Prelude.{◌≡◌, ◌≤◌, ◌<◌, ◌+◌, ◌^◌, List, ℕ, [], length, take, drop, Some, IfOk, OnOk, OnErr};
+ghost use Rattle.std.specs.Prelude.{◌≡◌, ◌≤◌, ◌<◌, ◌+◌, ◌^◌, List, ℕ, [], length, take, drop, Some, IfOk, OnOk, OnErr, true, is_err, if◌then◌else◌};
 ghost use Rattle.reg_outside.specs.Disk.{Changes, Exactly, Same, Torn, put};
 ghost use Rattle.reg_outside.specs.DiskSteps.{MayLeave, LeftSince, reads_image, only_image, image_since};
-ghost use Rattle.reg_outside.specs.Faults.{Rose, HasCause};
-ghost use Rattle.reg_outside.specs.MemoryDisk.{bytes_of, first_of, steps_of, fail_of, calls_of, faults_of, one_more, is_listed, IsCounted, FailsOnlyWhereListed};
+ghost use Rattle.reg_outside.specs.Faults.{HasCause};
+ghost use Rattle.reg_outside.specs.Memory.{is_listed, called, failed, no_calls};
+ghost use Rattle.reg_outside.specs.MemoryDisk.{bytes_of, first_of, steps_of, calls_of};
 
+use crate::calls::Calls;
 use crate::record::Record;
 use crate::{Disk, Failed};
 use std::alloc::{AllocError, Global};
 
 // The end of a write is below it.
 const END: u64 = 1 << 63;
-
-// Which calls fail, and the counts of calls and faults.
-#[derive(Drop)]
-struct Calls {
-    fail: Vec<u64>,
-    made: u64,
-    faults: u64,
-}
-
-impl Calls {
-    // Counts a call, and says whether it is one that fails.
-    fn is_next_listed(&mut self) -> bool
-        ensures number { self.new.made ≡ one_more self.old.made }
-        ensures list { self.new.fail ≡ self.old.fail }
-        ensures faults { self.new.faults ≡ self.old.faults }
-        ensures listed { result ≡ is_listed self.old.fail.items self.new.made }
-    {
-        self.made = self.made.saturating_add(1);
-        self.fail.contains(&self.made)
-    }
-
-    // Counts a fault.
-    fn fault(&mut self) -> Failed
-        ensures count { self.new.faults ≡ one_more self.old.faults }
-        ensures later { self.old.faults ≤ self.new.faults }
-        ensures rose { Rose self.old.faults self.new.faults }
-        ensures list { self.new.fail ≡ self.old.fail }
-        ensures made { self.new.made ≡ self.old.made }
-    {
-        self.faults = self.faults.saturating_add(1);
-        Failed
-    }
-}
 
 /// A disk in memory, for tests. It keeps all its writes and syncs, so that its images at every
 /// moment are known. A call whose number is listed fails, and beside these only a write or a sync
@@ -61,16 +30,13 @@ impl MemoryDisk {
         ensures bytes { IfOk result (λ d. bytes_of d ≡ bytes.items) }
         ensures first { IfOk result (λ d. first_of d ≡ bytes.items) }
         ensures steps { IfOk result (λ d. steps_of d ≡ []) }
-        ensures fail { IfOk result (λ d. fail_of d ≡ fail.items) }
-        ensures counts { IfOk result (λ d. (calls_of d ≡ 0) × (faults_of d ≡ 0)) }
+        ensures calls { IfOk result (λ d. calls_of d ≡ no_calls fail.items) }
     {
-        let calls = Calls {
-            fail,
-            made: 0,
-            faults: 0,
-        };
         let held = Record::new(alloc, bytes)?;
-        Ok(MemoryDisk { held, calls })
+        Ok(MemoryDisk {
+            held,
+            calls: Calls::new(fail),
+        })
     }
 
     /// The bytes as a read gives them.
@@ -90,7 +56,7 @@ impl Disk for MemoryDisk {
 
     ghost left_since = { λ d. LeftSince (first_of d) (steps_of d) };
 
-    ghost faults = { λ d. faults_of d };
+    ghost faults = { λ d. (calls_of d).faults };
 
     ghost name = { λ d. 0 };
 
@@ -103,13 +69,11 @@ impl Disk for MemoryDisk {
     fn len(&mut self) -> Result<u64, Failed>
         ensures length { IfOk result (λ n. n ≡ length (bytes_of self.old)) }
         ensures same { (bytes_of self.new ≡ bytes_of self.old) × (first_of self.new ≡ first_of self.old) × (steps_of self.new ≡ steps_of self.old) }
-        ensures cause { HasCause (faults_of self.old) (faults_of self.new) result }
-        ensures counted { IsCounted self.old self.new result }
-        ensures only_listed { FailsOnlyWhereListed self.old self.new result }
+        ensures cause { HasCause (calls_of self.old).faults (calls_of self.new).faults result }
+        ensures counted { calls_of self.new ≡ (if is_err result then failed (calls_of self.old) else called (calls_of self.old)) }
+        ensures listed { is_err result ≡ is_listed (calls_of self.old) }
     {
-        if self.calls.is_next_listed() {
-            return Err(self.calls.fault());
-        }
+        self.calls.next()?;
         Ok(self.held.bytes.len() as u64)
     }
 
@@ -118,13 +82,11 @@ impl Disk for MemoryDisk {
         ensures bytes { IfOk result (λ n. take n buf.new ≡ take n (drop at (bytes_of self.old))) }
         ensures end { IfOk result (λ n. n ≡ 0 → 0 < length buf.new → length (bytes_of self.old) ≤ at) }
         ensures same { (bytes_of self.new ≡ bytes_of self.old) × (first_of self.new ≡ first_of self.old) × (steps_of self.new ≡ steps_of self.old) }
-        ensures cause { HasCause (faults_of self.old) (faults_of self.new) result }
-        ensures counted { IsCounted self.old self.new result }
-        ensures only_listed { FailsOnlyWhereListed self.old self.new result }
+        ensures cause { HasCause (calls_of self.old).faults (calls_of self.new).faults result }
+        ensures counted { calls_of self.new ≡ (if is_err result then failed (calls_of self.old) else called (calls_of self.old)) }
+        ensures listed { is_err result ≡ is_listed (calls_of self.old) }
     {
-        if self.calls.is_next_listed() {
-            return Err(self.calls.fault());
-        }
+        self.calls.next()?;
         let at = at as usize;
         if at >= self.held.bytes.len() {
             return Ok(0);
@@ -143,16 +105,22 @@ impl Disk for MemoryDisk {
         ensures end { OnOk result (at + length bytes.now < 2 ^ 63) }
         ensures crash { Changes (λ d. length (steps_of d)) (λ d. MayLeave (first_of d) (steps_of d)) (λ d. LeftSince (first_of d) (steps_of d)) (Torn at (length bytes.now)) self.old self.new }
         ensures exact { OnOk result (Exactly (Torn at (length bytes.now)) (MayLeave (first_of self.old) (steps_of self.old)) (MayLeave (first_of self.new) (steps_of self.new))) }
-        ensures cause { HasCause (faults_of self.old) (faults_of self.new) result }
-        ensures counted { IsCounted self.old self.new result }
+        ensures cause { HasCause (calls_of self.old).faults (calls_of self.new).faults result }
+        ensures listed { is_listed (calls_of self.old) ≡ true → is_err result ≡ true }
+        ensures counted { calls_of self.new ≡ (if is_err result then failed (calls_of self.old) else called (calls_of self.old)) }
     {
-        let is_listed = self.calls.is_next_listed();
-        if is_listed || at >= END || bytes.len() as u64 >= END - at {
+        if self.calls.next().is_err() {
             self.held.cut(at as usize, bytes.len());
-            return Err(self.calls.fault());
+            return Err(Failed);
+        }
+        if at >= END || bytes.len() as u64 >= END - at {
+            self.held.cut(at as usize, bytes.len());
+            self.calls.fault();
+            return Err(Failed);
         }
         if self.held.write(at as usize, bytes).is_err() {
-            return Err(self.calls.fault());
+            self.calls.fault();
+            return Err(Failed);
         }
         Ok(())
     }
@@ -161,14 +129,14 @@ impl Disk for MemoryDisk {
         ensures same { bytes_of self.new ≡ bytes_of self.old }
         ensures durable { OnOk result ((c : List ℕ) → MayLeave (first_of self.new) (steps_of self.new) c → c ≡ bytes_of self.new) }
         ensures crash { Changes (λ d. length (steps_of d)) (λ d. MayLeave (first_of d) (steps_of d)) (λ d. LeftSince (first_of d) (steps_of d)) Same self.old self.new }
-        ensures cause { HasCause (faults_of self.old) (faults_of self.new) result }
-        ensures counted { IsCounted self.old self.new result }
+        ensures cause { HasCause (calls_of self.old).faults (calls_of self.new).faults result }
+        ensures listed { is_listed (calls_of self.old) ≡ true → is_err result ≡ true }
+        ensures counted { calls_of self.new ≡ (if is_err result then failed (calls_of self.old) else called (calls_of self.old)) }
     {
-        if self.calls.is_next_listed() {
-            return Err(self.calls.fault());
-        }
+        self.calls.next()?;
         if self.held.sync().is_err() {
-            return Err(self.calls.fault());
+            self.calls.fault();
+            return Err(Failed);
         }
         Ok(())
     }
