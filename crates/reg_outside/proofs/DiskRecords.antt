@@ -1,5 +1,5 @@
 -- The record of a disk in memory grows.
-use Rattle.std.proofs.Common.{◌≡◌, ◌⊎◌, inl, inr, ⊎_elim, ℕ, ◌+◌, ◌<◌, ◌≤◌, List, [], ◌∷◌, ◌++◌, length, take, Bool, true, false, ◌&&◌, nat_le, if◌then◌else◌, refl, sym, ◌∙◌, ap, subst, arith, length-append}
+use Rattle.std.proofs.Common.{◌≡◌, ◌⊎◌, inl, inr, ⊎_elim, ℕ, ◌+◌, ◌<◌, ◌≤◌, List, [], ◌∷◌, ◌++◌, length, take, Bool, true, false, ◌&&◌, nat_le, if◌then◌else◌, Result, Ok, Err, is_ok, OnErr, refl, sym, ◌∙◌, ap, subst, arith, length-append}
 use Rattle.std.proofs.lemmas.List.{take_all, take-append-le}
 use Rattle.std.proofs.lemmas.Bool.Decides.{nat_tests}
 use Rattle.reg_outside.specs.Disk.{After, Exactly, Torn, Same}
@@ -58,6 +58,14 @@ grew_write first steps at piece = grew (Torn at (length piece.items)) first step
 -- what the write adds, it leaves
 pub written_exactly : (first : List ℕ) (steps : List Step) (at : ℕ) (piece : _) → Exactly (Torn at (length piece.items)) (MayLeave first steps) (MayLeave first (steps ++ Write at piece ∷ []))
 written_exactly first steps at piece c from = images-pushed first (λ d. d ≡ first) steps (Write at piece) c from
+
+-- so does a write that failed
+pub cut_exactly : (first : List ℕ) (steps : List Step) (at len : ℕ) → Exactly (Torn at len) (MayLeave first steps) (MayLeave first (steps ++ Cut at len ∷ []))
+cut_exactly first steps at len c from = images-pushed first (λ d. d ≡ first) steps (Cut at len) c from
+
+pub one_or_full : {T E F : Type 0} (r : Result T E) (P : List Step → Type 0) (new x y : List Step) → new ≡ (if is_ok r then x else y) → P x → OnErr r F → P new ⊎ F
+one_or_full (Ok v) P new x y is more full = inl (subst P (sym is) more)
+one_or_full (Err e) P new x y is more full = inr full
 
 pub grew_cut : (first : List ℕ) (steps : List Step) (at len : ℕ) → Grew (Torn at len) first steps first (steps ++ Cut at len ∷ [])
 grew_cut first steps at len = grew (Torn at len) first steps (Cut at len) (λ c left. images-push first (λ d. d ≡ first) steps (Cut at len) c left)

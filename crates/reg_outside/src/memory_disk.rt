@@ -1,10 +1,10 @@
 // A disk in memory. It keeps a record of its writes and syncs, so that what a crash might have left is known.
-ghost use Rattle.std.specs.Prelude.{◌≡◌, ◌≤◌, ◌<◌, ◌+◌, ◌^◌, List, ℕ, [], length, take, drop, Some, IfOk, OnOk, OnErr, true, is_err, if◌then◌else◌};
+ghost use Rattle.std.specs.Prelude.{◌≡◌, ◌⊎◌, ◌≤◌, ◌<◌, ◌+◌, ◌^◌, List, ℕ, [], length, take, drop, Some, IfOk, OnOk, OnErr, true, is_err, if◌then◌else◌};
 ghost use Rattle.reg_outside.specs.Disk.{Changes, Exactly, Same, Torn, put};
 ghost use Rattle.reg_outside.specs.DiskSteps.{MayLeave, LeftSince, reads_image, only_image, image_since};
 ghost use Rattle.reg_outside.specs.Faults.{HasCause};
 ghost use Rattle.reg_outside.specs.Memory.{is_listed, called, failed, no_calls};
-ghost use Rattle.reg_outside.specs.MemoryDisk.{bytes_of, first_of, steps_of, calls_of};
+ghost use Rattle.reg_outside.specs.MemoryDisk.{bytes_of, first_of, steps_of, calls_of, IsFull};
 
 use crate::calls::Calls;
 use crate::record::Record;
@@ -105,6 +105,7 @@ impl Disk for MemoryDisk {
         ensures end { OnOk result (at + length bytes.now < 2 ^ 63) }
         ensures crash { Changes (λ d. length (steps_of d)) (λ d. MayLeave (first_of d) (steps_of d)) (λ d. LeftSince (first_of d) (steps_of d)) (Torn at (length bytes.now)) self.old self.new }
         ensures exact { OnOk result (Exactly (Torn at (length bytes.now)) (MayLeave (first_of self.old) (steps_of self.old)) (MayLeave (first_of self.new) (steps_of self.new))) }
+        ensures exact_at_fault { OnErr result (Exactly (Torn at (length bytes.now)) (MayLeave (first_of self.old) (steps_of self.old)) (MayLeave (first_of self.new) (steps_of self.new)) ⊎ IsFull self.old) }
         ensures cause { HasCause (calls_of self.old).faults (calls_of self.new).faults result }
         ensures listed { is_listed (calls_of self.old) ≡ true → is_err result ≡ true }
         ensures counted { calls_of self.new ≡ (if is_err result then failed (calls_of self.old) else called (calls_of self.old)) }
@@ -119,6 +120,7 @@ impl Disk for MemoryDisk {
             return Err(Failed);
         }
         if self.held.write(at as usize, bytes).is_err() {
+            self.held.cut(at as usize, bytes.len());
             self.calls.fault();
             return Err(Failed);
         }

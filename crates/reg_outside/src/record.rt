@@ -1,5 +1,5 @@
 // The bytes of a disk in memory, with a record of what was done to them.
-ghost use Rattle.std.specs.Prelude.{◌≡◌, ◌≤◌, [], length, true, IfOk, OnOk, OnErr};
+ghost use Rattle.std.specs.Prelude.{◌≡◌, ◌≤◌, ◌⊎◌, [], length, vec_len, vec_capacity, true, IfOk, OnOk, OnErr};
 ghost use Rattle.reg_outside.specs.Disk.{put, Exactly, Same, Torn};
 ghost use Rattle.reg_outside.specs.DiskSteps.{replay, is_valid, Grew, MayLeave};
 
@@ -41,6 +41,8 @@ impl Record {
         requires { at ≤ length self.old.bytes.items }
         ensures ok { OnOk result (self.new.bytes.items ≡ put at piece.now self.old.bytes.items) }
         ensures err { OnErr result (self.new.bytes.items ≡ self.old.bytes.items) }
+        ensures kept { OnErr result ((self.new.first.items ≡ self.old.first.items) × (self.new.steps.items ≡ self.old.steps.items)) }
+        ensures room { OnErr result ((vec_capacity self.old.steps ≤ vec_capacity self.new.steps) × (vec_len self.new.steps ≡ vec_len self.old.steps)) }
         ensures crash { Grew (Torn at (length piece.now)) self.old.first.items self.old.steps.items self.new.first.items self.new.steps.items }
         ensures exact { OnOk result (Exactly (Torn at (length piece.now)) (MayLeave self.old.first.items self.old.steps.items) (MayLeave self.new.first.items self.new.steps.items)) }
     {
@@ -53,10 +55,11 @@ impl Record {
         Ok(())
     }
 
-    /// A write that failed: the bytes stay.
+    /// A write that failed: the bytes stay. Nothing is recorded where there is no room for it.
     pub fn cut(&mut self, at: usize, len: usize)
         ensures same { self.new.bytes.items ≡ self.old.bytes.items }
         ensures crash { Grew (Torn at len) self.old.first.items self.old.steps.items self.new.first.items self.new.steps.items }
+        ensures exact { Exactly (Torn at len) (MayLeave self.old.first.items self.old.steps.items) (MayLeave self.new.first.items self.new.steps.items) ⊎ (vec_capacity self.old.steps ≤ vec_len self.old.steps) }
     {
         let _ = self.steps.push(Step::Cut { at, len });
     }
