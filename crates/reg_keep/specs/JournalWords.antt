@@ -1,4 +1,4 @@
--- What a journal stands on, and what it keeps there.
+-- What contracts see of a journal: the disk that it stands on, its payloads, and whether an append failed.
 use Rattle.std.specs.Prelude.{ℕ, Bool, List, Option, option_map}
 use Rattle.reg_outside.specs.declared.disk.Disk.{Ghosts}
 use Rattle.reg_keep.specs.declared.journal.Journal.{Journal}
