@@ -1,5 +1,5 @@
 -- A journal that was written frame by frame opens to its payloads, whatever stands behind its closed gate.
-use Rattle.std.proofs.Common.{◌≡◌, ℕ, ◌+◌, ◌<◌, ◌≤◌, ◌^◌, List, [], ◌∷◌, ◌++◌, length, take, drop, Option, Some, option_map, IfSome, Result, Ok, Err, refl, sym, ◌∙◌, ap, ap₂, subst, arith, append_assoc, length-append}
+use Rattle.std.proofs.Common.{◌≡◌, ℕ, ◌+◌, List, [], ◌∷◌, ◌++◌, length, take, drop, Option, Some, option_map, IfSome, Ok, Err, refl, sym, ◌∙◌, ap, ap₂, subst, arith, append_assoc, length-append}
 use Rattle.std.proofs.lemmas.List.{take_at, drop_all, append-nil}
 use Rattle.reg_outside.specs.Disk.{put}
 use Rattle.reg_keep.specs.Frames.{frames, frame, frames_of, journal_bytes, AreShort, in_front, gate_after, gate_of, header, opened, payloads_of_records, with_frame}

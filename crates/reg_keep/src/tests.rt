@@ -9,9 +9,11 @@ use std::alloc::Global;
 use std::test::Fail;
 
 // The first command of the worked example: at 2025-09-01T00:00:00Z GrouperSystem adds the subject uni/ann, named Ann.
-const PAYLOAD: [u8; 44] = *b"\x00\x80\x7c\x0d\xb2\x3d\x06\x00\x13\x00g:isa/GrouperSystem\x05\x07\x00uni/ann\x03\x00Ann";
+const PAYLOAD: [u8; 44] =
+    *b"\x00\x80\x7c\x0d\xb2\x3d\x06\x00\x13\x00g:isa/GrouperSystem\x05\x07\x00uni/ann\x03\x00Ann";
 
-const FILE: [u8; 58] = *b"GRPREG1\n\x01\x2c\x00\x00\x00\x00\x80\x7c\x0d\xb2\x3d\x06\x00\x13\x00g:isa/GrouperSystem\x05\x07\x00uni/ann\x03\x00Ann\x00";
+const FILE: [u8; 58] =
+    *b"GRPREG1\n\x01\x2c\x00\x00\x00\x00\x80\x7c\x0d\xb2\x3d\x06\x00\x13\x00g:isa/GrouperSystem\x05\x07\x00uni/ann\x03\x00Ann\x00";
 
 fn disk_of(alloc: Global, bytes: &[u8], fail: &[u64]) -> Result<MemoryDisk, Fail> {
     Ok(MemoryDisk::new(alloc, bytes.to_vec(alloc)?, fail.to_vec(alloc)?)?)
