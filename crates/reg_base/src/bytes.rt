@@ -1,4 +1,4 @@
-// Any bytes, seen as their list.
+// Bytes of any kind, seen as their list.
 ghost use Rattle.std.specs.Prelude.{◌≡◌, IfOk};
 
 use std::alloc::{AllocError, Global};
@@ -19,25 +19,25 @@ impl Model for Bytes {
 }
 
 impl Bytes {
-    /// These bytes.
+    /// These bytes. The only error is out of memory.
     pub fn of(alloc: Global, bytes: &[u8]) -> Result<Bytes, AllocError>
-        ensures { IfOk result (λ b. b ≡ bytes.now) }
+        ensures { IfOk result (λ held. held ≡ bytes.now) }
     {
         let items = bytes.to_vec(alloc)?;
         Ok(Bytes { items })
     }
 
-    /// The bytes.
+    /// The bytes that are held. It takes no memory.
     pub fn bytes(&self) -> &[u8]
         ensures { result.now ≡ self.now }
     {
-        &self.items
+        self.items.as_slice()
     }
 
-    /// Equal bytes.
+    /// Equal bytes. The only error is out of memory.
     pub fn copy(&self, alloc: Global) -> Result<Bytes, AllocError>
-        ensures { IfOk result (λ b. b ≡ self.now) }
+        ensures { IfOk result (λ held. held ≡ self.now) }
     {
-        Bytes::of(alloc, self.bytes())
+        Bytes::of(alloc, self.items.as_slice())
     }
 }

@@ -1,7 +1,7 @@
 // The calls of an object in memory, of which chosen ones fail.
 ghost use Rattle.std.specs.Prelude.{if◌then◌else◌, ◌≡◌, ◌≤◌, is_err};
 ghost use Rattle.reg_outside.specs.Faults.{HasCause, Rose};
-ghost use Rattle.reg_outside.specs.Memory.{Calls as CallsMade, no_calls, is_listed, called, failed, one_more};
+ghost use Rattle.reg_outside.specs.Memory.{no_calls, is_listed, called, failed, one_more};
 
 use crate::Failed;
 use std::marker::Model;
