@@ -1,0 +1,172 @@
+// A real file as a disk. What is trusted: that the system's calls do what they promise.
+ghost use Rattle.std.specs.Prelude.{◌≡◌, ◌≤◌, ◌<◌, ◌+◌, ◌^◌, None, List, ℕ, length, option_map, ⊤, IfOk, OnOk};
+ghost use Rattle.reg_outside.specs.Disk.{Only, Same, Torn, put};
+ghost use Rattle.reg_outside.specs.Faults.{Rose, HasCause};
+ghost use Rattle.reg_outside.specs.FileDisk.{faults_of, path_of, NoImage, NoImageSince, TellsNothing, CountsFaults};
+ghost use Rattle.reg_outside.specs.Memory.{one_more};
+
+use crate::{Disk, Failed};
+use std::fs::{File, OpenOptions};
+use std::os::unix::fs::FileExt;
+
+// The end of a write is below it.
+const END: u64 = 1 << 63;
+
+/// A file as a disk. It is opened at the first call, and made where it is absent. Its bytes aren't
+/// told. The count of faults begins at 0 and rises by one at each call that fails, and nowhere
+/// else. A sync is `fdatasync`.
+#[derive(Drop)]
+pub struct FileDisk<'a> {
+    rt: &'a HostRuntime,
+    path: &'a str,
+    file: Option<File>,
+    faults: u64,
+}
+
+impl<'a> FileDisk<'a> {
+    /// The file of this path. Nothing is opened yet.
+    pub fn new(rt: &'a HostRuntime, path: &'a str) -> FileDisk<'a>
+        ensures faults { faults_of result ≡ 0 }
+        ensures path { path_of result ≡ path.now }
+    {
+        FileDisk {
+            rt,
+            path,
+            file: None,
+            faults: 0,
+        }
+    }
+
+    // Opens the file at the first call.
+    fn open(&mut self) -> std::io::Result<()>
+        ensures { self.new.faults ≡ self.old.faults }
+    {
+        if self.file.is_none() {
+            let file = OpenOptions::new()
+                .read(true)
+                .write(true)
+                .create(true)
+                .open(self.rt, self.path)?;
+            self.file = Some(file);
+        }
+        Ok(())
+    }
+
+    // Counts a fault.
+    fn fault(&mut self) -> Failed
+        ensures count { self.new.faults ≡ one_more self.old.faults }
+        ensures later { self.old.faults ≤ self.new.faults }
+        ensures rose { Rose self.old.faults self.new.faults }
+    {
+        self.faults = self.faults.saturating_add(1);
+        Failed
+    }
+}
+
+impl<'a> Disk for FileDisk<'a> {
+    ghost contents = { λ d. None };
+
+    ghost may_leave = { NoImage };
+
+    ghost moment = { λ d. 0 };
+
+    ghost left_since = { NoImageSince };
+
+    ghost faults = { λ d. faults_of d };
+
+    ghost name = { λ d. 0 };
+
+    ghost reads_now = { λ d. tt };
+
+    ghost counts_now = { λ d t c le left. left };
+
+    ghost only_now = { λ d c left. left };
+
+    fn len(&mut self) -> Result<u64, Failed>
+        ensures length { IfOk result (λ n. ⊤) }
+        ensures crash { TellsNothing Same self.old self.new }
+        ensures cause { HasCause (faults_of self.old) (faults_of self.new) result }
+        ensures counted { CountsFaults self.old self.new result }
+    {
+        if let (Ok(()), Some(file)) = (self.open(), &self.file) {
+            if let Ok(about) = file.metadata() {
+                return Ok(about.len());
+            }
+        }
+        Err(self.fault())
+    }
+
+    fn read_at(&mut self, at: u64, buf: &mut [u8]) -> Result<usize, Failed>
+        ensures bound { IfOk result (λ n. n ≤ length buf.new) }
+        ensures bytes { IfOk result (λ n. ⊤) }
+        ensures crash { TellsNothing Same self.old self.new }
+        ensures cause { HasCause (faults_of self.old) (faults_of self.new) result }
+        ensures counted { CountsFaults self.old self.new result }
+    {
+        if let (Ok(()), Some(file)) = (self.open(), &self.file) {
+            if let Ok(count) = file.read_at(buf, at) {
+                return Ok(count);
+            }
+        }
+        Err(self.fault())
+    }
+
+    fn write_at(&mut self, at: u64, bytes: &[u8]) -> Result<(), Failed>
+        ensures end { OnOk result (at + length bytes.now < 2 ^ 63) }
+        ensures written { OnOk result (option_map (put at bytes.now) None ≡ None) }
+        ensures crash { TellsNothing (Torn at (length bytes.now)) self.old self.new }
+        ensures cause { HasCause (faults_of self.old) (faults_of self.new) result }
+        ensures counted { CountsFaults self.old self.new result }
+    {
+        if at >= END || bytes.len() as u64 >= END - at {
+            return Err(self.fault());
+        }
+        if let (Ok(()), Some(file)) = (self.open(), &self.file) {
+            if file.write_all_at(bytes, at).is_ok() {
+                return Ok(());
+            }
+        }
+        Err(self.fault())
+    }
+
+    fn sync(&mut self) -> Result<(), Failed>
+        ensures durable { OnOk result (Only None (NoImage self.new)) }
+        ensures crash { TellsNothing Same self.old self.new }
+        ensures cause { HasCause (faults_of self.old) (faults_of self.new) result }
+        ensures counted { CountsFaults self.old self.new result }
+    {
+        if let (Ok(()), Some(file)) = (self.open(), &self.file) {
+            if file.sync_data().is_ok() {
+                return Ok(());
+            }
+        }
+        Err(self.fault())
+    }
+}
+
+#[cfg(test)]
+mod tests {
+    use super::*;
+    use std::fs::remove_file;
+    use std::test::Fail;
+
+    #[test]
+    fn a_file_reads_what_was_written(rt: HostRuntime) -> Result<(), Fail> {
+        let _ = remove_file(&rt, "file_disk_test");
+        let mut disk = FileDisk::new(&rt, "file_disk_test");
+        let mut buf = [0u8; 8];
+        assert!(rt; disk.len() == Ok(0));
+        assert!(rt; disk.write_at(0, b"abc") == Ok(()));
+        assert!(rt; disk.write_at(2, b"de") == Ok(()));
+        assert!(rt; disk.sync() == Ok(()));
+        assert!(rt; disk.len() == Ok(4));
+        assert!(rt; disk.read_at(1, &mut buf) == Ok(3));
+        assert!(rt; buf.starts_with(b"bde"));
+        assert!(rt; disk.read_at(4, &mut buf) == Ok(0));
+        assert!(rt; disk.write_at(END - 1, b"f").is_err());
+        assert!(rt; remove_file(&rt, "file_disk_test").is_ok());
+        let mut absent = FileDisk::new(&rt, "no_folder/file_disk_test");
+        assert!(rt; absent.sync().is_err());
+        Ok(())
+    }
+}
