@@ -1,10 +1,12 @@
-//! Ids, texts and moments: the values that every other crate speaks of.
+//! Ids, texts, moments and steps: the values that every other crate speaks of.
 #![tactic(auto)]
 
 mod ids;
 mod moment;
+mod steps;
 mod text;
 
 pub use ids::{GroupId, SubjectId};
 pub use moment::Moment;
+pub use steps::Steps;
 pub use text::Text;
