@@ -1,29 +1,27 @@
 -- Pairs in order.
-use Rattle.std.proofs.Common.{◌≡◌, ◌<◌, ◌≤◌, ◌+◌, ◌&&◌, ◌||◌, ◌==◌, ◌^◌, ℕ, List, [], ◌∷◌, Bool, true, false, not, cond, arith, refl, sym, ◌∙◌, ap, nat_eq, nat_lt}
+use Rattle.std.proofs.Common.{◌≡◌, ◌<◌, ◌&&◌, ◌||◌, ◌==◌, ◌^◌, ℕ, List, [], ◌∷◌, Bool, true, false, not, cond, arith, refl, sym, ◌∙◌, ap}
 use Rattle.std.proofs.lemmas.Grind.{common_steps}
 use Rattle.std.proofs.lemmas.Bool.Decides.{nat_tests}
-use Rattle.std.proofs.lemmas.Bool.{cases_Bool}
+use Rattle.std.proofs.lemmas.Bool.{cases_Bool, or_cases, and_parts, eqb-true, both_ways}
 use Rattle.std.proofs.Common.{inl, inr}
 use Rattle.std.proofs.Common.{map, filter, length}
-use Rattle.std.proofs.Common.{Option, Some}
+use Rattle.std.proofs.Common.{Option, Some, None, IsSome, is_some, ◌↔◌}
 use Rattle.std.specs.Iterator.{Yields}
 use Rattle.std.specs.Map.Iter.{TakesFirst}
 use Rattle.std.proofs.lemmas.Map.Iter.{iter_turn}
 use Rattle.std.proofs.lemmas.List.{length-map}
-use Rattle.std.specs.List.{list_any, AllByRecursion, All}
+use Rattle.std.specs.List.{list_any, AllByRecursion}
 use Rattle.std.specs.List.Sorted.{IsStrictlySortedBy, IsStrictlyIncreasing}
 use Rattle.std.specs.BTreeSet.{insert_key}
 use Rattle.std.specs.Set.{remove_key}
 use Rattle.std.proofs.lemmas.Map.Views.{All-insert_key, All-remove_key}
 use Rattle.std.proofs.lemmas.Map.Keys.{IsStrictlyIncreasing-from_sorted}
-use Rattle.std.proofs.lemmas.List.Elements.{All-tail, recursion_from_All}
+use Rattle.std.proofs.lemmas.List.Elements.{recursion_from_All}
 use Rattle.std.specs.BTreeMap.Range.{range_contains}
-use Rattle.std.specs.declared.ops.Bound.{Bound}
 use Rattle.std.specs.declared.ops.Bound.TheVariants.{Included}
-use Rattle.std.specs.declared.cmp.Ordering.TheVariants.{Less, Equal, Greater}
+use Rattle.std.specs.declared.cmp.Ordering.TheVariants.{Less}
 use Rattle.std.specs.BTreeMap.{is_at}
-use Rattle.std.specs.Ordering.{nat_cmp, ordering_then}
-use Rattle.std.specs.declared.cmp.Ordering.{Ordering}
+use Rattle.std.specs.Ordering.{nat_cmp}
 use Rattle.reg_graph.specs.Sets.{holds, subjects_of, pair_cmp, IsKept}
 
 pub at_pair : (g s x y : ℕ) → is_at (pair_cmp (g, s)) (x, y) ≡ ((x == g) && (y == s))
@@ -83,9 +81,22 @@ pub listed_is : (g n m : ℕ) (items : List ℕ) (xs keys view : List (ℕ × �
 listed_is g n m items xs keys view a b c d k e = a ∙ ap (λ ys. map (λ (p : ℕ × ℕ). p.1) ys) (b ∙ rw (c, d, ← e) (between_is g keys k))
 
 pub length-listed : (g n m : ℕ) (keys view : List (ℕ × ℕ)) → n ≡ g → m ≡ g → IsKept keys → keys ≡ view
-  → length (subjects_of g view) ≡ length (filter (range_contains pair_cmp (Included (n, 0)) (Included (m, 4294967295))) view)
+    → length (subjects_of g view) ≡ length (filter (range_contains pair_cmp (Included (n, 0)) (Included (m, 4294967295))) view)
 length-listed g n m keys view c d k e = rw (c, d, ← e, between_is g keys k) (length-map (filter (λ (p : ℕ × ℕ). p.0 == g) keys) (λ (p : ℕ × ℕ). p.1))
 
 -- before the end fewer were yielded than there are
 pub iter_short : {A X : Type 0} (shows : A → X) → (all : List X) (xs : List A) (s t u : List X) (r : Option A) (start : s ≡ all) (y : Yields (TakesFirst shows) s xs t) → (x : A) → r ≡ Some x → TakesFirst shows t r u → length xs < length all
 iter_short shows all xs s t u r start y x e h = (iter_turn shows all xs s t u r start y x e h).0
+
+-- what is said of all keys holds of each that is there
+pub all_held : (P : ℕ × ℕ → Type 0) (keys : List (ℕ × ℕ)) → AllByRecursion P keys → (a b : ℕ) → holds a b keys ≡ true → P (a, b)
+all_held P [] h a b m = cc
+all_held P ((x, y) ∷ ks) h a b m = elim (or_cases ((x == a) && (y == b)) (holds a b ks) m) [
+  | inl here ↦ let w = and_parts (x == a) (y == b) here in rw (← (eqb-true x a w.0), ← (eqb-true y b w.1)) h.0
+  | inr later ↦ all_held P ks h.1 a b later
+]
+
+-- where nothing came there is nothing
+pub empty_from : {K X : Type 0} (r : Option X) (keys : List K) → r ≡ None → (IsSome r ↔ (0 < length keys)) → keys ≡ []
+empty_from r [] e i = refl
+empty_from r (k ∷ ks) e i = absurd (both_ways (is_some r) (rw e refl) (i.1 (omega arith)))

@@ -52,7 +52,12 @@ impl Sets {
 
     /// Adds the subject to the group, which may have it already: one step. Out of memory the sets
     /// stay as they were.
-    pub fn add<L: Ledger>(&mut self, g: GroupId, s: SubjectId, steps: &mut Steps<L>) -> Result<(), AllocError>
+    pub fn add<L: Ledger>(
+        &mut self,
+        g: GroupId,
+        s: SubjectId,
+        steps: &mut Steps<L>,
+    ) -> Result<(), AllocError>
         ensures added { OnOk result ((x y : ℕ) → holds x y self.new ≡ (((x == g) && (y == s)) || holds x y self.old)) }
         ensures err { OnErr result (self.new ≡ self.old) }
         ensures cost { steps.new ≡ steps.old + 1 }
@@ -73,7 +78,11 @@ impl Sets {
 
     /// The subjects of the group, by id, each once: a step for each. Out of memory no more steps
     /// are taken than there are subjects.
-    pub fn list<L: Ledger>(&self, g: GroupId, steps: &mut Steps<L>) -> Result<Vec<SubjectId>, AllocError>
+    pub fn list<L: Ledger>(
+        &self,
+        g: GroupId,
+        steps: &mut Steps<L>,
+    ) -> Result<Vec<SubjectId>, AllocError>
         ensures value { IfOk result (λ v. v.items ≡ subjects_of g self.now) }
         ensures each { IfOk result (λ v. (s : ℕ) → list_any (λ x. x == s) v.items ≡ holds g s self.now) }
         ensures sorted { IfOk result (λ v. IsStrictlySortedBy nat_cmp v.items) }

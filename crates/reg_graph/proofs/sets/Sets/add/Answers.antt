@@ -1,4 +1,3 @@
-use Rattle.std.proofs.Common.{rules, ◌≡◌, ◌==◌, ◌&&◌, ◌||◌, ◌∙◌, sym, ◌<◌, ◌^◌, ℕ, arith}
 use Rattle.reg_graph.proofs.Kept.{updates_add, kept_add}
 use Rattle.reg_graph.proofs.sets.Sets.add.Goals as goal
 

@@ -1,10 +1,9 @@
-use Rattle.std.proofs.Common.{rules, arith, ◌≡◌, ◌<◌, ◌≤◌, ◌+◌, ◌==◌, ◌∙◌, sym, ℕ, map, filter, List, ap, length}
+use Rattle.std.proofs.Common.{rules, arith, ◌≡◌, ◌<◌, ◌≤◌, ◌+◌, ℕ, map, filter, List, length}
 use Rattle.std.specs.Map.Iter.{deref}
-use Rattle.std.specs.List.{list_any}
 use Rattle.std.proofs.lemmas.Map.Iter.{iter_end}
 use Rattle.std.specs.BTreeMap.Range.{range_contains}
 use Rattle.std.specs.declared.ops.Bound.TheVariants.{Included}
-use Rattle.reg_graph.specs.Sets.{subjects_of, pair_cmp, holds}
+use Rattle.reg_graph.specs.Sets.{subjects_of, pair_cmp}
 use Rattle.reg_graph.proofs.Kept.{each_listed, ascending_by, listed_is, length-listed, iter_short}
 use Rattle.reg_graph.proofs.sets.Sets.list.Goals as goal
 

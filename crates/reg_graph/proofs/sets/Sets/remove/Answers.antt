@@ -1,4 +1,3 @@
-use Rattle.std.proofs.Common.{rules, ◌≡◌, ◌==◌, ◌&&◌, ◌||◌, ◌∙◌, sym, ◌<◌, ◌^◌, ℕ, arith}
 use Rattle.reg_graph.proofs.Kept.{updates_remove, kept_remove}
 use Rattle.reg_graph.proofs.sets.Sets.remove.Goals as goal
 
