@@ -6,6 +6,8 @@ mod edges;
 mod levels;
 mod raise;
 mod sets;
+#[cfg(test)]
+mod tests;
 
 pub use dag::{Dag, EdgeFault};
 pub use sets::Sets;
