@@ -1,9 +1,10 @@
 -- Levels under changes of one level, and of one edge.
 use Rattle.std.proofs.Common.{◌≡◌, ◌≤◌, ◌<◌, ◌==◌, ◌&&◌, ◌||◌, ℕ, List, [], ◌∷◌, ◌++◌, true, false, cond, max, arith, refl, sym, ◌∙◌, inl, inr, ap}
-use Rattle.std.proofs.lemmas.Bool.{eqb-true, ne_eqb, eq-eqb, cases_Bool, and_parts, both_ways, or_cases, or_right}
+use Rattle.std.proofs.lemmas.Bool.{eqb-true, ne_eqb, false_from_ne_true, eq-eqb, cases_Bool, and_parts, both_ways, or_cases, or_right}
 use Rattle.std.specs.List.Sorted.{IsPermutation}
 use Rattle.std.proofs.lemmas.List.Sorted.{list_any-IsPermutation}
-use Rattle.reg_graph.specs.Edges.{has_edge}
+use Rattle.reg_graph.specs.Edges.{has_edge, reaches}
+use Rattle.reg_graph.proofs.Reaching.{reaches_self, first_step}
 use Rattle.reg_graph.specs.Levels.{level_of, has_level, IsLevelled, planned, IsRising}
 use Rattle.reg_graph.proofs.Orders.{Falls}
 use Rattle.reg_graph.proofs.Rising.{rising_last, planned_none, planned_more}
@@ -108,3 +109,10 @@ edge_less es fs a b p x y e = list_any-IsPermutation (λ (d : ℕ × ℕ). (d.0 
 
 pub levelled_less : (es fs levels : List (ℕ × ℕ)) (a b : ℕ) → IsPermutation es ((a, b) ∷ fs) → IsLevelled es levels → IsLevelled fs levels
 levelled_less es fs levels a b p w = record { falls = λ x y e. w.falls x y (edge_less es fs a b p x y e); known = λ x y e. w.known x y (edge_less es fs a b p x y e) }
+
+-- a group of which no level is written down reaches itself alone
+pub reach_alone : (es levels : List (ℕ × ℕ)) (a b : ℕ) → IsLevelled es levels → has_level levels a ≡ false → reaches es a b ≡ (a == b)
+reach_alone es levels a b w none = elim (cases_Bool (a == b)) [
+  | inl t ↦ rw (t, eqb-true a b t) (reaches_self es b)
+  | inr f ↦ rw f (false_from_ne_true (reaches es a b) (λ r. let s = first_step es a b r f in both_ways (has_level levels a) none (w.known a s.0 s.1)))
+]

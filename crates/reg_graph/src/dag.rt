@@ -71,7 +71,8 @@ fn await_above(
     group: u32,
     pending: &mut BTreeSet<(u64, u32)>,
 ) -> Result<(), AllocError>
-    ensures { OnOk result ((l q : ℕ) → holds l q pending.new.keys ≡ (((l == level_of levels.now q) && has_edge edges.now q group) || holds l q pending.old.keys)) }
+    ensures { OnOk result ((l q : ℕ) → holds l q pending.new.keys
+        ≡ (((l == level_of levels.now q) && has_edge edges.now q group) || holds l q pending.old.keys)) }
 {
     let above = edges.above(group)?;
     for higher in &above {
@@ -112,8 +113,8 @@ impl Dag {
         }
     }
 
-    /// One more edge, also where it stands already. Circular exactly where `to` is `from` or depends
-    /// on it; then, and out of memory, the edges stay as they were.
+    /// One more edge, also where it stands already. Circular exactly where `to` is `from` or
+    /// depends on it; then, and out of memory, the edges stay as they were.
     pub fn add_edge(&mut self, from: GroupId, to: GroupId) -> Result<(), EdgeFault>
         ensures added { OnOk result (IsPermutation ((from, to) ∷ self.old) self.new) }
         ensures no_circle { OnOk result (reaches self.old to from ≡ false) }
@@ -147,6 +148,12 @@ impl Dag {
         ensures path { IfOk result (λ r. IsTrue r ↔ HasPath self.now from to) }
         ensures acyclic { IsAcyclic self.now }
     {
+        if self.levels.of(from.number()) < self.levels.of(to.number()) {
+            return Ok(false);
+        }
+        if !self.levels.has(from.number()) {
+            return Ok(from == to);
+        }
         let above = climb(self.alloc, &self.edges, &self.levels, to.number())?;
         Ok(above.contains(&from))
     }

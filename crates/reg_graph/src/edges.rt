@@ -38,7 +38,7 @@ impl Edges {
         }
     }
 
-    /// One more edge. After 2^64 - 1 of them there is no number left, which counts as out of memory.
+    /// One more edge. After 2^64 - 1 of them no number is left, which counts as out of memory.
     pub(crate) fn push(&mut self, from: u32, to: u32) -> Result<(), AllocError>
         ensures ok { OnOk result (IsPermutation ((from, to) ∷ self.old) self.new) }
         ensures err { OnErr result (self.new ≡ self.old) }

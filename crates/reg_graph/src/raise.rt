@@ -17,8 +17,11 @@ fn ask(
     group: u32,
     level: u64,
 ) -> Result<(), AllocError>
-    ensures level { OnOk result ((l q : ℕ) → wanted pending.new.entries l q ≡ (if (l == old) && (q == group) then max (wanted pending.old.entries l q) level else wanted pending.old.entries l q)) }
-    ensures known { OnOk result ((l q : ℕ) → awaits pending.new.entries l q ≡ (((l == old) && (q == group)) || awaits pending.old.entries l q)) }
+    ensures level { OnOk result ((l q : ℕ) → wanted pending.new.entries l q
+        ≡ (if (l == old) && (q == group) then max (wanted pending.old.entries l q) level
+        else wanted pending.old.entries l q)) }
+    ensures known { OnOk result ((l q : ℕ) → awaits pending.new.entries l q
+        ≡ (((l == old) && (q == group)) || awaits pending.old.entries l q)) }
 {
     let wanted = pending.get(&(old, group)).copied().unwrap_or(0);
     pending.insert((old, group), wanted.max(level))?;
@@ -33,9 +36,13 @@ fn ask_above(
     level: u64,
     pending: &mut BTreeMap<(u64, u32), u64>,
 ) -> Result<(), AllocError>
-    ensures more { OnOk result ((l q : ℕ) → wanted pending.old.entries l q ≤ wanted pending.new.entries l q) }
-    ensures raised { OnOk result ((q : ℕ) → has_edge edges.now q group ≡ true → level < max (level_of levels.now q) (wanted pending.new.entries (level_of levels.now q) q)) }
-    ensures only { OnOk result ((l q : ℕ) → awaits pending.new.entries l q ≡ true → (awaits pending.old.entries l q ≡ true) ⊎ ((l ≡ level_of levels.now q) × (has_edge edges.now q group ≡ true))) }
+    ensures more { OnOk result ((l q : ℕ) →
+        wanted pending.old.entries l q ≤ wanted pending.new.entries l q) }
+    ensures raised { OnOk result ((q : ℕ) → has_edge edges.now q group ≡ true
+        → level < max (level_of levels.now q) (wanted pending.new.entries (level_of levels.now q) q)) }
+    ensures only { OnOk result ((l q : ℕ) → awaits pending.new.entries l q ≡ true
+        → (awaits pending.old.entries l q ≡ true)
+        ⊎ ((l ≡ level_of levels.now q) × (has_edge edges.now q group ≡ true))) }
 {
     let Some(next) = level.checked_add(1) else {
         return Err(AllocError);
@@ -50,7 +57,8 @@ fn ask_above(
     Ok(())
 }
 
-/// Which groups have to come to which levels before an edge goes from one to the other, lowest first.
+/// Which groups have to come to which levels before an edge goes from one group to the other, the
+/// lowest first.
 fn plan(
     alloc: Global,
     edges: &Edges,
@@ -59,9 +67,11 @@ fn plan(
     to: u32,
 ) -> Result<Vec<(u32, u64)>, EdgeFault>
     requires { IsLevelled edges.now levels.now }
-    ensures falls { IfOk result (λ plan. (x y : ℕ) → has_edge edges.now x y ≡ true → target (level_of levels.now) plan.items y < target (level_of levels.now) plan.items x) }
+    ensures falls { IfOk result (λ plan. (x y : ℕ) → has_edge edges.now x y ≡ true
+        → target (level_of levels.now) plan.items y < target (level_of levels.now) plan.items x) }
     ensures rising { IfOk result (λ plan. IsRising (level_of levels.now) plan.items) }
-    ensures raised { IfOk result (λ plan. level_of levels.now to < target (level_of levels.now) plan.items from) }
+    ensures raised { IfOk result (λ plan.
+        level_of levels.now to < target (level_of levels.now) plan.items from) }
     ensures stays { IfOk result (λ plan. planned plan.items to ≡ 0) }
     ensures err { IfErr result (IsRefused edges.now from to) }
 {

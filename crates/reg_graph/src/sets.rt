@@ -58,7 +58,8 @@ impl Sets {
         s: SubjectId,
         steps: &mut Steps<L>,
     ) -> Result<(), AllocError>
-        ensures added { OnOk result ((x y : ℕ) → holds x y self.new ≡ (((x == g) && (y == s)) || holds x y self.old)) }
+        ensures added { OnOk result ((x y : ℕ) → holds x y self.new
+            ≡ (((x == g) && (y == s)) || holds x y self.old)) }
         ensures err { OnErr result (self.new ≡ self.old) }
         ensures cost { steps.new ≡ steps.old + 1 }
     {
@@ -69,7 +70,8 @@ impl Sets {
 
     /// Takes the subject out of the group, which may lack it: one step, no memory.
     pub fn remove<L: Ledger>(&mut self, g: GroupId, s: SubjectId, steps: &mut Steps<L>)
-        ensures removed { (x y : ℕ) → holds x y self.new ≡ (not ((x == g) && (y == s)) && holds x y self.old) }
+        ensures removed { (x y : ℕ) → holds x y self.new
+            ≡ (not ((x == g) && (y == s)) && holds x y self.old) }
         ensures cost { steps.new ≡ steps.old + 1 }
     {
         steps.tick(); // one subject removed
@@ -84,7 +86,8 @@ impl Sets {
         steps: &mut Steps<L>,
     ) -> Result<Vec<SubjectId>, AllocError>
         ensures value { IfOk result (λ v. v.items ≡ subjects_of g self.now) }
-        ensures each { IfOk result (λ v. (s : ℕ) → list_any (λ x. x == s) v.items ≡ holds g s self.now) }
+        ensures each { IfOk result (λ v. (s : ℕ) →
+            list_any (λ x. x == s) v.items ≡ holds g s self.now) }
         ensures sorted { IfOk result (λ v. IsStrictlySortedBy nat_cmp v.items) }
         ensures cost { IfOk result (λ v. steps.new ≡ steps.old + length v.items) }
         ensures err { OnErr result (steps.new ≤ steps.old + length (subjects_of g self.now)) }

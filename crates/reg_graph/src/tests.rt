@@ -103,6 +103,9 @@ fn two_subjects<L: Ledger>(alloc: Global, blank: Blank) -> Result<Vec<SubjectId>
 #[test]
 fn subjects_are_listed_by_id(rt: HostRuntime) -> Result<(), Fail> {
     let listed = two_subjects::<Brand>(rt.alloc(), Blank::new(1))?;
-    assert_eq!(rt; listed.as_slice(), [SubjectId::new(7), SubjectId::new(9)].as_slice());
+    assert_eq!(rt;
+        listed.as_slice(),
+        [SubjectId::new(7), SubjectId::new(9)].as_slice()
+    );
     Ok(())
 }

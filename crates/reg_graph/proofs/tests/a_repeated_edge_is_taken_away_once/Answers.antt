@@ -1,4 +1,4 @@
-use Rattle.std.proofs.Common.{◌≡◌, ◌∙◌, true, refl}
+use Rattle.std.proofs.Common.{◌∙◌, refl}
 use Rattle.reg_graph.proofs.Levelling.{edge_more}
 use Rattle.reg_graph.proofs.tests.a_repeated_edge_is_taken_away_once.Goals as goal
 

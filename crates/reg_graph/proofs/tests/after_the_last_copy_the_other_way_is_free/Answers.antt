@@ -1,4 +1,4 @@
-use Rattle.std.proofs.Common.{◌≡◌, ◌∙◌, true, refl}
+use Rattle.std.proofs.Common.{◌∙◌, refl}
 use Rattle.reg_graph.proofs.Levelling.{edge_more}
 use Rattle.reg_graph.proofs.tests.after_the_last_copy_the_other_way_is_free.Goals as goal
 
