@@ -1,0 +1,7 @@
+use Rattle.reg_graph.specs.Edges.{IsAcyclic}
+use Rattle.reg_graph.specs.Levels.{level_of}
+use Rattle.reg_graph.proofs.Orders.{acyclic}
+use Rattle.reg_graph.proofs.dag.Dag.above.Goals as goal
+
+pub returns-clause-acyclic : goal.returns-clause-acyclic
+returns-clause-acyclic c = let all : IsAcyclic c.self.inside.edges = acyclic c.self.inside.edges (level_of c.self.inside.levels) c.self.invariant.falls in rw c.self.view_is at all

@@ -1,0 +1,23 @@
+-- A set of subjects for each group, as pairs of a group and a subject in order.
+use Rattle.std.specs.Prelude.{ℕ, ◌==◌, ◌&&◌, ◌<◌, ◌^◌, List, map, filter, Bool}
+use Rattle.std.specs.List.{list_any, All}
+use Rattle.std.specs.List.Sorted.{IsStrictlySortedBy}
+use Rattle.std.specs.Ordering.{nat_cmp, ordering_then}
+use Rattle.std.specs.declared.cmp.Ordering.{Ordering}
+
+-- whether the group has the subject
+abbrev pub holds : ℕ → ℕ → List (ℕ × ℕ) → Bool
+holds g s pairs = list_any (λ (p : ℕ × ℕ). (p.0 == g) && (p.1 == s)) pairs
+
+-- the subjects of a group, by id
+abbrev pub subjects_of : ℕ → List (ℕ × ℕ) → List ℕ
+subjects_of g pairs = map (λ (p : ℕ × ℕ). p.1) (filter (λ (p : ℕ × ℕ). p.0 == g) pairs)
+
+-- by group, and then by subject
+abbrev pub pair_cmp : ℕ × ℕ → ℕ × ℕ → Ordering
+pair_cmp a b = ordering_then (nat_cmp a.0 b.0) (nat_cmp a.1 b.1)
+
+-- in order, each pair once, and of 32 bits
+pub record IsKept (pairs : List (ℕ × ℕ)) : Type 0 where
+  pub ordered : IsStrictlySortedBy pair_cmp pairs
+  pub small : All (λ (p : ℕ × ℕ). p.1 < 2 ^ 32) pairs

@@ -1,0 +1,102 @@
+// A set of subjects for each group.
+ghost use Rattle.std.specs.Prelude.{◌≡◌, ◌+◌, ◌≤◌, ◌==◌, ◌&&◌, ◌||◌, not, [], ℕ, IfOk, OnOk, OnErr, length};
+ghost use Rattle.std.specs.List.{list_any};
+ghost use Rattle.std.specs.List.Sorted.{IsStrictlySortedBy};
+ghost use Rattle.std.specs.Ordering.{nat_cmp};
+ghost use Rattle.reg_graph.specs.Sets.{holds, subjects_of};
+
+use reg_base::{GroupId, Steps, SubjectId};
+use std::alloc::{AllocError, Global};
+use std::collections::BTreeSet;
+use std::marker::Model;
+use std::sync::ledger::Ledger;
+
+/// An ordered set of subjects for each group. Contracts see the pairs (group, subject) in order.
+/// Every use ticks once for each subject that is tested, added, removed or listed.
+#[derive(Drop)]
+pub struct Sets {
+    alloc: Global,
+    pairs: BTreeSet<(u32, u32)>,
+}
+
+impl Model for Sets {
+    ghost use Rattle.std.specs.Prelude.{List, ℕ};
+    ghost use Rattle.reg_graph.specs.Sets.{IsKept};
+
+    ghost Value = { List (ℕ × ℕ) };
+
+    ghost view = { λ s. s.pairs.keys };
+
+    ghost invariant = { λ s. IsKept s.pairs.keys };
+}
+
+impl Sets {
+    /// No group has a subject. Takes no memory.
+    pub fn new(alloc: Global) -> Sets
+        ensures { result ≡ [] }
+    {
+        Sets {
+            alloc,
+            pairs: BTreeSet::new(alloc),
+        }
+    }
+
+    /// Whether the group has the subject: one step, no memory.
+    pub fn has<L: Ledger>(&self, g: GroupId, s: SubjectId, steps: &mut Steps<L>) -> bool
+        ensures value { result ≡ holds g s self.now }
+        ensures cost { steps.new ≡ steps.old + 1 }
+    {
+        steps.tick(); // one subject tested
+        self.pairs.contains(&(g.number(), s.number()))
+    }
+
+    /// Adds the subject to the group, which may have it already: one step. Out of memory the sets
+    /// stay as they were.
+    pub fn add<L: Ledger>(
+        &mut self,
+        g: GroupId,
+        s: SubjectId,
+        steps: &mut Steps<L>,
+    ) -> Result<(), AllocError>
+        ensures added { OnOk result ((x y : ℕ) → holds x y self.new
+            ≡ (((x == g) && (y == s)) || holds x y self.old)) }
+        ensures err { OnErr result (self.new ≡ self.old) }
+        ensures cost { steps.new ≡ steps.old + 1 }
+    {
+        steps.tick(); // one subject added
+        self.pairs.insert((g.number(), s.number()))?;
+        Ok(())
+    }
+
+    /// Takes the subject out of the group, which may lack it: one step, no memory.
+    pub fn remove<L: Ledger>(&mut self, g: GroupId, s: SubjectId, steps: &mut Steps<L>)
+        ensures removed { (x y : ℕ) → holds x y self.new
+            ≡ (not ((x == g) && (y == s)) && holds x y self.old) }
+        ensures cost { steps.new ≡ steps.old + 1 }
+    {
+        steps.tick(); // one subject removed
+        self.pairs.remove(&(g.number(), s.number()));
+    }
+
+    /// The subjects of the group, by id, each once: a step for each. Out of memory no more steps
+    /// are taken than there are subjects.
+    pub fn list<L: Ledger>(
+        &self,
+        g: GroupId,
+        steps: &mut Steps<L>,
+    ) -> Result<Vec<SubjectId>, AllocError>
+        ensures value { IfOk result (λ v. v.items ≡ subjects_of g self.now) }
+        ensures each { IfOk result (λ v. (s : ℕ) →
+            list_any (λ x. x == s) v.items ≡ holds g s self.now) }
+        ensures sorted { IfOk result (λ v. IsStrictlySortedBy nat_cmp v.items) }
+        ensures cost { IfOk result (λ v. steps.new ≡ steps.old + length v.items) }
+        ensures err { OnErr result (steps.new ≤ steps.old + length (subjects_of g self.now)) }
+    {
+        let mut subjects = Vec::new(self.alloc);
+        for pair in self.pairs.range((g.number(), 0)..=(g.number(), u32::MAX)) {
+            steps.tick(); // one subject listed
+            subjects.push(SubjectId::new(pair.1))?;
+        }
+        Ok(subjects)
+    }
+}
