@@ -68,6 +68,11 @@ taken_more left mid now p q r a b c count n piece done read long fed = record {
 pub took_taken : (left now : Option (List ℕ)) (p q : Point) (a b : PendingLine) (count : ℕ) → HasTaken left now p q a b count → Took left now count
 took_taken left now p q a b count done = (done.taken, done.input, done.counted)
 
+-- a read of nothing takes nothing more
+pub took_none : (old mid now : Option (List ℕ)) (n k : ℕ) (bs : List ℕ) → Took old mid n → mid ≡ prepend_known (take k bs) now → k ≡ 0 → Took old now n
+took_none old mid None n k bs t e z = rw e at t
+took_none old mid (Some rest) n k bs t e z = let same : mid ≡ Some rest = rw z at e in rw same at t
+
 -- where no lines are left, what is written is all
 ends : (w ms : Option (List ℕ)) (s : State) → MayWrite w ms s [] w
 ends None ms s = refl

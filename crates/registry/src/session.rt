@@ -142,7 +142,7 @@ fn feed_line<K: Sink, C: Clock>(
     ensures some { IfOk result (λ after. 0 < length bytes.now → 0 < after.2) }
     ensures fed { IfOk result (λ after.
         Feeds (record { written = K.written out.old; moments = C.moments clock.old; state = service }) line (take after.2 bytes.now)
-            (record { written = K.written out.new; moments = C.moments clock.new; state = after.0 }) after.1) }
+        (record { written = K.written out.new; moments = C.moments clock.new; state = after.0 }) after.1) }
     ensures count { K.write_faults out.old ≤ K.write_faults out.new }
     ensures output { IfErr result (λ e. e ≡ Stop.Output → Rose (K.write_faults out.old) (K.write_faults out.new)) }
     ensures others { IfErr result (λ e. (e ≡ Stop.Memory) ⊎ (e ≡ Stop.Output)) }
@@ -168,7 +168,7 @@ pub fn feed<K: Sink, C: Clock>(
 ) -> Result<(Service, PendingLine), Stop>
     ensures fed { IfOk result (λ after.
         Feeds (record { written = K.written out.old; moments = C.moments clock.old; state = service }) line piece.now
-            (record { written = K.written out.new; moments = C.moments clock.new; state = after.0 }) after.1) }
+        (record { written = K.written out.new; moments = C.moments clock.new; state = after.0 }) after.1) }
     ensures count { K.write_faults out.old ≤ K.write_faults out.new }
     ensures output { IfErr result (λ e. e ≡ Stop.Output → Rose (K.write_faults out.old) (K.write_faults out.new)) }
     ensures others { IfErr result (λ e. (e ≡ Stop.Memory) ⊎ (e ≡ Stop.Output)) }

@@ -1,6 +1,6 @@
 use Rattle.std.proofs.Common.{arith, rules}
 use Rattle.std.proofs.lemmas.List.{length-take-le}
-use Rattle.registry.proofs.Feeding.{at_end_before, taken_more, written_all}
+use Rattle.registry.proofs.Feeding.{at_end_before, taken_more, took_none, took_taken, written_all}
 use Rattle.registry.proofs.run.apply.Goals as goal
 
 -- the input has ended, and all its lines are answered
@@ -11,6 +11,14 @@ returns-then-count-eq0-clause-written g c =
     c.loop-taken.invariant.done c.loop-taken.invariant.held
     (at_end_before (left c.loop-taken.input) (left c.read_some.new.input) _ _ c.in_ok-count.ensures.bytes c.if-count-eq0.true (c.in_ok-count.ensures.end c.if-count-eq0.true))
     c.in_ok-finish.ensures.answered
+
+-- fewer bytes than the limit were taken
+pub returns-then-count-eq0-clause-few : goal.returns-then-count-eq0-clause-few
+returns-then-count-eq0-clause-few g c = (
+  c.loop-taken.taken,
+  c.loop-taken-test.true,
+  took_none _ _ _ _ _ _ (took_taken _ _ _ _ _ _ _ c.loop-taken.invariant.done) c.in_ok-count.ensures.bytes c.if-count-eq0.true,
+)
 
 -- one piece more was taken
 pub loop-taken-preserved : goal.loop-taken-preserved

@@ -10,7 +10,7 @@ invariant-loop-at g l =
     let faults = g.K.Sink.write_faults in
     record {
       fed : Feeds (record { written = written l.fn.out; moments = moments l.fn.clock; state = l.fn.service }) l.fn.line (take l.at l.piece)
-            (record { written = written l.out; moments = moments l.clock; state = l.service }) l.line;
+          (record { written = written l.out; moments = moments l.clock; state = l.service }) l.line;
       within : l.at ≤ length l.piece;
       count : faults l.fn.out ≤ faults l.out;
     }
