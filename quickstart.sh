@@ -12,9 +12,9 @@ stop() {
 
 command -v rt > /dev/null || stop "the kit's command rt is not on the PATH"
 
-echo "== Step 1 of 3: prove the seven crates, lowest first."
-echo "   From nothing this takes 11 processor minutes, and took 12 minutes on four busy processors;"
-echo "   with nothing changed since it takes half a minute. The check says how far it is."
+echo "== Step 1 of 3: prove the nine crates, lowest first."
+echo "   From nothing this takes long (docs/PROVING.md has each crate's minutes); with nothing changed"
+echo "   since it is short. The check says how far it is."
 before=$(date +%s)
 rt all check || stop "a crate was not proved; the lines above say where"
 echo "   proved in $(($(date +%s) - before)) seconds"
