@@ -1,5 +1,5 @@
 -- What a line is as data.
-use Rattle.std.proofs.Common.{◌≡◌, ◌≤◌, ◌<◌, ℕ, List, [], Option, Some, None, Bool, true, false, Result, Ok, Err, length, is_some, refl, ap, sym, ◌∙◌, leb, cond, if◌then◌else◌, ◌&&◌, rules}
+use Rattle.std.proofs.Common.{◌≡◌, ◌≤◌, ◌<◌, ℕ, List, [], Some, None, Bool, true, false, Result, Ok, Err, length, is_some, refl, leb, cond, ◌&&◌}
 use Rattle.std.specs.Str.{IsUtf8, is_utf8}
 use Rattle.std.proofs.lemmas.Str.{IsUtf8-from_is_utf8, is_utf8-from_IsUtf8}
 use Rattle.std.proofs.lemmas.Bool.{le-leb, lt-leb}

@@ -1,6 +1,6 @@
 -- What a line asks: a JSON object (RFC 8259) with `op`, `by` and the op's fields, and nothing else.
-use Rattle.std.specs.Prelude.{ℕ, List, [], ◌∷◌, ◌==◌, ◌+◌, ◌&&◌, ◌||◌, Bool, true, false, not, Option, Some, None, Result, Ok, Err, length, take, drop, nat_le, nat_lt, codes, position, option_and_then, if◌then◌else◌, ok_or}
-use Rattle.std.specs.List.{list_any, list_all}
+use Rattle.std.specs.Prelude.{ℕ, List, [], ◌∷◌, ◌&&◌, Bool, true, Option, Some, None, Result, Ok, Err, length, nat_le, codes, option_and_then, if◌then◌else◌, ok_or}
+use Rattle.std.specs.List.{list_any}
 use Rattle.std.specs.Str.{bytes_eq, is_utf8}
 use Rattle.serde_json.specs.Data.{Data, Members, no_members, member}
 use Rattle.serde_json.specs.Read.{read}

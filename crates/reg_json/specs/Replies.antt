@@ -1,5 +1,5 @@
 -- The text of a reply: compact JSON (RFC 8259) whose keys ascend by bytes.
-use Rattle.std.specs.Prelude.{ℕ, List, map, Option, Some, None, Bool, true, codes}
+use Rattle.std.specs.Prelude.{ℕ, List, map, true, codes}
 use Rattle.serde_json.specs.Data.{Data, Items, array, object, member, no_members, number, unsigned, boolean, string}
 use Rattle.serde_json.specs.View.{items_of}
 use Rattle.serde_json.specs.Written.{compact_text}

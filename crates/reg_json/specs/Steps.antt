@@ -1,5 +1,5 @@
 -- Reading in steps, with the first fault that is met.
-use Rattle.std.specs.Prelude.{◌≡◌, ℕ, List, Bool, true, false, Result, Ok, Err, if◌then◌else◌}
+use Rattle.std.specs.Prelude.{◌≡◌, ℕ, List, Bool, true, Result, Ok, Err, if◌then◌else◌}
 use Rattle.reg_facts.specs.declared.refusal.Refusal.{Refusal}
 use Rattle.reg_facts.specs.declared.refusal.Refusal.TheVariants.{BadRequest}
 use Rattle.reg_json.specs.declared.fault.ReadFault.{ReadFault}

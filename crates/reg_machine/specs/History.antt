@@ -1,5 +1,5 @@
 -- Histories: the facts that they give, and the first refusal of a command after them.
-use Rattle.std.specs.Prelude.{ℕ, List, [], ◌∷◌, ◌++◌, Bool, true, false, Option, Some, None, length, nat_le, codes, not, is_some, if◌then◌else◌}
+use Rattle.std.specs.Prelude.{ℕ, List, [], ◌∷◌, ◌++◌, Bool, Option, Some, None, length, nat_le, codes, not, is_some, if◌then◌else◌}
 use Rattle.reg_facts.specs.Facts as the_facts
 use Rattle.reg_facts.specs.Facts.{Lists, edit, subject_id, group_id, has_row, row_of, max_subjects, max_groups, max_rows}
 use Rattle.reg_facts.specs.declared.command.Stamped.{Stamped}

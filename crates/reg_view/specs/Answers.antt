@@ -1,5 +1,5 @@
 -- What a query is answered over the facts.
-use Rattle.std.specs.Prelude.{ℕ, List, Option, Some, None, Result, Ok, Err}
+use Rattle.std.specs.Prelude.{ℕ, List, Some, None, Result, Ok, Err}
 use Rattle.reg_facts.specs.Facts.{Lists, group_id, member_texts}
 use Rattle.reg_facts.specs.declared.refusal.Refusal.{Refusal}
 use Rattle.reg_facts.specs.declared.refusal.Refusal.TheVariants.{NotFound}

@@ -1,7 +1,6 @@
 -- From line to line of a run.
-use Rattle.std.proofs.Common.{◌≡◌, ◌≢◌, ◌++◌, ◌∷◌, [], List, ℕ, Option, Some, None, Bool, true, false, refl, ap, append_assoc, option_map, sym, Result, Ok, Err, ◌∙◌, ◌⊎◌, inl, inr, max}
+use Rattle.std.proofs.Common.{◌≡◌, ◌≢◌, ◌++◌, ◌∷◌, [], List, ℕ, Option, Some, None, true, false, refl, ap, append_assoc, option_map, Result, Ok, Err, ◌∙◌, ◌⊎◌, inl, inr}
 use Rattle.std.specs.Prelude.{IfSome, All}
-use Rattle.std.specs.Io.KnownBytes.{append_known}
 use Rattle.std.proofs.lemmas.List.Elements.{All-head, All-tail}
 use Rattle.reg_outside.specs.Streams.{first_moment, later_moments}
 use Rattle.reg_facts.specs.declared.refusal.Refusal.{Refusal}
@@ -14,7 +13,7 @@ use Rattle.reg_view.specs.declared.request.Op.TheVariants as op
 use Rattle.reg_view.specs.declared.reply.Reply.{Reply}
 use Rattle.reg_view.specs.declared.reply.Reply.TheVariants as reply
 use Rattle.reg_json.specs.Reading.{reading_of}
-use Rattle.registry.specs.Lines.{is_skipped, readings}
+use Rattle.registry.specs.Lines.{is_skipped}
 use Rattle.registry.specs.Turn.{at_moment, decided, requested, turn, Turns, Follows}
 use Rattle.registry.specs.declared.service.Next.{Next}
 use Rattle.registry.specs.declared.service.Next.TheVariants as next

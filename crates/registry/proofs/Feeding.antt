@@ -1,16 +1,16 @@
 -- From byte to byte of a run.
-use Rattle.std.proofs.Common.{◌≡◌, ◌≢◌, ◌++◌, ◌∷◌, ◌==◌, [], List, ℕ, Option, Some, None, Bool, true, false, refl, ap, append_assoc, append-nil, sym, ◌∙◌, ◌+◌, ◌<◌, take, length, length-append, drop, arith}
+use Rattle.std.proofs.Common.{◌≡◌, ◌≢◌, ◌++◌, ◌∷◌, ◌==◌, [], List, ℕ, Option, Some, None, false, refl, ap, append_assoc, append-nil, sym, ◌∙◌, ◌+◌, ◌<◌, take, length, length-append, drop, arith}
 use Rattle.std.specs.Prelude.{IfSome, All, unwrap_or, slice_index}
 use Rattle.std.proofs.lemmas.List.{take_more}
 use Rattle.std.proofs.Math.Seq.{take-add}
 use Rattle.std.proofs.lemmas.Bool.{ne_eqb}
 use Rattle.std.proofs.lemmas.List.Elements.{All-head, All-tail}
-use Rattle.std.specs.Io.KnownBytes.{append_known, prepend_known, IsAtEnd}
+use Rattle.std.specs.Io.KnownBytes.{prepend_known, IsAtEnd}
 use Rattle.reg_machine.specs.History.{State}
 use Rattle.registry.specs.Lines.{lines_from, lines, asked}
 use Rattle.registry.specs.Pending.{Holds}
 use Rattle.registry.specs.Turn.{start}
-use Rattle.registry.specs.Run.{Point, MayWrite, Leads, AnswersLine, Feeds, HasTaken, Took, Written}
+use Rattle.registry.specs.Run.{Point, MayWrite, AnswersLine, Feeds, HasTaken, Took, Written}
 use Rattle.registry.specs.declared.pending.PendingLine.{PendingLine}
 use Rattle.registry.proofs.Answering.{answers_exact}
 use Rattle.registry.proofs.Cutting.{lines_are_cut}

@@ -1,5 +1,5 @@
 -- Lines that are too long.
-use Rattle.std.proofs.Common.{◌≡◌, ◌<◌, ◌∷◌, ◌++◌, append-nil, [], List, ℕ, false, Result, Err, arith, length, refl}
+use Rattle.std.proofs.Common.{◌≡◌, ◌<◌, ◌∷◌, ◌++◌, append-nil, [], List, ℕ, false, Err, arith, length, refl}
 use Rattle.reg_facts.specs.declared.refusal.Refusal.TheVariants.{BadRequest}
 use Rattle.reg_json.specs.Reading.{max_line, reading_of}
 use Rattle.reg_json.proofs.Lines.{reading_long}

@@ -1,5 +1,5 @@
 -- What is kept of the line that is being read.
-use Rattle.std.specs.Prelude.{◌≡◌, ◌<◌, ℕ, List, length, Bool, true, false, Result, Ok, Err}
+use Rattle.std.specs.Prelude.{◌≡◌, ◌<◌, ℕ, List, length, Ok, Err}
 use Rattle.reg_json.specs.Reading.{reading_of, max_line}
 use Rattle.registry.specs.Lines.{is_skipped}
 use Rattle.registry.specs.declared.pending.PendingLine.{PendingLine}

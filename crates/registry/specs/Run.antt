@@ -1,5 +1,5 @@
 -- A whole run: the replies to all lines, and the bytes that they are written as.
-use Rattle.std.specs.Prelude.{◌≡◌, ◌≢◌, ◌⊎◌, ℕ, List, [], ◌∷◌, ◌++◌, All, Option, Some, None, Result, Ok, Err, Bool, true, false, length}
+use Rattle.std.specs.Prelude.{◌≡◌, ◌≢◌, ◌⊎◌, ℕ, List, [], ◌∷◌, ◌++◌, All, Option, Some, None, Result, Bool, true, false, length}
 use Rattle.std.specs.Io.KnownBytes.{prepend_known, append_known}
 use Rattle.reg_outside.specs.Streams.{first_moment, later_moments}
 use Rattle.reg_facts.specs.declared.refusal.Refusal.{Refusal}

@@ -1,5 +1,5 @@
 -- One request: the reply, and the registry after it.
-use Rattle.std.specs.Prelude.{◌≡◌, ◌⊎◌, ℕ, List, [], ◌∷◌, ◌++◌, Option, Some, None, Result, Ok, Err, length, max, Bool, true, false}
+use Rattle.std.specs.Prelude.{◌≡◌, ◌⊎◌, ℕ, [], ◌∷◌, ◌++◌, Option, Some, None, Result, Ok, Err, length, max}
 use Rattle.reg_base.specs.declared.entity.Entity.{Entity}
 use Rattle.reg_facts.specs.declared.command.Command.{Command}
 use Rattle.reg_facts.specs.declared.command.Stamped.{Stamped}

@@ -1,4 +1,4 @@
-use Rattle.std.proofs.Common.{◌≡◌, ◌≤◌, ◌-◌, ◌^◌, []}
+use Rattle.std.proofs.Common.{◌≤◌, ◌-◌, ◌^◌, []}
 use Rattle.registry.specs.Pending.{Holds}
 use Rattle.registry.specs.Turn.{start}
 use Rattle.registry.specs.Run.{HasTaken}

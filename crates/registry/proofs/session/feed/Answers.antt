@@ -1,4 +1,4 @@
-use Rattle.std.proofs.Common.{◌≤◌, length, drop, arith, rules, length-drop}
+use Rattle.std.proofs.Common.{arith, rules, length-drop}
 use Rattle.registry.proofs.Feeding.{feeds_from}
 use Rattle.registry.proofs.session.feed.Goals as goal
 
