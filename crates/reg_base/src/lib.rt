@@ -10,6 +10,7 @@ mod moment_text;
 mod name;
 mod name_parts;
 mod names;
+mod privilege;
 mod steps;
 mod text;
 
@@ -20,5 +21,6 @@ pub use moment::Moment;
 pub use name::Name;
 pub use name_parts::{extension_of, folder_of};
 pub use names::{is_extension, is_name, is_person};
+pub use privilege::Privilege;
 pub use steps::Steps;
 pub use text::Text;

@@ -51,7 +51,8 @@ impl Name {
 
     /// The same as a string slice. It takes no memory.
     pub fn as_str(&self) -> &str
-        ensures { result.now ≡ self.now }
+        ensures value { result.now ≡ self.now }
+        ensures is_name { IsTrue (is_name result.now) }
     {
         self.string.as_str()
     }
