@@ -1,39 +1,54 @@
 #!/bin/sh
-# Proves every crate, builds the program, and runs it on the four lines of crates/registry/stdin.
-# It needs the kit's command rt on the PATH, and nothing else.
+# Proves every crate that the program stands on, builds the program, and shows a journal that outlives
+# the run: begin it, add to it, stop, ask again, check it. It needs the kit's command rt on the PATH,
+# and nothing else.
 set -u
 cd "$(dirname "$0")" || exit 1
 top=$(pwd)
+program=$top/crates/registry/out/registry
 
 stop() {
     echo "quickstart: $1" >&2
     exit 1
 }
 
+# shows a command of the program, its output and its status, and stops where the status isn't 0
+show() {
+    echo "   registry journal $*"
+    "$program" "$folder/journal" "$@" | sed 's/^/      /'
+    "$program" "$folder/journal" check > /dev/null || stop "the journal doesn't open"
+}
+
 command -v rt > /dev/null || stop "the kit's command rt is not on the PATH"
 
-echo "== Step 1 of 3: prove the program and the six crates that it stands on."
-echo "   From nothing this takes about 12 processor minutes; with nothing changed since it takes"
+echo "== Step 1 of 3: prove the program and the crates that it stands on."
+echo "   From nothing this takes about 20 processor minutes; with nothing changed since it takes"
 echo "   half a minute. The check says how far it is."
 before=$(date +%s)
 (cd crates/registry && rt check) || stop "a crate was not proved; the lines above say where"
 echo "   proved in $(($(date +%s) - before)) seconds"
 
-echo "== Step 2 of 3: build the program and run it on these lines:"
-sed 's/^/   /' crates/registry/stdin
-echo "   (the program's words: journal apply; the word for the journal file is taken and not used yet)"
-before=$(date +%s)
-replies=$(cd crates/registry && rt run -- journal apply < stdin)
-status=$?
-echo "   built and run in $(($(date +%s) - before)) seconds, exit status $status"
-[ "$status" -eq 0 ] || stop "the program ended with status $status"
+folder=$(mktemp -d) || stop "no folder for the journal"
+trap 'rm -rf "$folder"' EXIT
 
-echo "== Step 3 of 3: its replies, one for each line:"
-echo "$replies" | sed 's/^/   /'
-if [ "$replies" != "$(cat crates/registry/stdout)" ]; then
-    stop "these are not the replies of crates/registry/stdout"
-fi
-echo "   they are those of crates/registry/stdout"
+echo "== Step 2 of 3: build the program, and begin a journal."
+before=$(date +%s)
+(cd crates/registry && rt run -- "$folder/journal" init) || stop "no journal was begun"
+echo "   built and run in $(($(date +%s) - before)) seconds"
+
+echo "== Step 3 of 3: a journal outlives the run."
+echo "   One run adds a person, a group and a membership:"
+show apply <<'LINES'
+{"by":"g:isa/GrouperSystem","op":"subject.add","subject":"uni/ann","display":"Ann"}
+{"by":"g:isa/GrouperSystem","op":"group.add","group":"staff"}
+{"by":"g:isa/GrouperSystem","op":"member.add","group":"staff","member":"uni/ann"}
+LINES
+echo "   It has ended. Others ask the same journal, and check it:"
+show members staff
+show check
+found=$("$program" "$folder/journal" members staff)
+[ "$found" = '{"members":["uni/ann"],"ok":true}' ] || stop "the membership is gone: $found"
 echo
-echo "The program is $top/crates/registry/out/registry. On lines of your own:"
-echo "    crates/registry/out/registry journal apply < lines"
+echo "The program is $program. With a journal of your own:"
+echo "    $program journal init"
+echo "    $program journal apply < lines"

@@ -1,7 +1,9 @@
 #!/bin/sh
-# Times the built program on 2,000 group.add, 20,000 subject.add and 40,000 member.add lines, with a
-# members line after every hundredth of them. Prints lines a second and the peak memory.
-# Build the program first (./quickstart.sh). SUBJECTS, GROUPS_MADE and ROWS set other sizes.
+# Times the built program on 1,000 folder.add, 2,000 group.add (two in each folder), 20,000 subject.add
+# and 40,000 member.add lines, with a members line after every hundredth once the groups stand; then, over the same
+# journal, on 50,000 renames and moves of groups and folders. Prints lines a second and the peak memory.
+# The journal lies in memory (/dev/shm), so that the disk's syncs aren't measured: bench/durable.sh does.
+# Build the program first (./quickstart.sh). FOLDERS, SUBJECTS, GROUPS_MADE, ROWS and MOVES set other sizes.
 set -u
 cd "$(dirname "$0")/.." || exit 1
 program=$(pwd)/crates/registry/out/registry
@@ -9,7 +11,7 @@ program=$(pwd)/crates/registry/out/registry
     echo "apply.sh: no $program: run ./quickstart.sh first" >&2
     exit 1
 }
-exec python3 - "$program" "${SUBJECTS:-20000}" "${GROUPS_MADE:-2000}" "${ROWS:-40000}" <<'PYTHON'
+exec python3 - "$program" "${FOLDERS:-1000}" "${SUBJECTS:-20000}" "${GROUPS_MADE:-2000}" "${ROWS:-40000}" "${MOVES:-50000}" <<'PYTHON'
 import json
 import os
 import resource
@@ -18,7 +20,7 @@ import sys
 import tempfile
 import time
 
-program, subjects, groups, rows = sys.argv[1], *map(int, sys.argv[2:])
+program, folders, subjects, groups, rows, moves = sys.argv[1], *map(int, sys.argv[2:])
 SYSTEM = "g:isa/GrouperSystem"
 
 
@@ -26,11 +28,17 @@ def subject(n):
     return "uni/p%05d" % (n % subjects)
 
 
+def folder(n):
+    return "f%04d" % (n % folders)
+
+
 def group(n):
-    return "g%04d" % (n % groups)
+    return "%s:g%04d" % (folder(n), n % groups)
 
 
 def commands():
+    for n in range(folders):
+        yield {"op": "folder.add", "folder": folder(n)}
     for n in range(groups):
         yield {"op": "group.add", "group": group(n), "display": "Group %d" % n}
     for n in range(subjects):
@@ -43,8 +51,27 @@ def commands():
 def lines():
     for n, command in enumerate(commands(), 1):
         yield command
-        if n % 100 == 0:
+        if n % 100 == 0 and n > folders + groups:
             yield {"op": "members", "group": group(n // 100 - 1)}
+
+
+def edits():
+    """Renames and moves in turn: a folder renamed and named back, a folder moved below the next and back, and the
+    same of a group."""
+    for n in range(moves // 8):
+        first, last = folder(2 * n), folder(2 * n + 1)
+        if first == last:
+            last = folder(2 * n + 2)
+        own = group(2 * n)
+        extension = own.split(":")[1]
+        yield {"op": "folder.rename", "folder": first, "extension": first + "-renamed"}
+        yield {"op": "folder.rename", "folder": first + "-renamed", "extension": first}
+        yield {"op": "folder.move", "folder": first, "to": last}
+        yield {"op": "folder.move", "folder": last + ":" + first, "to": ":"}
+        yield {"op": "group.rename", "group": own, "extension": extension + "-renamed"}
+        yield {"op": "group.rename", "group": own + "-renamed", "extension": extension}
+        yield {"op": "group.move", "group": own, "to": ":"}
+        yield {"op": "group.move", "group": extension, "to": own.split(":")[0]}
 
 
 def peak_of(process):
@@ -59,16 +86,17 @@ def peak_of(process):
     return 0
 
 
-with tempfile.TemporaryDirectory() as folder:
-    into, out = os.path.join(folder, "lines"), os.path.join(folder, "replies")
+def measured(title, requests, journal, place):
+    into, out = os.path.join(place, "lines"), os.path.join(place, "replies")
     count = 0
     with open(into, "w") as file:
-        for line in lines():
+        for line in requests:
             file.write(json.dumps({"by": SYSTEM, **line}, separators=(",", ":")) + "\n")
             count += 1
+    start = resource.getrusage(resource.RUSAGE_CHILDREN)
     before = time.time()
     with open(into, "rb") as source, open(out, "wb") as sink:
-        process = subprocess.Popen([program, "journal", "apply"], stdin=source, stdout=sink)
+        process = subprocess.Popen([program, journal, "apply"], stdin=source, stdout=sink)
         peak = 0
         while process.poll() is None:
             peak = max(peak, peak_of(process))
@@ -77,17 +105,26 @@ with tempfile.TemporaryDirectory() as folder:
     seconds = time.time() - before
     used = resource.getrusage(resource.RUSAGE_CHILDREN)
     replies = [json.loads(line) for line in open(out)]
+    accepted = sum("number" in r for r in replies)
+    answered = sum("members" in r for r in replies)
+    members = sum(len(r.get("members", [])) for r in replies)
+    print(title)
+    print("  lines in           %d" % count)
+    print("  exit status        %d" % status)
+    print("  replies            %d: %d commands accepted, %d lists of members with %d names, %d other"
+          % (len(replies), accepted, answered, members, len(replies) - accepted - answered))
+    print("  seconds            %.1f (%.1f of a processor)"
+          % (seconds, used.ru_utime + used.ru_stime - start.ru_utime - start.ru_stime))
+    print("  lines a second     %d" % (count / seconds))
+    print("  peak memory        %.1f MB" % (peak * 1024 / 1e6))
+    return status == 0 and accepted + answered == count
 
-accepted = sum("number" in r for r in replies)
-answered = sum("members" in r for r in replies)
-members = sum(len(r.get("members", [])) for r in replies)
-print("lines in           %d" % count)
-print("exit status        %d" % status)
-print("replies            %d: %d commands accepted, %d lists of members with %d names, %d other"
-      % (len(replies), accepted, answered, members, len(replies) - accepted - answered))
-print("seconds            %.1f (%.1f of a processor)" % (seconds, used.ru_utime + used.ru_stime))
-print("lines a second     %d" % (count / seconds))
-print("peak memory        %.1f MB" % (peak * 1024 / 1e6))
+
+with tempfile.TemporaryDirectory(dir="/dev/shm") as place:
+    journal = os.path.join(place, "journal")
+    subprocess.run([program, journal, "init"], check=True)
+    added = measured("adding", lines(), journal, place)
+    edited = measured("renaming and moving", edits(), journal, place)
 print("processors         %d" % os.cpu_count())
-sys.exit(0 if status == 0 and accepted == subjects + groups + rows and accepted + answered == count else 1)
+sys.exit(0 if added and edited else 1)
 PYTHON

@@ -1,24 +1,32 @@
 -- What the maps beside the lists hold.
-use Rattle.std.specs.Prelude.{◌≡◌, ℕ, List, Option, Bool, ◌==◌, ◌&&◌}
+use Rattle.std.specs.Prelude.{ℕ, ◌+◌, ◌*◌, List, Option, Bool, ◌==◌, ◌&&◌, slice_get, option_and_then}
 use Rattle.std.specs.List.{list_any}
 use Rattle.std.specs.BTreeMap.{get_by_text}
+use Rattle.reg_facts.specs.declared.by_extension.ByExtension.{ByExtension}
+use Rattle.reg_facts.specs.declared.children.Children.{Children}
 use Rattle.reg_facts.specs.declared.text_index.TextIndex.{TextIndex}
-use Rattle.reg_facts.specs.declared.pair_set.PairSet.{PairSet}
-use Rattle.reg_facts.specs.declared.rows.SubjectRow.{SubjectRow}
-use Rattle.reg_facts.specs.declared.rows.GroupRow.{GroupRow}
-use Rattle.reg_facts.specs.declared.rows.MemberRow.{MemberRow}
-use Rattle.reg_facts.specs.Facts.{subject_id, group_id, has_row}
+use Rattle.reg_facts.specs.declared.row_set.RowSet.{RowSet}
+use Rattle.reg_facts.specs.declared.kinds.Object.{Object}
+use Rattle.reg_facts.specs.declared.kinds.Member.{Member}
+use Rattle.reg_facts.specs.declared.kinds.Member.TheVariants.{Person, Group}
+
+-- the object that a folder's index has under an extension
+abbrev pub found : ByExtension → List ℕ → Option Object
+found index e = get_by_text index.objects e
+
+-- the object that an index has in a folder under an extension
+abbrev pub found_child : Children → ℕ → List ℕ → Option Object
+found_child index d e = option_and_then (λ (i : ByExtension). found i e) (slice_get index.folders.items d)
 
 -- the number that an index has for a text
-abbrev pub found : TextIndex → List ℕ → Option ℕ
-found index text = get_by_text index.numbers text
+abbrev pub numbered : TextIndex → List ℕ → Option ℕ
+numbered index text = get_by_text index.numbers text
 
--- whether a set has a pair
-abbrev pub has_pair : PairSet → ℕ → ℕ → Bool
-has_pair set g s = list_any (λ (p : ℕ × ℕ). (p.0 == g) && (p.1 == s)) set.pairs.keys
+-- a number for each member: even ones for persons, odd ones for groups
+abbrev pub member_key : Member → ℕ
+member_key (Person s) = 2 * s
+member_key (Group g) = 2 * g + 1
 
--- the maps find what the lists hold
-pub record AreIndexed (subject_index group_index : TextIndex) (pairs : PairSet) (subjects : List SubjectRow) (groups : List GroupRow) (rows : List MemberRow) : Type 0 where
-  pub subjects_found : (text : List ℕ) → found subject_index text ≡ subject_id text subjects
-  pub groups_found : (text : List ℕ) → found group_index text ≡ group_id text groups
-  pub rows_found : (g s : ℕ) → has_pair pairs g s ≡ has_row g s rows
+-- whether a set has a membership
+abbrev pub has_pair : RowSet → ℕ → Member → Bool
+has_pair set g m = list_any (λ (p : ℕ × ℕ). (p.0 == g) && (p.1 == member_key m)) set.pairs.keys

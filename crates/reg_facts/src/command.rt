@@ -1,12 +1,20 @@
 // Commands and stamped commands.
-use reg_base::{Entity, Moment, Text};
+use reg_base::{Entity, Moment, Name, Text};
 
-/// What changes the facts (`docs/REQUESTS.md`). Its fields are texts that were checked in reading.
+/// What changes the facts (`docs/REQUESTS.md`). A folder is named by its name, or `:` for the root.
 #[derive(Debug, Drop)]
 pub enum Command {
-    SubjectAdd { subject: Text, display: Text },
-    GroupAdd { group: Text, display: Text },
-    MemberAdd { group: Text, member: Text },
+    FolderAdd { folder: Name, display: Text },
+    FolderRename { folder: Text, extension: Text },
+    FolderMove { folder: Text, to: Text },
+    FolderDelete { folder: Text },
+    SubjectAdd { subject: Entity, display: Text },
+    GroupAdd { group: Name, display: Text },
+    GroupRename { group: Name, extension: Text },
+    GroupMove { group: Name, to: Text },
+    GroupDelete { group: Name },
+    MemberAdd { group: Name, member: Entity },
+    MemberRemove { group: Name, member: Entity },
 }
 
 /// An accepted command, with the moment at which it acts and who gave it.

@@ -4,18 +4,38 @@ use Rattle.serde_json.specs.Data.{Data, Items, array, object, member, no_members
 use Rattle.serde_json.specs.View.{items_of}
 use Rattle.serde_json.specs.Written.{compact_text}
 use Rattle.reg_facts.specs.declared.refusal.Refusal.{Refusal}
-use Rattle.reg_facts.specs.declared.refusal.Refusal.TheVariants.{BadRequest, NotFound, Already, Full}
+use Rattle.reg_facts.specs.declared.refusal.Refusal.TheVariants as refusal
 use Rattle.reg_view.specs.declared.query.Answer.{Answer}
 use Rattle.reg_view.specs.declared.query.Answer.TheVariants as answer
 use Rattle.reg_view.specs.declared.reply.Reply.{Reply}
 use Rattle.reg_view.specs.declared.reply.Reply.TheVariants as reply
 
+-- a refusal that carries nothing, by its code and name
+unfoldable pub bare : ℕ → List ℕ → Data
+bare code name = object (member (codes "code") (number (unsigned code)) (member (codes "refused") (string name) no_members))
+
+-- a refusal that carries a text, whose key comes before `refused`
+unfoldable pub naming : ℕ → List ℕ → List ℕ → List ℕ → Data
+naming code key text name = object (member (codes "code") (number (unsigned code)) (member key (string text) (member (codes "refused") (string name) no_members)))
+
 -- a refusal as JSON data
 unfoldable pub refusal_data : Refusal → Data
-refusal_data (BadRequest field) = object (member (codes "code") (number (unsigned 2)) (member (codes "field") (string field) (member (codes "refused") (string (codes "BadRequest")) no_members)))
-refusal_data (NotFound object_text) = object (member (codes "code") (number (unsigned 6)) (member (codes "object") (string object_text) (member (codes "refused") (string (codes "NotFound")) no_members)))
-refusal_data Already = object (member (codes "code") (number (unsigned 12)) (member (codes "refused") (string (codes "Already")) no_members))
-refusal_data (Full kind limit) = object (member (codes "code") (number (unsigned 26)) (member (codes "kind") (string kind) (member (codes "limit") (number (unsigned limit)) (member (codes "refused") (string (codes "Full")) no_members))))
+refusal_data (refusal.TooLong limit) = object (member (codes "code") (number (unsigned 1)) (member (codes "limit") (number (unsigned limit)) (member (codes "refused") (string (codes "TooLong")) no_members)))
+refusal_data (refusal.BadRequest field) = naming 2 (codes "field") field (codes "BadRequest")
+refusal_data (refusal.BadName field) = naming 3 (codes "field") field (codes "BadName")
+refusal_data (refusal.BadMoment field) = naming 4 (codes "field") field (codes "BadMoment")
+refusal_data (refusal.NotFound name) = naming 6 (codes "object") name (codes "NotFound")
+refusal_data refusal.BadWindow = bare 9 (codes "BadWindow")
+refusal_data (refusal.WrongKind field) = naming 10 (codes "field") field (codes "WrongKind")
+refusal_data (refusal.Taken name) = naming 11 (codes "object") name (codes "Taken")
+refusal_data refusal.Already = bare 12 (codes "Already")
+refusal_data refusal.NoSuch = bare 13 (codes "NoSuch")
+refusal_data (refusal.IsComposite name) = naming 14 (codes "object") name (codes "IsComposite")
+refusal_data refusal.HasMembers = bare 15 (codes "HasMembers")
+refusal_data (refusal.Circular name) = naming 16 (codes "object") name (codes "Circular")
+refusal_data (refusal.InUse used) = object (member (codes "code") (number (unsigned 17)) (member (codes "refused") (string (codes "InUse")) (member (codes "use") (string used) no_members)))
+refusal_data refusal.NotEmpty = bare 18 (codes "NotEmpty")
+refusal_data (refusal.Full kind limit) = object (member (codes "code") (number (unsigned 26)) (member (codes "kind") (string kind) (member (codes "limit") (number (unsigned limit)) (member (codes "refused") (string (codes "Full")) no_members))))
 
 -- texts as an array's items
 abbrev pub strings : List (List ℕ) → Items
@@ -23,6 +43,8 @@ strings ts = items_of (map string ts)
 
 -- a query's answer as JSON data
 unfoldable pub answer_data : Answer → Data
+answer_data (answer.GroupGet display name) = object (member (codes "display") (string display) (member (codes "name") (string name) (member (codes "ok") (boolean true) no_members)))
+answer_data (answer.FolderList attributes definitions folders groups) = object (member (codes "attributes") (array (strings attributes)) (member (codes "definitions") (array (strings definitions)) (member (codes "folders") (array (strings folders)) (member (codes "groups") (array (strings groups)) (member (codes "ok") (boolean true) no_members)))))
 answer_data (answer.Members texts) = object (member (codes "members") (array (strings texts)) (member (codes "ok") (boolean true) no_members))
 
 -- a reply as JSON data
@@ -31,6 +53,7 @@ reply_data (reply.Number n) = object (member (codes "number") (number (unsigned 
 reply_data (reply.Answer a) = answer_data a
 reply_data (reply.Refused r) = refusal_data r
 reply_data reply.NoMemory = object (member (codes "fault") (string (codes "memory")) no_members)
+reply_data reply.KeepFault = object (member (codes "fault") (string (codes "disk")) no_members)
 
 -- the text of a reply, without an ending LF
 unfoldable pub text : Reply → List ℕ

@@ -24,7 +24,7 @@ impl From<AllocError> for ReadFault {
     }
 }
 
-ghost use Rattle.reg_json.specs.Steps.{IsBad};
+ghost use Rattle.reg_json.specs.Steps.{IsBad, IsBadName};
 
 /// BadRequest of a field, or no memory to say so.
 pub fn bad(alloc: Global, field: &str) -> ReadFault
@@ -32,6 +32,16 @@ pub fn bad(alloc: Global, field: &str) -> ReadFault
 {
     match Text::new(alloc, field) {
         Ok(field) => ReadFault::Refused(Refusal::BadRequest { field }),
+        Err(_) => ReadFault::Memory,
+    }
+}
+
+/// BadName of a field, or no memory to say so.
+pub fn bad_name(alloc: Global, field: &str) -> ReadFault
+    ensures { IsBadName result field.now }
+{
+    match Text::new(alloc, field) {
+        Ok(field) => ReadFault::Refused(Refusal::BadName { field }),
         Err(_) => ReadFault::Memory,
     }
 }

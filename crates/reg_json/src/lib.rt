@@ -1,9 +1,13 @@
 //! Requests and replies as JSON.
 #![tactic(auto)]
 
+mod commands;
 mod fault;
 mod fields;
+mod forms;
 mod op_kind;
+mod queries;
+mod refusal;
 mod reply;
 mod request;
 mod words;

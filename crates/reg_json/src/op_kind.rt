@@ -3,8 +3,18 @@
 /// What the field `op` names.
 #[derive(Clone, Copy, Debug, PartialEq, Eq)]
 pub enum OpKind {
+    FolderAdd,
+    FolderRename,
+    FolderMove,
+    FolderDelete,
     SubjectAdd,
     GroupAdd,
+    GroupRename,
+    GroupMove,
+    GroupDelete,
     MemberAdd,
+    MemberRemove,
+    GroupGet,
+    FolderList,
     Members,
 }

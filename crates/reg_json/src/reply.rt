@@ -2,31 +2,13 @@
 ghost use Rattle.std.specs.Prelude.{◌≡◌, ◌++◌, ◌∷◌, [], IfOk, string_bytes};
 ghost use Rattle.serde_json.specs.Data.{array};
 ghost use Rattle.serde_json.specs.View.{view};
-ghost use Rattle.reg_json.specs.Replies.{strings, refusal_data, answer_data, reply_data, text};
+ghost use Rattle.reg_json.specs.Replies.{strings, answer_data, reply_data, text};
 
+use crate::refusal::refusal_value;
 use reg_base::Text;
-use reg_facts::Refusal;
 use reg_view::{Answer, Reply};
 use serde_json::{Value, json};
 use std::alloc::{AllocError, Global};
-
-#[tactic(auto, unfolding(crate::specs::Replies::refusal_data))]
-fn refusal_value(alloc: Global, refusal: &Refusal) -> Result<Value, AllocError>
-    ensures { IfOk result (λ v. view v ≡ refusal_data refusal.now) }
-{
-    match refusal {
-        Refusal::BadRequest { field } => {
-            json!(in alloc; {"code": 2u64, "field": field.as_str(), "refused": "BadRequest"})
-        }
-        Refusal::NotFound { object } => {
-            json!(in alloc; {"code": 6u64, "object": object.as_str(), "refused": "NotFound"})
-        }
-        Refusal::Already => json!(in alloc; {"code": 12u64, "refused": "Already"}),
-        Refusal::Full { kind, limit } => {
-            json!(in alloc; {"code": 26u64, "kind": kind.as_str(), "limit": *limit, "refused": "Full"})
-        }
-    }
-}
 
 #[tactic(auto, using(serde_json::specs::declared::value::Value::the_lemmas))]
 fn strings(alloc: Global, texts: &[Text]) -> Result<Value, AllocError>
@@ -45,6 +27,21 @@ fn answer_value(alloc: Global, answer: &Answer) -> Result<Value, AllocError>
     ensures { IfOk result (λ v. view v ≡ answer_data answer.now) }
 {
     match answer {
+        Answer::GroupGet { display, name } => {
+            json!(in alloc; {"display": display.as_str(), "name": name.as_str(), "ok": true})
+        }
+        Answer::FolderList {
+            attributes,
+            definitions,
+            folders,
+            groups,
+        } => {
+            let attributes = strings(alloc, attributes.list())?;
+            let definitions = strings(alloc, definitions.list())?;
+            let folders = strings(alloc, folders.list())?;
+            let groups = strings(alloc, groups.list())?;
+            json!(in alloc; {"attributes": attributes, "definitions": definitions, "folders": folders, "groups": groups, "ok": true})
+        }
         Answer::Members { members } => {
             let texts = strings(alloc, members.list())?;
             json!(in alloc; {"members": texts, "ok": true})
@@ -61,6 +58,7 @@ fn reply_value(alloc: Global, reply: &Reply) -> Result<Value, AllocError>
         Reply::Answer(answer) => answer_value(alloc, answer),
         Reply::Refused(refusal) => refusal_value(alloc, refusal),
         Reply::NoMemory => json!(in alloc; {"fault": "memory"}),
+        Reply::KeepFault => json!(in alloc; {"fault": "disk"}),
     }
 }
 

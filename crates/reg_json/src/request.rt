@@ -2,15 +2,21 @@
 ghost use Rattle.std.specs.Prelude.{◌≡◌, IfOk};
 ghost use Rattle.serde_json.specs.View.{view};
 ghost use Rattle.reg_json.specs.Steps.{Gives};
-ghost use Rattle.reg_json.specs.Reading.{data_of, subject_add, group_add, member_add, members, known_kind, kind_of, op_of, reading_of};
+ghost use Rattle.reg_json.specs.Forms.{IsFormed};
+ghost use Rattle.reg_json.specs.Reading.{data_of, known_kind, kind_of, op_of, reading_of};
 
+use crate::commands::{
+    folder_add, folder_delete, folder_move, folder_rename, group_add, group_delete, group_move,
+    group_rename, member_add, member_remove, subject_add,
+};
 use crate::fault::{ReadFault, bad};
-use crate::fields::{ensured, no_other, text_at, text_or_empty};
+use crate::fields::{ensured, text_at};
 use crate::op_kind::OpKind;
+use crate::queries::{folder_list, group_get, members};
 use crate::words::kind_of;
-use reg_base::{Entity, Text, is_extension, is_person};
-use reg_facts::{Command, Refusal};
-use reg_view::{Op, Query, Request};
+use reg_base::Entity;
+use reg_facts::Refusal;
+use reg_view::{Op, Request};
 use serde_json::Value;
 use std::alloc::{AllocError, Global};
 
@@ -22,7 +28,9 @@ fn data_of(alloc: Global, line: &[u8]) -> Result<Value, ReadFault>
     ensures { Gives view result (data_of line.now) }
 {
     if line.len() > MAX_LINE {
-        return Err(bad(alloc, ""));
+        return Err(ReadFault::Refused(Refusal::TooLong {
+            limit: MAX_LINE as u64,
+        }));
     }
     match Value::from_slice(alloc, line) {
         Ok(value) => {
@@ -42,59 +50,6 @@ fn data_of(alloc: Global, line: &[u8]) -> Result<Value, ReadFault>
     }
 }
 
-#[tactic(auto, unfolding(crate::specs::Reading::subject_add))]
-fn subject_add(alloc: Global, value: &Value) -> Result<Op, ReadFault>
-    ensures { Gives (λ o. o) result (subject_add (view value.now)) }
-{
-    let subject = text_at(alloc, value, "subject")?;
-    ensured(alloc, is_person(subject.as_bytes()), "subject")?;
-    let display = text_or_empty(alloc, value, "display")?;
-    ensured(alloc, display.len() <= 255, "display")?;
-    no_other(alloc, value, &["by", "display", "op", "subject"])?;
-    let subject = Text::new(alloc, subject)?;
-    let display = Text::new(alloc, display)?;
-    Ok(Op::Command(Command::SubjectAdd { subject, display }))
-}
-
-#[tactic(auto, unfolding(crate::specs::Reading::group_add))]
-fn group_add(alloc: Global, value: &Value) -> Result<Op, ReadFault>
-    ensures { Gives (λ o. o) result (group_add (view value.now)) }
-{
-    let group = text_at(alloc, value, "group")?;
-    ensured(alloc, is_extension(group.as_bytes()), "group")?;
-    let display = text_or_empty(alloc, value, "display")?;
-    ensured(alloc, display.len() <= 255, "display")?;
-    no_other(alloc, value, &["by", "display", "group", "op"])?;
-    let group = Text::new(alloc, group)?;
-    let display = Text::new(alloc, display)?;
-    Ok(Op::Command(Command::GroupAdd { group, display }))
-}
-
-#[tactic(auto, unfolding(crate::specs::Reading::member_add))]
-fn member_add(alloc: Global, value: &Value) -> Result<Op, ReadFault>
-    ensures { Gives (λ o. o) result (member_add (view value.now)) }
-{
-    let group = text_at(alloc, value, "group")?;
-    ensured(alloc, is_extension(group.as_bytes()), "group")?;
-    let member = text_at(alloc, value, "member")?;
-    ensured(alloc, is_person(member.as_bytes()), "member")?;
-    no_other(alloc, value, &["by", "group", "member", "op"])?;
-    let group = Text::new(alloc, group)?;
-    let member = Text::new(alloc, member)?;
-    Ok(Op::Command(Command::MemberAdd { group, member }))
-}
-
-#[tactic(auto, unfolding(crate::specs::Reading::members))]
-fn members(alloc: Global, value: &Value) -> Result<Op, ReadFault>
-    ensures { Gives (λ o. o) result (members (view value.now)) }
-{
-    let group = text_at(alloc, value, "group")?;
-    ensured(alloc, is_extension(group.as_bytes()), "group")?;
-    no_other(alloc, value, &["by", "group", "op"])?;
-    let group = Text::new(alloc, group)?;
-    Ok(Op::Query(Query::Members { group }))
-}
-
 fn known_kind(alloc: Global, word: &str) -> Result<OpKind, ReadFault>
     ensures { Gives (λ k. k) result (known_kind (kind_of word.now)) }
 {
@@ -108,9 +63,19 @@ fn op_of(alloc: Global, kind: OpKind, value: &Value) -> Result<Op, ReadFault>
     ensures { Gives (λ o. o) result (op_of kind (view value.now)) }
 {
     match kind {
+        OpKind::FolderAdd => folder_add(alloc, value),
+        OpKind::FolderRename => folder_rename(alloc, value),
+        OpKind::FolderMove => folder_move(alloc, value),
+        OpKind::FolderDelete => folder_delete(alloc, value),
         OpKind::SubjectAdd => subject_add(alloc, value),
         OpKind::GroupAdd => group_add(alloc, value),
+        OpKind::GroupRename => group_rename(alloc, value),
+        OpKind::GroupMove => group_move(alloc, value),
+        OpKind::GroupDelete => group_delete(alloc, value),
         OpKind::MemberAdd => member_add(alloc, value),
+        OpKind::MemberRemove => member_remove(alloc, value),
+        OpKind::GroupGet => group_get(alloc, value),
+        OpKind::FolderList => folder_list(alloc, value),
         OpKind::Members => members(alloc, value),
     }
 }
@@ -131,10 +96,12 @@ fn reading_of(alloc: Global, line: &[u8]) -> Result<Request, ReadFault>
     })
 }
 
-/// What a line asks, or why it is refused (`docs/REQUESTS.md`, "Reading"): BadRequest exactly where
-/// the line is no request.
+/// What a line asks, or why it is refused (`docs/REQUESTS.md`, "Reading"): TooLong, BadRequest or BadName. The fields of
+/// a request that is read have their forms. The only error is out of memory.
+#[tactic(auto, using(crate::proofs::ReadForms::read_formed))]
 pub fn read_request(alloc: Global, line: &[u8]) -> Result<Result<Request, Refusal>, AllocError>
-    ensures { IfOk result (λ r. r ≡ reading_of line.now) }
+    ensures value { IfOk result (λ r. r ≡ reading_of line.now) }
+    ensures form { IfOk result (λ r. IfOk r IsFormed) }
 {
     match reading_of(alloc, line) {
         Ok(request) => Ok(Ok(request)),

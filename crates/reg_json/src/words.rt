@@ -9,9 +9,19 @@ pub fn kind_of(word: &str) -> Option<OpKind>
     ensures { result ≡ kind_of word.now }
 {
     match word {
+        "folder.add" => Some(OpKind::FolderAdd),
+        "folder.rename" => Some(OpKind::FolderRename),
+        "folder.move" => Some(OpKind::FolderMove),
+        "folder.delete" => Some(OpKind::FolderDelete),
         "subject.add" => Some(OpKind::SubjectAdd),
         "group.add" => Some(OpKind::GroupAdd),
+        "group.rename" => Some(OpKind::GroupRename),
+        "group.move" => Some(OpKind::GroupMove),
+        "group.delete" => Some(OpKind::GroupDelete),
         "member.add" => Some(OpKind::MemberAdd),
+        "member.remove" => Some(OpKind::MemberRemove),
+        "group.get" => Some(OpKind::GroupGet),
+        "folder.list" => Some(OpKind::FolderList),
         "members" => Some(OpKind::Members),
         _ => None,
     }

@@ -1,6 +1,10 @@
 //! The machine: the history of accepted commands, the clock, and the facts that they give.
 #![tactic(auto)]
 
+mod decide_folders;
+mod decide_groups;
+mod decide_members;
 mod machine;
+mod refusing;
 
 pub use machine::{Machine, Spent};

@@ -1,19 +1,12 @@
 // The machine.
-ghost use Rattle.std.specs.Prelude.{◌≡◌, ◌≤◌, ◌++◌, ◌∷◌, [], IfOk, None};
-ghost use Rattle.reg_machine.specs.History.{State, start, refusal, first_of, subject_checks, group_checks, member_checks, appended};
+ghost use Rattle.std.specs.Prelude.{◌≡◌, ◌≤◌, ◌++◌, ◌∷◌, [], IfOk, None, true};
+ghost use Rattle.reg_facts.specs.Suiting.{has_form};
+ghost use Rattle.reg_machine.specs.History.{State, start, refusal, appended};
 
-use reg_base::{Entity, Moment, Text};
+use reg_base::{Entity, Moment};
 use reg_facts::{Command, Facts, Refusal, Stamped};
 use std::alloc::{AllocError, AllocFailed, Global};
 use std::marker::Model;
-
-const MAX_SUBJECTS: u32 = 500_000;
-
-const MAX_GROUPS: u32 = 100_000;
-
-const MAX_ROWS: usize = 2_000_000;
-
-const MAX_HISTORY: usize = 4_000_000;
 
 /// There was no memory, and the machine is gone.
 #[derive(Clone, Copy, Debug, PartialEq, Eq)]
@@ -29,13 +22,6 @@ impl<T: Drop> From<AllocFailed<T>> for Spent {
     fn from(_: AllocFailed<T>) -> Self {
         Spent
     }
-}
-
-fn full(alloc: Global, kind: &str, limit: u64) -> Result<Option<Refusal>, AllocError>
-    ensures { IfOk result (λ found. found ≡ Some (Refusal.Full kind.now limit)) }
-{
-    let kind = Text::new(alloc, kind)?;
-    Ok(Some(Refusal::Full { kind, limit }))
 }
 
 /// The registry: its history, its clock, and the facts that the history gives. Contracts see
@@ -105,6 +91,7 @@ impl Machine {
     }
 
     /// The first refusal of a command now (`docs/REGISTRY.md`, "Refusals"), or None.
+    #[tactic(auto, unfolding(crate::specs::Checks::checks))]
     pub fn decide(
         &self,
         alloc: Global,
@@ -114,74 +101,31 @@ impl Machine {
         ensures { IfOk result (λ found. found ≡ refusal self.now.history command.now) }
     {
         match command {
-            Command::SubjectAdd { subject, .. } => self.decide_subject(alloc, subject),
-            Command::GroupAdd { group, .. } => self.decide_group(alloc, group),
-            Command::MemberAdd { group, member } => self.decide_member(alloc, group, member),
+            Command::FolderAdd { folder, .. } => self.decide_folder_add(alloc, folder),
+            Command::FolderRename { folder, extension } => {
+                self.decide_folder_rename(alloc, folder, extension)
+            }
+            Command::FolderMove { folder, to } => self.decide_folder_move(alloc, folder, to),
+            Command::FolderDelete { folder } => self.decide_folder_delete(alloc, folder),
+            Command::SubjectAdd { subject, .. } => self.decide_subject_add(alloc, subject),
+            Command::GroupAdd { group, .. } => self.decide_group_add(alloc, group),
+            Command::GroupRename { group, extension } => {
+                self.decide_group_rename(alloc, group, extension)
+            }
+            Command::GroupMove { group, to } => self.decide_group_move(alloc, group, to),
+            Command::GroupDelete { group } => self.decide_group_delete(alloc, group),
+            Command::MemberAdd { group, member } => self.decide_member_add(alloc, group, member),
+            Command::MemberRemove { group, member } => {
+                self.decide_member_remove(alloc, group, member)
+            }
         }
-    }
-
-    fn decide_subject(&self, alloc: Global, subject: &Text) -> Result<Option<Refusal>, AllocError>
-        ensures { IfOk result (λ found. found ≡ first_of (subject_checks self.now.history (facts self.now.history) subject.now)) }
-    {
-        if self.known.subject_id(subject).is_some() {
-            return Ok(Some(Refusal::Already));
-        }
-        if self.known.subjects_made() >= MAX_SUBJECTS {
-            return full(alloc, "subject", u64::from(MAX_SUBJECTS));
-        }
-        if self.stamped.len() >= MAX_HISTORY {
-            return full(alloc, "history", MAX_HISTORY as u64);
-        }
-        Ok(None)
-    }
-
-    fn decide_group(&self, alloc: Global, group: &Text) -> Result<Option<Refusal>, AllocError>
-        ensures { IfOk result (λ found. found ≡ first_of (group_checks self.now.history (facts self.now.history) group.now)) }
-    {
-        if self.known.group_id(group).is_some() {
-            return Ok(Some(Refusal::Already));
-        }
-        if self.known.groups_made() >= MAX_GROUPS {
-            return full(alloc, "group", u64::from(MAX_GROUPS));
-        }
-        if self.stamped.len() >= MAX_HISTORY {
-            return full(alloc, "history", MAX_HISTORY as u64);
-        }
-        Ok(None)
-    }
-
-    fn decide_member(
-        &self,
-        alloc: Global,
-        group: &Text,
-        member: &Text,
-    ) -> Result<Option<Refusal>, AllocError>
-        ensures { IfOk result (λ found. found ≡ first_of (member_checks self.now.history (facts self.now.history) group.now member.now)) }
-    {
-        let Some(group_id) = self.known.group_id(group) else {
-            let object = group.copy(alloc)?;
-            return Ok(Some(Refusal::NotFound { object }));
-        };
-        let Some(member_id) = self.known.subject_id(member) else {
-            let object = member.copy(alloc)?;
-            return Ok(Some(Refusal::NotFound { object }));
-        };
-        if self.known.has_row(group_id, member_id) {
-            return Ok(Some(Refusal::Already));
-        }
-        if self.known.rows().len() >= MAX_ROWS {
-            return full(alloc, "row", MAX_ROWS as u64);
-        }
-        if self.stamped.len() >= MAX_HISTORY {
-            return full(alloc, "history", MAX_HISTORY as u64);
-        }
-        Ok(None)
     }
 
     /// Takes a command that isn't refused into the history, at the clock.
-    #[tactic(auto, using(crate::proofs::Folds::facts_after_push))]
+    #[tactic(auto, using(crate::proofs::Folds::facts_after_push, crate::proofs::Allowed::can_edit))]
     pub fn apply(self, alloc: Global, by: &Entity, command: Command) -> Result<Machine, Spent>
-        requires { refusal self.history command ≡ None }
+        requires allowed { refusal self.history command ≡ None }
+        requires form { has_form command ≡ true }
         ensures { IfOk result (λ m. m ≡ appended self by.now command) }
     {
         let mut machine = self;

@@ -1,17 +1,68 @@
 -- What a query is answered over the facts.
-use Rattle.std.specs.Prelude.{ℕ, List, Some, None, Result, Ok, Err}
-use Rattle.reg_facts.specs.Facts.{Lists, group_id, member_texts}
+use Rattle.std.specs.Prelude.{ℕ, ◌==◌, List, [], ◌∷◌, None, Some, Result, Ok, Err, if◌then◌else◌}
+use Rattle.reg_facts.specs.Climbing.{is_parent}
+use Rattle.reg_facts.specs.Lists.{Lists}
+use Rattle.reg_facts.specs.Members.{member_texts}
+use Rattle.reg_facts.specs.Naming.{folder_id, group_id, name_in}
 use Rattle.reg_facts.specs.declared.refusal.Refusal.{Refusal}
 use Rattle.reg_facts.specs.declared.refusal.Refusal.TheVariants.{NotFound}
+use Rattle.reg_facts.specs.declared.rows.FolderRow.{FolderRow}
+use Rattle.reg_facts.specs.declared.rows.GroupRow.{GroupRow}
+use Rattle.reg_facts.specs.declared.rows.DefinitionRow.{DefinitionRow}
+use Rattle.reg_facts.specs.declared.rows.AttributeRow.{AttributeRow}
 use Rattle.reg_view.specs.declared.query.Query.{Query}
 use Rattle.reg_view.specs.declared.query.Query.TheVariants as query
 use Rattle.reg_view.specs.declared.query.Answer.{Answer}
 use Rattle.reg_view.specs.declared.query.Answer.TheVariants as answer
+use Rattle.reg_view.specs.Ordered.{ordered}
+
+-- the display text of the group of this id
+abbrev pub display_of : ℕ → List GroupRow → List ℕ
+display_of id [] = []
+display_of id (row ∷ rows) = if row.id == id then row.display else display_of id rows
+
+-- the group of this name
+abbrev pub group_of : List ℕ → Lists → Result Answer Refusal
+group_of group f = elim (group_id group f) [ None ↦ Err (NotFound group) | Some id ↦ Ok (answer.GroupGet (display_of id f.groups) group) ]
 
 -- the members of the group of this name
 abbrev pub members_of : List ℕ → Lists → Result Answer Refusal
-members_of group f = elim (group_id group f.groups) [ None ↦ Err (NotFound group) | Some id ↦ Ok (answer.Members (member_texts id f)) ]
+members_of group f = elim (group_id group f) [ None ↦ Err (NotFound group) | Some id ↦ Ok (answer.Members (member_texts id f)) ]
+
+-- the names of the folders directly in a folder of this name
+abbrev pub folder_names : ℕ → List ℕ → List FolderRow → List (List ℕ)
+folder_names d home [] = []
+folder_names d home (row ∷ rows) = if is_parent d row.parent then name_in home row.extension ∷ folder_names d home rows else folder_names d home rows
+
+-- the names of the groups directly in it
+abbrev pub group_names : ℕ → List ℕ → List GroupRow → List (List ℕ)
+group_names d home [] = []
+group_names d home (row ∷ rows) = if row.folder == d then name_in home row.extension ∷ group_names d home rows else group_names d home rows
+
+-- the names of the definitions directly in it
+abbrev pub definition_names : ℕ → List ℕ → List DefinitionRow → List (List ℕ)
+definition_names d home [] = []
+definition_names d home (row ∷ rows) = if row.folder == d then name_in home row.extension ∷ definition_names d home rows else definition_names d home rows
+
+-- the names of the attributes directly in it
+abbrev pub attribute_names : ℕ → List ℕ → List AttributeRow → List (List ℕ)
+attribute_names d home [] = []
+attribute_names d home (row ∷ rows) = if row.folder == d then name_in home row.extension ∷ attribute_names d home rows else attribute_names d home rows
+
+-- what stands directly in a folder, kind by kind, in the order of their bytes
+abbrev pub listing : ℕ → List ℕ → Lists → Answer
+listing d home f = answer.FolderList
+    (ordered (attribute_names d home f.attributes))
+    (ordered (definition_names d home f.definitions))
+    (ordered (folder_names d home f.folders))
+    (ordered (group_names d home f.groups))
+
+-- what stands directly in the folder of this name
+abbrev pub listing_of : List ℕ → Lists → Result Answer Refusal
+listing_of folder f = elim (folder_id folder f) [ None ↦ Err (NotFound folder) | Some d ↦ Ok (listing d folder f) ]
 
 -- the answer to a query, or why it is refused
 abbrev pub answer_of : Query → Lists → Result Answer Refusal
+answer_of (query.GroupGet group) f = group_of group f
+answer_of (query.FolderList folder) f = listing_of folder f
 answer_of (query.Members group) f = members_of group f

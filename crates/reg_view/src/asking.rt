@@ -1,35 +1,78 @@
 // Asking.
 ghost use Rattle.std.specs.Prelude.{◌≡◌, IfOk};
 ghost use Rattle.reg_machine.specs.History.{facts};
-ghost use Rattle.reg_view.specs.Answers.{answer_of, members_of};
+ghost use Rattle.reg_view.specs.Answers.{answer_of, display_of, group_of, listing_of, members_of};
 
+use crate::listing::listing;
 use crate::{Answer, Query};
-use reg_base::{Entity, Text};
+use reg_base::{Entity, GroupId, Name, Text};
 use reg_facts::{Facts, Refusal};
 use reg_machine::Machine;
 use std::alloc::{AllocError, Global};
 
+fn not_found(alloc: Global, text: &str) -> Result<Result<Answer, Refusal>, AllocError>
+    ensures { IfOk result (λ r. r ≡ Err (Refusal.NotFound text.now)) }
+{
+    let object = Text::new(alloc, text)?;
+    Ok(Err(Refusal::NotFound { object }))
+}
+
+fn display_of(alloc: Global, facts: &Facts, id: GroupId) -> Result<Text, AllocError>
+    ensures { IfOk result (λ display. display ≡ display_of id facts.now.groups) }
+{
+    for row in facts.groups() {
+        if row.id == id {
+            return row.display.copy(alloc);
+        }
+    }
+    Text::new(alloc, "")
+}
+
+fn group_of(
+    alloc: Global,
+    facts: &Facts,
+    group: &Name,
+) -> Result<Result<Answer, Refusal>, AllocError>
+    ensures { IfOk result (λ r. r ≡ group_of group.now facts.now) }
+{
+    let Some(id) = facts.group_id(group.as_str()) else {
+        return not_found(alloc, group.as_str());
+    };
+    let display = display_of(alloc, facts, id)?;
+    let name = group.copy(alloc)?;
+    Ok(Ok(Answer::GroupGet { display, name }))
+}
+
 fn members_of(
     alloc: Global,
     facts: &Facts,
-    group: &Text,
+    group: &Name,
 ) -> Result<Result<Answer, Refusal>, AllocError>
     ensures { IfOk result (λ r. r ≡ members_of group.now facts.now) }
 {
-    match facts.group_id(group) {
-        Some(id) => {
-            let members = facts.member_texts(alloc, id)?;
-            Ok(Ok(Answer::Members { members }))
-        }
-        None => {
-            let object = group.copy(alloc)?;
-            Ok(Err(Refusal::NotFound { object }))
-        }
-    }
+    let Some(id) = facts.group_id(group.as_str()) else {
+        return not_found(alloc, group.as_str());
+    };
+    let members = facts.member_texts(alloc, id)?;
+    Ok(Ok(Answer::Members { members }))
+}
+
+fn listing_of(
+    alloc: Global,
+    facts: &Facts,
+    folder: &Text,
+) -> Result<Result<Answer, Refusal>, AllocError>
+    ensures { IfOk result (λ r. r ≡ listing_of folder.now facts.now) }
+{
+    let Some(id) = facts.folder_id(folder.as_str()) else {
+        return not_found(alloc, folder.as_str());
+    };
+    let answer = listing(alloc, facts, id, folder)?;
+    Ok(Ok(answer))
 }
 
 /// The answer to a query at the machine's clock, or why it is refused: NotFound exactly where the
-/// group doesn't stand.
+/// group or folder doesn't stand.
 pub fn ask(
     alloc: Global,
     machine: &Machine,
@@ -39,6 +82,8 @@ pub fn ask(
     ensures { IfOk result (λ r. r ≡ answer_of query.now (facts machine.now.history)) }
 {
     match query {
+        Query::GroupGet { group } => group_of(alloc, machine.facts(), group),
+        Query::FolderList { folder } => listing_of(alloc, machine.facts(), folder),
         Query::Members { group } => members_of(alloc, machine.facts(), group),
     }
 }

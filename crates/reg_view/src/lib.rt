@@ -2,6 +2,8 @@
 #![tactic(auto)]
 
 mod asking;
+mod listing;
+mod ordered;
 mod query;
 mod reply;
 mod request;

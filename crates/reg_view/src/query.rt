@@ -1,17 +1,34 @@
 // Queries and their answers.
-use reg_base::Text;
+use reg_base::{Name, Text};
 use reg_facts::Texts;
 
-/// A question that changes nothing (`docs/REQUESTS.md`).
+/// A question that changes nothing (`docs/REQUESTS.md`). A folder is named by its name, or `:` for the root.
 #[derive(Debug, Drop)]
 pub enum Query {
+    /// The group of this name.
+    GroupGet { group: Name },
+    /// What stands directly in the folder of this name.
+    FolderList { folder: Text },
     /// The members of the group of this name.
-    Members { group: Text },
+    Members { group: Name },
 }
 
 /// What a query is answered.
 #[derive(Debug, Drop)]
 pub enum Answer {
+    GroupGet {
+        display: Text,
+        name: Name,
+    },
+    /// The names of the objects directly in the folder, kind by kind, by bytes.
+    FolderList {
+        attributes: Texts,
+        definitions: Texts,
+        folders: Texts,
+        groups: Texts,
+    },
     /// The texts of the members, in the order of the subjects.
-    Members { members: Texts },
+    Members {
+        members: Texts,
+    },
 }

@@ -15,9 +15,10 @@ use Rattle.reg_view.specs.declared.reply.Reply.TheVariants as reply
 use Rattle.reg_json.specs.Reading.{reading_of}
 use Rattle.registry.specs.Lines.{is_skipped}
 use Rattle.registry.specs.Turn.{at_moment, decided, requested, turn, Turns, Follows}
+use Rattle.registry.specs.Opening.{Served}
 use Rattle.registry.specs.declared.service.Next.{Next}
 use Rattle.registry.specs.declared.service.Next.TheVariants as next
-use Rattle.registry.specs.Run.{Answers, answers, line_of, lines_of, MayWrite, is_accepted, WritesReply}
+use Rattle.registry.specs.Run.{Answers, answers, last_state, line_of, lines_of, MayWrite, is_accepted, WritesReply}
 
 decided_keeps : (s : State) (by : Entity) (command : Command) (r : Option Refusal) → is_accepted (decided s by command r).0 ≡ false → (decided s by command r).1 ≡ s
 decided_keeps s by command None h = cc
@@ -46,47 +47,50 @@ turns_told s after m reading given told t (inl e) = rw e t
 turns_told s after m reading given told t (inr e) = rw e.0 (turns_no_memory s after m reading given t e.1)
 
 -- where the service goes on, the reply is one that may be given
-pub follows_go : (s after : State) (m : ℕ) (reading : Result Request Refusal) (r : Reply × Next) → Follows s m reading r → r.1 ≡ next.Go after → Turns s m reading r.0 after
+pub follows_go : {K : Type 0} (s : State) (after : Served K) (m : ℕ) (reading : Result Request Refusal) (r : Reply × Next K) → Follows s m reading r → r.1 ≡ next.Go after → Turns s m reading r.0 after.state
 follows_go s after m reading (told, following) f e = rw e at f
 
-one_more : (w moments : List ℕ) (s after : State) (line : List ℕ) (told : Reply) (more : List (List ℕ)) (all : Option (List ℕ)) → is_skipped line ≡ false
-    → Turns s (first_moment moments) (reading_of line) told after → MayWrite (Some (w ++ line_of told)) (Some (later_moments moments)) after more all → MayWrite (Some w) (Some moments) s (line ∷ more) all
-one_more w moments s after line told more all h t rest =
+one_more : (w moments : List ℕ) (s after : State) (line : List ℕ) (told : Reply) (more : List (List ℕ)) (all : Option (List ℕ)) (last : State) → is_skipped line ≡ false
+    → Turns s (first_moment moments) (reading_of line) told after → MayWrite (Some (w ++ line_of told)) (Some (later_moments moments)) after more all last → MayWrite (Some w) (Some moments) s (line ∷ more) all last
+one_more w moments s after line told more all last h t rest =
     rw h (told ∷ rest.0, (after, t, rest.1), rest.2 ∙ ap Some (append_assoc w (line_of told) (lines_of rest.0)))
 
 -- a line that is skipped leads where the lines after it lead
-pub may_write_skipped : (w ms : Option (List ℕ)) (s : State) (line : List ℕ) (more : List (List ℕ)) (all : Option (List ℕ)) → is_skipped line ≡ true
-    → MayWrite w ms s more all → MayWrite w ms s (line ∷ more) all
-may_write_skipped None ms s line more all h given = given
-may_write_skipped (Some w) None s line more all h given = tt
-may_write_skipped (Some w) (Some moments) s line more all h given = rw h given
+pub may_write_skipped : (w ms : Option (List ℕ)) (s : State) (line : List ℕ) (more : List (List ℕ)) (all : Option (List ℕ)) (last : State) → is_skipped line ≡ true
+    → MayWrite w ms s more all last → MayWrite w ms s (line ∷ more) all last
+may_write_skipped None ms s line more all last h given = given
+may_write_skipped (Some w) None s line more all last h given = tt
+may_write_skipped (Some w) (Some moments) s line more all last h given = rw h given
 
 -- a line that is answered leads where the lines after it lead
-pub may_write_answered : (w w2 ms ms2 : Option (List ℕ)) (s after : State) (m : ℕ) (line : List ℕ) (given : Reply) (more : List (List ℕ)) (all : Option (List ℕ)) → is_skipped line ≡ false
+pub may_write_answered : (w w2 ms ms2 : Option (List ℕ)) (s after : State) (m : ℕ) (line : List ℕ) (given : Reply) (more : List (List ℕ)) (all : Option (List ℕ)) (last : State) → is_skipped line ≡ false
     → IfSome ms (λ l. m ≡ first_moment l) → ms2 ≡ option_map later_moments ms → Turns s m (reading_of line) given after → WritesReply given w w2
-    → MayWrite w2 ms2 after more all → MayWrite w ms s (line ∷ more) all
-may_write_answered None w2 ms ms2 s after m line given more all h first later t wrote rest = rw wrote.2 at rest
-may_write_answered (Some w) w2 None ms2 s after m line given more all h first later t wrote rest = tt
-may_write_answered (Some w) w2 (Some moments) ms2 s after m line given more all h first later t wrote rest =
-    one_more w moments s after line wrote.0 more all h (rw (← first) (turns_told s after m (reading_of line) given wrote.0 t wrote.1)) (rw (wrote.2, later) at rest)
+    → MayWrite w2 ms2 after more all last → MayWrite w ms s (line ∷ more) all last
+may_write_answered None w2 ms ms2 s after m line given more all last h first later t wrote rest = rw wrote.2 at rest
+may_write_answered (Some w) w2 None ms2 s after m line given more all last h first later t wrote rest = tt
+may_write_answered (Some w) w2 (Some moments) ms2 s after m line given more all last h first later t wrote rest =
+    one_more w moments s after line wrote.0 more all last h (rw (← first) (turns_told s after m (reading_of line) given wrote.0 t wrote.1)) (rw (wrote.2, later) at rest)
 
 abbrev IsSure : Reply → Type 0
 IsSure told = told ≢ reply.NoMemory
 
-first_exact : (s : State) (moments : List ℕ) (reading : Result Request Refusal) (rs : List (Result Request Refusal)) (told : Reply) (replies : List Reply) (after : State)
-    → Turns s (first_moment moments) reading told after → told ≢ reply.NoMemory → replies ≡ answers after (later_moments moments) rs → told ∷ replies ≡ answers s moments (reading ∷ rs)
-first_exact s moments reading rs told replies after (inl e) n rest =
+abbrev IsExact : State → List ℕ → List (Result Request Refusal) → List Reply → State → Type 0
+IsExact s moments rs replies last = (replies ≡ answers s moments rs) × (last ≡ last_state s moments rs)
+
+first_exact : (s : State) (moments : List ℕ) (reading : Result Request Refusal) (rs : List (Result Request Refusal)) (told : Reply) (replies : List Reply) (after last : State)
+    → Turns s (first_moment moments) reading told after → told ≢ reply.NoMemory → IsExact after (later_moments moments) rs replies last → IsExact s moments (reading ∷ rs) (told ∷ replies) last
+first_exact s moments reading rs told replies after last (inl e) n rest =
     let a : told ≡ (turn s (first_moment moments) reading).0 = ap (λ (p : Reply × State). p.0) e in
     let b : after ≡ (turn s (first_moment moments) reading).1 = ap (λ (p : Reply × State). p.1) e in
-    rw (a, rest, b) refl
-first_exact s moments reading rs told replies after (inr w) n rest = absurd (n w.fault)
+    (rw (a, rest.0, b) refl, rw b at rest.1)
+first_exact s moments reading rs told replies after last (inr w) n rest = absurd (n w.fault)
 
 -- replies without want of memory are one function of the readings and the moments
-pub answers_exact : (s : State) (moments : List ℕ) (rs : List (Result Request Refusal)) (replies : List Reply) → Answers s moments rs replies
-    → All (λ told. told ≢ reply.NoMemory) replies → replies ≡ answers s moments rs
-answers_exact s moments [] [] given sure = refl
-answers_exact s moments [] (told ∷ replies) given sure = elim given [ ]
-answers_exact s moments (reading ∷ rs) [] given sure = elim given [ ]
-answers_exact s moments (reading ∷ rs) (told ∷ replies) given sure =
-    first_exact s moments reading rs told replies given.0 given.1 (All-head IsSure told replies sure)
-    (answers_exact given.0 (later_moments moments) rs replies given.2 (All-tail IsSure told replies sure))
+pub answers_exact : (s : State) (moments : List ℕ) (rs : List (Result Request Refusal)) (replies : List Reply) (last : State) → Answers s moments rs replies last
+    → All (λ told. told ≢ reply.NoMemory) replies → (replies ≡ answers s moments rs) × (last ≡ last_state s moments rs)
+answers_exact s moments [] [] last given sure = (refl, given)
+answers_exact s moments [] (told ∷ replies) last given sure = elim given [ ]
+answers_exact s moments (reading ∷ rs) [] last given sure = elim given [ ]
+answers_exact s moments (reading ∷ rs) (told ∷ replies) last given sure =
+    first_exact s moments reading rs told replies given.0 last given.1 (All-head IsSure told replies sure)
+    (answers_exact given.0 (later_moments moments) rs replies last given.2 (All-tail IsSure told replies sure))

@@ -1,4 +1,10 @@
 pub mod Answering
+pub mod Crashing
 pub mod Cutting
+pub mod Ending
 pub mod Feeding
+pub mod Keeping
 pub mod Long
+pub mod Opened
+pub mod Opens
+pub mod Writable

@@ -1,6 +1,6 @@
 -- Lines that are too long.
 use Rattle.std.proofs.Common.{◌≡◌, ◌<◌, ◌∷◌, ◌++◌, append-nil, [], List, ℕ, false, Err, arith, length, refl}
-use Rattle.reg_facts.specs.declared.refusal.Refusal.TheVariants.{BadRequest}
+use Rattle.reg_facts.specs.declared.refusal.Refusal.TheVariants.{TooLong}
 use Rattle.reg_json.specs.Reading.{max_line, reading_of}
 use Rattle.reg_json.proofs.Lines.{reading_long}
 use Rattle.registry.specs.Lines.{is_skipped}
@@ -12,7 +12,7 @@ long_asks (b ∷ []) h = absurd (omega arith)
 long_asks (b ∷ c ∷ rest) h = refl
 
 -- and is refused, whatever its bytes are
-pub too_long : (line : List ℕ) → max_line < length line → reading_of line ≡ Err (BadRequest [])
+pub too_long : (line : List ℕ) → max_line < length line → reading_of line ≡ Err (TooLong max_line)
 too_long line h = reading_long line h
 
 -- bytes and further bytes are not skipped

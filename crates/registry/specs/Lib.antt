@@ -1,5 +1,11 @@
+pub mod Crash
+pub mod Ends
+pub mod Kept
 pub mod Lines
+pub mod Opening
 pub mod Pending
 pub mod Run
 pub mod Status
+pub mod Stops
 pub mod Turn
+pub mod Writable

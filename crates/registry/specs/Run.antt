@@ -10,22 +10,27 @@ use Rattle.reg_view.specs.declared.reply.Reply.TheVariants as reply
 use Rattle.reg_json.specs.Replies.{text}
 use Rattle.registry.specs.Lines.{IsCutAtLineFeeds, lines, lines_from, readings, asked}
 use Rattle.registry.specs.Pending.{Holds}
-use Rattle.registry.specs.Turn.{start, turn, Turns}
+use Rattle.registry.specs.Turn.{turn, Turns}
 use Rattle.registry.specs.declared.pending.PendingLine.{PendingLine}
 
--- these replies may be given to these readings, each at the next moment of the clock
-abbrev pub Answers : State → List ℕ → List (Result Request Refusal) → List Reply → Type 0
-Answers s moments [] [] = Unit {0}
-Answers s moments [] (told ∷ replies) = ⊥
-Answers s moments (reading ∷ more) [] = ⊥
-Answers s moments (reading ∷ more) (told ∷ replies) =
-    (after : State) × Turns s (first_moment moments) reading told after × Answers after (later_moments moments) more replies
+-- these replies may be given to these readings, each at the next moment of the clock, and lead to this last state
+abbrev pub Answers : State → List ℕ → List (Result Request Refusal) → List Reply → State → Type 0
+Answers s moments [] [] last = last ≡ s
+Answers s moments [] (told ∷ replies) last = ⊥
+Answers s moments (reading ∷ more) [] last = ⊥
+Answers s moments (reading ∷ more) (told ∷ replies) last =
+    (after : State) × Turns s (first_moment moments) reading told after × Answers after (later_moments moments) more replies last
 
 -- the replies where memory is never wanting
 abbrev pub answers : State → List ℕ → List (Result Request Refusal) → List Reply
 answers s moments [] = []
 answers s moments (reading ∷ more) =
     (turn s (first_moment moments) reading).0 ∷ answers (turn s (first_moment moments) reading).1 (later_moments moments) more
+
+-- and the last state
+abbrev pub last_state : State → List ℕ → List (Result Request Refusal) → State
+last_state s moments [] = s
+last_state s moments (reading ∷ more) = last_state (turn s (first_moment moments) reading).1 (later_moments moments) more
 
 -- a reply and its LF
 abbrev pub line_of : Reply → List ℕ
@@ -36,13 +41,13 @@ abbrev pub lines_of : List Reply → List ℕ
 lines_of [] = []
 lines_of (told ∷ replies) = line_of told ++ lines_of replies
 
--- What a run over these bytes and moments has written behind what stood before: the texts of replies to
--- the bytes' lines from the empty history on. Without want of memory these are one function of bytes and moments.
-pub record Written (bytes moments before : List ℕ) (now : Option (List ℕ)) : Type 0 where
+-- What a run over these bytes and moments has written behind what stood before: the texts of replies to the bytes'
+-- lines, from one state to another. Without want of memory these are one function of the state, bytes and moments.
+pub record Written (from : State) (bytes moments before : List ℕ) (to : State) (now : Option (List ℕ)) : Type 0 where
   pub replies : List Reply
-  pub given : Answers start moments (asked bytes) replies
+  pub given : Answers from moments (asked bytes) replies to
   pub text : now ≡ Some (before ++ lines_of replies)
-  pub exact : All (λ told. told ≢ reply.NoMemory) replies → replies ≡ answers start moments (asked bytes)
+  pub exact : All (λ told. told ≢ reply.NoMemory) replies → (replies ≡ answers from moments (asked bytes)) × (to ≡ last_state from moments (asked bytes))
   pub cut : IsCutAtLineFeeds (lines bytes) bytes
 
 -- where a run stands: what is written, the moments to come, and the state
@@ -51,25 +56,27 @@ pub record Point : Type 0 where
   pub moments : Option (List ℕ)
   pub state : State
 
--- with this written and these moments to come, these lines may lead to all of this being written
-abbrev pub MayWrite : Option (List ℕ) → Option (List ℕ) → State → List (List ℕ) → Option (List ℕ) → Type 0
-MayWrite None moments s ls all = all ≡ None
-MayWrite (Some written) None s ls all = Unit {0}
-MayWrite (Some written) (Some moments) s ls all =
-    (replies : List Reply) × Answers s moments (readings ls) replies × (all ≡ Some (written ++ lines_of replies))
+-- with this written and these moments to come, these lines may lead to all of this being written, and to this last state
+abbrev pub MayWrite : Option (List ℕ) → Option (List ℕ) → State → List (List ℕ) → Option (List ℕ) → State → Type 0
+MayWrite None moments s ls all last = all ≡ None
+MayWrite (Some written) None s ls all last = Unit {0}
+MayWrite (Some written) (Some moments) s ls all last =
+    (replies : List Reply) × Answers s moments (readings ls) replies last × (all ≡ Some (written ++ lines_of replies))
 
 -- the same from a point
-abbrev pub Leads : Point → List (List ℕ) → Option (List ℕ) → Type 0
-Leads p ls all = MayWrite p.written p.moments p.state ls all
+abbrev pub Leads : Point → List (List ℕ) → Option (List ℕ) → State → Type 0
+Leads p ls all last = MayWrite p.written p.moments p.state ls all last
 
 -- answering a line leads from one point to another, whatever lines follow
 abbrev pub AnswersLine : Point → List ℕ → Point → Type 0
-AnswersLine before line after = (more : List (List ℕ)) (all : Option (List ℕ)) → Leads after more all → Leads before (line ∷ more) all
+AnswersLine before line after =
+    (more : List (List ℕ)) (all : Option (List ℕ)) (last : State) → Leads after more all last → Leads before (line ∷ more) all last
 
 -- taking bytes leads from one point and pending line to another, whatever bytes follow
 abbrev pub Feeds : Point → PendingLine → List ℕ → Point → PendingLine → Type 0
 Feeds before pending taken after kept = (line : List ℕ) → Holds pending line →
-    (next : List ℕ) × Holds kept next × ((more : List ℕ) (all : Option (List ℕ)) → Leads after (lines_from next more) all → Leads before (lines_from line (taken ++ more)) all)
+    (next : List ℕ) × Holds kept next
+    × ((more : List ℕ) (all : Option (List ℕ)) (last : State) → Leads after (lines_from next more) all last → Leads before (lines_from line (taken ++ more)) all last)
 
 -- a run has taken these bytes of its input, from its first point on
 pub record HasTaken (left now : Option (List ℕ)) (before after : Point) (pending kept : PendingLine) (count : ℕ) : Type 0 where
@@ -84,6 +91,7 @@ is_accepted (reply.Number n) = true
 is_accepted (reply.Answer a) = false
 is_accepted (reply.Refused r) = false
 is_accepted reply.NoMemory = false
+is_accepted reply.KeepFault = false
 
 -- a reply was written, or where no command was accepted the one that there was no memory
 abbrev pub WritesReply : Reply → Option (List ℕ) → Option (List ℕ) → Type 0

@@ -1,10 +1,9 @@
 -- One request: the reply, and the registry after it.
-use Rattle.std.specs.Prelude.{◌≡◌, ◌⊎◌, ℕ, [], ◌∷◌, ◌++◌, Option, Some, None, Result, Ok, Err, length, max}
+use Rattle.std.specs.Prelude.{◌≡◌, ◌⊎◌, ◌≤◌, ℕ, [], ◌∷◌, ◌++◌, Option, Some, None, Result, Ok, Err, length, max}
 use Rattle.reg_base.specs.declared.entity.Entity.{Entity}
 use Rattle.reg_facts.specs.declared.command.Command.{Command}
 use Rattle.reg_facts.specs.declared.command.Stamped.{Stamped}
 use Rattle.reg_facts.specs.declared.refusal.Refusal.{Refusal}
-use Rattle.reg_machine.specs.History as history
 use Rattle.reg_machine.specs.History.{State, facts, refusal, appended}
 use Rattle.reg_view.specs.Answers.{answer_of}
 use Rattle.reg_view.specs.declared.query.Answer.{Answer}
@@ -13,13 +12,11 @@ use Rattle.reg_view.specs.declared.request.Op.{Op}
 use Rattle.reg_view.specs.declared.request.Op.TheVariants as op
 use Rattle.reg_view.specs.declared.reply.Reply.{Reply}
 use Rattle.reg_view.specs.declared.reply.Reply.TheVariants as reply
+use Rattle.reg_wire.specs.Payload.{IsWritable}
 use Rattle.registry.specs.declared.service.Next.{Next}
 use Rattle.registry.specs.declared.service.Next.TheVariants as next
+use Rattle.registry.specs.declared.service.Cause.{Cause}
 use Rattle.registry.specs.declared.service.Cause.TheVariants as cause
-
--- the empty history, at the moment 0
-abbrev pub start : State
-start = history.start
 
 -- the clock moves to a moment, and never back
 abbrev pub at_moment : State → ℕ → State
@@ -55,15 +52,20 @@ pub record WantsMemory (s : State) (m : ℕ) (told : Reply) (after : State) : Ty
 abbrev pub Turns : State → ℕ → Result Request Refusal → Reply → State → Type 0
 Turns s m reading told after = ((told, after) ≡ turn s m reading) ⊎ WantsMemory s m told after
 
--- what follows at the clock: what is expected, or no memory with the state as it was
-abbrev pub Carries : State → Reply × State → Reply × Next → Type 0
-Carries s expected (told, next.Go after) = ((told, after) ≡ expected) ⊎ ((told ≡ reply.NoMemory) × (after ≡ s))
-Carries s expected (told, next.Stop why) = (told ≡ reply.NoMemory) × (why ≡ cause.Memory)
+-- the reply of a service that stopped for this cause
+abbrev pub last_reply : Cause → Reply
+last_reply cause.Memory = reply.NoMemory
+last_reply cause.Disk = reply.KeepFault
 
--- what follows a reading: the service goes on after the turn, or stops for want of memory
-abbrev pub Follows : State → ℕ → Result Request Refusal → Reply × Next → Type 0
-Follows s m reading (told, next.Go after) = Turns s m reading told after
-Follows s m reading (told, next.Stop why) = (told ≡ reply.NoMemory) × (why ≡ cause.Memory)
+-- what follows at the clock: what is expected, or no memory with the state as it was
+abbrev pub Carries : {K : Type 0} → State → Reply × State → Reply × Next K → Type 0
+Carries s expected (told, next.Go after) = ((told, after.state) ≡ expected) ⊎ ((told ≡ reply.NoMemory) × (after.state ≡ s))
+Carries s expected (told, next.Stop why keeper) = told ≡ last_reply why
+
+-- what follows a reading: the service goes on after the turn, or stops for a cause
+abbrev pub Follows : {K : Type 0} → State → ℕ → Result Request Refusal → Reply × Next K → Type 0
+Follows s m reading (told, next.Go after) = Turns s m reading told after.state
+Follows s m reading (told, next.Stop why keeper) = told ≡ last_reply why
 
 -- an accepted command alone goes into the history, at its end; whatever else is answered leaves the history as it was
 abbrev pub KeepsHistory : State → Reply → State → Type 0
@@ -71,8 +73,14 @@ KeepsHistory s (reply.Number n) after = (stamped : Stamped) × (after.history �
 KeepsHistory s (reply.Answer a) after = after.history ≡ s.history
 KeepsHistory s (reply.Refused r) after = after.history ≡ s.history
 KeepsHistory s reply.NoMemory after = after.history ≡ s.history
+KeepsHistory s reply.KeepFault after = ⊥
 
 -- the history after a request is the one before or that with one command more, and the clock doesn't go back
-abbrev pub GoesOn : State → ℕ → Reply × Next → Type 0
-GoesOn s m (told, next.Go after) = KeepsHistory s told after × ((after.clock ≡ s.clock) ⊎ (after.clock ≡ max s.clock m))
-GoesOn s m (told, next.Stop why) = Unit {0}
+abbrev pub GoesOn : {K : Type 0} → State → ℕ → Reply × Next K → Type 0
+GoesOn s m (told, next.Go after) = KeepsHistory s told after.state × ((after.state.clock ≡ s.clock) ⊎ (after.state.clock ≡ max s.clock m))
+GoesOn s m (told, next.Stop why keeper) = Unit {0}
+
+-- a command of this caller can be kept at every moment
+abbrev pub CanKeep : Entity → Op → Type 0
+CanKeep by (op.Command command) = (at : ℕ) → at ≤ 253402300799999999 → IsWritable (record { at = at; by = by; command = command })
+CanKeep by (op.Query query) = Unit {0}

@@ -2,13 +2,15 @@
 #![tactic(auto)]
 
 mod pending;
+mod perform;
 mod run;
 mod service;
 mod session;
+mod task;
 #[cfg(test)]
 mod tests;
 
-use reg_outside::{StdSink, StdSource, SystemClock};
+use reg_outside::{FileDisk, StdSink, StdSource, SystemClock};
 use std::process::ExitCode;
 use std::{env, io};
 
@@ -18,7 +20,26 @@ const USAGE: u8 = 2;
 /// The exit status where there was no memory.
 const NO_MEMORY: u8 = 3;
 
-/// The first word is the journal file, which nothing uses yet; the others say what to do.
+/// Runs the program over a file.
+fn over(rt: &HostRuntime, path: &str, words: &[String]) -> u8 {
+    let mut input = StdSource::new(rt.stdin());
+    let mut out = StdSink::new(rt.stdout());
+    let mut notes = StdSink::new(rt.stderr());
+    let mut disk = FileDisk::new(rt, path);
+    let mut clock = SystemClock::new(rt);
+    run::run(
+        rt.alloc(),
+        words,
+        &mut input,
+        &mut out,
+        &mut notes,
+        &mut disk,
+        &mut clock,
+    )
+}
+
+/// The first word is the journal file; the others say what to do. Without a first word there are
+/// no others, and no file is touched.
 fn main(rt: HostRuntime) -> ExitCode {
     let arguments = match env::args(&rt) {
         Ok(arguments) => arguments,
@@ -30,14 +51,14 @@ fn main(rt: HostRuntime) -> ExitCode {
         }
     };
     let mut words = Vec::new(rt.alloc());
-    for word in arguments.skip(2) {
+    for word in arguments.skip(1) {
         if words.push(word).is_err() {
             return ExitCode::from(NO_MEMORY);
         }
     }
-    let mut input = StdSource::new(rt.stdin());
-    let mut out = StdSink::new(rt.stdout());
-    let mut clock = SystemClock::new(&rt);
-    let status = run::run(rt.alloc(), &words, &mut input, &mut out, &mut clock);
+    let status = match words.as_slice() {
+        [path, rest @ ..] => over(&rt, path.as_str(), rest),
+        [] => over(&rt, "", &[]),
+    };
     ExitCode::from(status)
 }

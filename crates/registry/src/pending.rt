@@ -1,12 +1,14 @@
 // The line that is being read.
 ghost use Rattle.std.specs.Prelude.{◌≡◌, ◌<◌, ◌++◌, [], List, ℕ, length};
 ghost use Rattle.registry.specs.Lines.{is_skipped};
-ghost use Rattle.registry.specs.Pending.{Holds, Says};
+ghost use Rattle.registry.specs.Pending.{Holds, Says, AsksWritable};
+ghost use Rattle.registry.specs.Turn.{CanKeep};
+ghost use Rattle.registry.specs.Writable.{OpUtf8};
 
-use reg_base::Text;
 use reg_facts::Refusal;
 use reg_json::read_request;
-use reg_view::Request;
+use reg_view::{Op, Request};
+use reg_wire::texts_are_utf8;
 use std::alloc::Global;
 
 /// How many bytes a line may have.
@@ -44,12 +46,27 @@ fn is_skipped(line: &[u8]) -> bool
     }
 }
 
+/// The texts of an op are UTF-8. It does nothing: it is a law of the values.
+fn op_is_utf8(op: &Op)
+    ensures { OpUtf8 op.now }
+{
+    match op {
+        Op::Command(command) => texts_are_utf8(command),
+        Op::Query(_) => {}
+    }
+}
+
 /// What kept bytes ask.
+#[tactic(auto, using(crate::proofs::Writable::reading_writable))]
 fn reading_of_bytes(alloc: Global, line: &[u8]) -> LineReading
-    ensures { Says result line.now }
+    ensures says { Says result line.now }
+    ensures writable { AsksWritable result }
 {
     match read_request(alloc, line) {
-        Ok(Ok(request)) => LineReading::Asked(request),
+        Ok(Ok(request)) => {
+            op_is_utf8(&request.op);
+            LineReading::Asked(request)
+        }
         Ok(Err(refusal)) => LineReading::Refused(refusal),
         Err(_) => LineReading::NoMemory,
     }
@@ -57,13 +74,13 @@ fn reading_of_bytes(alloc: Global, line: &[u8]) -> LineReading
 
 /// The refusal of a line of too many bytes.
 #[tactic(auto, using(crate::proofs::Long::too_long))]
-fn reading_of_long(alloc: Global) -> LineReading
-    ensures { (line : List ℕ) → Holds PendingLine.TooLong line → Says result line }
+fn reading_of_long() -> LineReading
+    ensures says { (line : List ℕ) → Holds PendingLine.TooLong line → Says result line }
+    ensures writable { AsksWritable result }
 {
-    match Text::new(alloc, "") {
-        Ok(field) => LineReading::Refused(Refusal::BadRequest { field }),
-        Err(_) => LineReading::NoMemory,
-    }
+    LineReading::Refused(Refusal::TooLong {
+        limit: MAX_LINE as u64,
+    })
 }
 
 impl PendingLine {
@@ -104,11 +121,12 @@ impl PendingLine {
 
     /// What the line asks, if it isn't skipped.
     pub fn reading(&self, alloc: Global) -> LineReading
-        ensures { (line : List ℕ) → Holds self.now line → Says result line }
+        ensures says { (line : List ℕ) → Holds self.now line → Says result line }
+        ensures writable { AsksWritable result }
     {
         match self {
             PendingLine::Kept(bytes) => reading_of_bytes(alloc, bytes),
-            PendingLine::TooLong => reading_of_long(alloc),
+            PendingLine::TooLong => reading_of_long(),
             PendingLine::Lost { .. } => LineReading::NoMemory,
         }
     }

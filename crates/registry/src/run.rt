@@ -1,16 +1,25 @@
 // The top call.
-ghost use Rattle.std.specs.Prelude.{◌≡◌, ◌≤◌, ◌<◌, ◌↔◌, ◌^◌, [], List, take, ℕ, Option, Some, length, map, false, option_map, ◌⊎◌, IfOk, IfErr, IfSome, OnOk, string_bytes};
+ghost use Rattle.std.specs.Prelude.{◌≡◌, ◌≢◌, ◌≤◌, ◌<◌, ◌↔◌, ◌^◌, [], List, take, ℕ, Option, Some, length, map, false, option_map, ◌⊎◌, IfOk, IfErr, IfSome, OnOk, string_bytes};
 ghost use Rattle.std.specs.Io.KnownBytes.{IsAtEnd, prepend_known};
 ghost use Rattle.reg_outside.specs.Faults.{HasCause, Rose};
 ghost use Rattle.reg_outside.specs.Streams.{Reads};
 ghost use Rattle.registry.specs.Run.{Written, AnswersLine, Took};
 ghost use Rattle.registry.specs.Pending.{Holds};
-ghost use Rattle.registry.specs.Status.{is_apply, status_of, IsStatus};
+ghost use Rattle.registry.specs.Stops.{IsAnswerStop};
+ghost use Rattle.registry.specs.declared.task.End.{End};
+ghost use Rattle.registry.specs.Crash.{Crashes};
+ghost use Rattle.registry.specs.Kept.{KeptOn, Halted};
+ghost use Rattle.registry.specs.declared.task.Task.{Task};
+ghost use Rattle.registry.specs.Status.{task_of, name_of, status_of, IsStatus, NotesOnce};
+ghost use Rattle.registry.specs.Ends.{RunEnds};
 
 use crate::pending::PendingLine;
+use crate::perform::perform;
 use crate::service::Service;
 use crate::session::{Stop, answer_line, feed};
-use reg_outside::{Clock, Failed, Sink, Source};
+use crate::task::{End, name_of, status_of, task_of, write_note};
+use reg_keep::Keeper;
+use reg_outside::{Clock, Disk, Failed, Sink, Source};
 use std::alloc::Global;
 
 /// How many bytes of input a run takes at most.
@@ -35,115 +44,115 @@ fn read_some<S: Source>(input: &mut S, buf: &mut [u8], room: usize) -> Result<us
     }
 }
 
-/// Answers the last line, which no LF ends, and flushes.
-fn finish<K: Sink, C: Clock>(
-    alloc: Global,
-    service: Service,
-    line: &PendingLine,
-    out: &mut K,
-    clock: &mut C,
-) -> Result<Service, Stop>
-    ensures answered { IfOk result (λ after. (bytes : List ℕ) → Holds line.now bytes →
-        AnswersLine (record { written = K.written out.old; moments = C.moments clock.old; state = service })
-        bytes (record { written = K.written out.new; moments = C.moments clock.new; state = after })) }
+fn flush<K: Sink>(out: &mut K) -> Result<(), Stop>
+    ensures same { K.written out.new ≡ K.written out.old }
     ensures flushed { OnOk result (K.flushed out.new ≡ option_map length (K.written out.new)) }
     ensures count { K.write_faults out.old ≤ K.write_faults out.new }
-    ensures output { IfErr result (λ e. e ≡ Stop.Output → Rose (K.write_faults out.old) (K.write_faults out.new)) }
-    ensures others { IfErr result (λ e. (e ≡ Stop.Memory) ⊎ (e ≡ Stop.Output)) }
+    ensures output { IfErr result (λ e. (e ≡ Stop.Output) × Rose (K.write_faults out.old) (K.write_faults out.new)) }
 {
-    let service = answer_line(alloc, service, line, out, clock)?;
     match out.flush() {
-        Ok(()) => Ok(service),
+        Ok(()) => Ok(()),
         Err(Failed) => Err(Stop::Output),
     }
 }
 
-/// Answers all lines of the input.
-fn apply<S: Source, K: Sink, C: Clock>(
+/// Answers the last line, which no LF ends, and flushes.
+fn finish<J: Keeper, K: Sink, C: Clock>(
     alloc: Global,
+    service: Service<J>,
+    line: &PendingLine,
+    out: &mut K,
+    clock: &mut C,
+) -> Result<Service<J>, (Stop, J)>
+    ensures answered { IfOk result (λ after. (bytes : List ℕ) → Holds line.now bytes →
+        AnswersLine (record { written = K.written out.old; moments = C.moments clock.old; state = service.state })
+        bytes (record { written = K.written out.new; moments = C.moments clock.new; state = after.state })) }
+    ensures flushed { OnOk result (K.flushed out.new ≡ option_map length (K.written out.new)) }
+    ensures kept { IfOk result (λ after. KeptOn ⟦<J as Keeper>⟧ service.state.history service.keeper after.state.history after.keeper) }
+    ensures halted { IfErr result (λ e. Halted ⟦<J as Keeper>⟧ service.state.history service.keeper e.1) }
+    ensures count { K.write_faults out.old ≤ K.write_faults out.new }
+    ensures output { IfErr result (λ e. e.0 ≡ Stop.Output → Rose (K.write_faults out.old) (K.write_faults out.new)) }
+    ensures disk { IfErr result (λ e. e.0 ≡ Stop.Disk → Rose (J.keep_faults service.keeper) (J.keep_faults e.1)) }
+    ensures others { IfErr result (λ e. IsAnswerStop e.0) }
+{
+    let service = answer_line(alloc, service, line, out, clock)?;
+    match flush(out) {
+        Ok(()) => Ok(service),
+        Err(stop) => Err((stop, service.into_keeper())),
+    }
+}
+
+/// Answers all lines of the input.
+pub fn apply<S: Source, J: Keeper, K: Sink, C: Clock>(
+    alloc: Global,
+    service: Service<J>,
     input: &mut S,
     out: &mut K,
     clock: &mut C,
-) -> Result<(), Stop>
-    ensures written { OnOk result (IfSome (S.left input.old) (λ bytes. IfSome (C.moments clock.old) (λ moments. IfSome (K.written out.old)
-        (λ before. Written bytes moments before (K.written out.new))))) }
+) -> Result<Service<J>, (Stop, J)>
+    ensures written { IfOk result (λ to. IfSome (S.left input.old) (λ bytes. IfSome (C.moments clock.old) (λ moments. IfSome (K.written out.old)
+        (λ before. Written service.state bytes moments before to.state (K.written out.new))))) }
     ensures flushed { OnOk result (K.flushed out.new ≡ option_map length (K.written out.new)) }
     ensures ended { OnOk result (IsAtEnd (S.left input.new)) }
     ensures few { OnOk result ((n : ℕ) × (n < 2 ^ 32) × Took (S.left input.old) (S.left input.new) n) }
-    ensures input { IfErr result (λ e. e ≡ Stop.Input → Rose (S.read_faults input.old) (S.read_faults input.new)) }
-    ensures output { IfErr result (λ e. e ≡ Stop.Output → Rose (K.write_faults out.old) (K.write_faults out.new)) }
-    ensures many { IfErr result (λ e. e ≡ Stop.TooMuch → Took (S.left input.old) (S.left input.new) (2 ^ 32)) }
+    ensures kept { IfOk result (λ to. KeptOn ⟦<J as Keeper>⟧ service.state.history service.keeper to.state.history to.keeper) }
+    ensures halted { IfErr result (λ e. Halted ⟦<J as Keeper>⟧ service.state.history service.keeper e.1) }
+    ensures input { IfErr result (λ e. e.0 ≡ Stop.Input → Rose (S.read_faults input.old) (S.read_faults input.new)) }
+    ensures output { IfErr result (λ e. e.0 ≡ Stop.Output → Rose (K.write_faults out.old) (K.write_faults out.new)) }
+    ensures disk { IfErr result (λ e. e.0 ≡ Stop.Disk → Rose (J.keep_faults service.keeper) (J.keep_faults e.1)) }
+    ensures many { IfErr result (λ e. e.0 ≡ Stop.TooMuch → Took (S.left input.old) (S.left input.new) (2 ^ 32)) }
 {
-    let Ok(mut service) = Service::new(alloc) else {
-        return Err(Stop::Memory);
-    };
+    service.stays();
+    let mut service = service;
     let mut line = PendingLine::start(alloc);
     let mut buf = [0u8; PIECE];
     let mut taken: u64 = 0;
     while taken < LIMIT {
         let room = (LIMIT - taken).min(PIECE as u64) as usize;
-        let count = read_some(input, &mut buf, room)?;
+        let count = match read_some(input, &mut buf, room) {
+            Ok(count) => count,
+            Err(stop) => return Err((stop, service.into_keeper())),
+        };
         if count == 0 {
-            finish(alloc, service, &line, out, clock)?;
-            return Ok(());
+            let last = finish(alloc, service, &line, out, clock)?;
+            return Ok(last);
         }
         (service, line) = feed(alloc, service, line, &buf[..count], out, clock)?;
         taken += count as u64;
     }
-    Err(Stop::TooMuch)
+    Err((Stop::TooMuch, service.into_keeper()))
 }
 
-fn is_apply(words: &[String]) -> bool
-    ensures { result ≡ is_apply (map string_bytes words.now) }
-{
-    match words {
-        [word] => word.as_str() == "apply",
-        _ => false,
-    }
-}
-
-fn status_of(stop: Stop) -> u8
-    ensures { result ≡ status_of stop }
-{
-    match stop {
-        Stop::Memory => 3,
-        Stop::Input => 5,
-        Stop::Output => 6,
-        Stop::TooMuch => 9,
-    }
-}
-
-/// Runs the command that the words name, and gives the exit status (`docs/REQUESTS.md`, "The
-/// program"): `apply` answers each line of the input with a line of output.
-pub fn run<S: Source, K: Sink, C: Clock>(
+/// Runs the command that the words name over the disk's journal, and gives the exit status
+/// (`docs/REQUESTS.md`, "The program"): `init` begins a journal, `apply` answers each line of the
+/// input with a line of output, `check` opens the journal, and `members NAME` asks it. A status
+/// other than 0 has a note on `notes`; that it can't be written changes nothing.
+pub fn run<S: Source, K: Sink, N: Sink, D: Disk, C: Clock>(
     alloc: Global,
     words: &[String],
     input: &mut S,
     out: &mut K,
+    notes: &mut N,
+    disk: &mut D,
     clock: &mut C,
 ) -> u8
-    // With status 0 the input has ended, and the bytes written, all flushed, are the texts of the
-    // replies to the lines of all bytes read, at the moments that the clock gave.
-    ensures written { result ≡ 0 → IfSome (S.left input.old) (λ bytes. IfSome (C.moments clock.old) (λ moments. IfSome (K.written out.old)
-        (λ before. Written bytes moments before (K.written out.new)))) }
-    ensures flushed { result ≡ 0 → K.flushed out.new ≡ option_map length (K.written out.new) }
-    ensures ended { result ≡ 0 → IsAtEnd (S.left input.new) }
-
-    // Each other status has its cause; 3 is that there was no memory.
+    // Each status has its cause, and at status 0 the task is done; 3 is that there was no memory.
+    ensures ends { RunEnds (task_of (map string_bytes words.now)) (name_of (map string_bytes words.now)) result
+        (record { left = S.left input.old; reads = S.read_faults input.old; written = K.written out.old; flushed = K.flushed out.old; writes = K.write_faults out.old; moments = C.moments clock.old; held = D.contents disk.old; faults = D.faults disk.old })
+        (record { left = S.left input.new; reads = S.read_faults input.new; written = K.written out.new; flushed = K.flushed out.new; writes = K.write_faults out.new; moments = C.moments clock.new; held = D.contents disk.new; faults = D.faults disk.new }) }
     ensures statuses { IsStatus result }
-    ensures usage { (result ≡ 2) ↔ (is_apply (map string_bytes words.now) ≡ false) }
-    ensures nothing_read { result ≡ 2 → S.left input.new ≡ S.left input.old }
-    ensures nothing_written { result ≡ 2 → K.written out.new ≡ K.written out.old }
-    ensures input { result ≡ 5 → Rose (S.read_faults input.old) (S.read_faults input.new) }
-    ensures output { result ≡ 6 → Rose (K.write_faults out.old) (K.write_faults out.new) }
-    ensures many { result ≡ 9 → Took (S.left input.old) (S.left input.new) (2 ^ 32) }
-    ensures few { result ≡ 0 → (n : ℕ) × (n < 2 ^ 32) × Took (S.left input.old) (S.left input.new) n }
+
+    // A crash at any moment of a run on a disk that opens leaves what it might have left before, or the starting history
+    // followed by a prefix of the commands accepted in this run.
+    ensures crash { (task : Task) → task_of (map string_bytes words.now) ≡ Some task → task ≢ Task.Init → Crashes ⟦<D as Disk>⟧ disk.old disk.new }
+    ensures noted { (end : End) × (result ≡ status_of end) × NotesOnce end (N.written notes.old) (N.write_faults notes.old) (N.written notes.new) (N.write_faults notes.new) }
+    ensures later { D.faults disk.old ≤ D.faults disk.new }
 {
-    if !is_apply(words) {
+    let Some(task) = task_of(words) else {
+        write_note(alloc, notes, End::Usage);
         return 2;
-    }
-    match apply(alloc, input, out, clock) {
-        Ok(()) => 0,
-        Err(stop) => status_of(stop),
-    }
+    };
+    let (end, _disk) = perform(alloc, task, name_of(words), input, out, &mut *disk, clock);
+    write_note(alloc, notes, end);
+    status_of(end)
 }

@@ -1,16 +1,20 @@
 // Lines in, replies out.
-ghost use Rattle.std.specs.Prelude.{◌≡◌, ◌≢◌, ◌≤◌, ◌<◌, ◌∷◌, ◌++◌, [], List, ℕ, ◌⊎◌, All, IfOk, IfErr, OnOk, length, take, slice_index, string_bytes};
+ghost use Rattle.std.specs.Prelude.{◌≡◌, ◌≢◌, ◌≤◌, ◌<◌, ◌∷◌, ◌++◌, [], List, ℕ, Result, ◌⊎◌, All, IfOk, IfErr, OnOk, length, take, slice_index, string_bytes};
 ghost use Rattle.std.specs.Io.KnownBytes.{append_known};
 ghost use Rattle.reg_outside.specs.Faults.{Rose};
-ghost use Rattle.reg_json.specs.Reading.{reading_of};
-ghost use Rattle.registry.specs.Pending.{Holds, Says};
+ghost use Rattle.reg_view.specs.declared.request.Request.{Request};
+ghost use Rattle.reg_facts.specs.declared.refusal.Refusal.{Refusal};
+ghost use Rattle.registry.specs.Kept.{KeptOn, KeepsNext, Halted};
+ghost use Rattle.registry.specs.Pending.{Holds, Tells, AsksWritable};
 ghost use Rattle.registry.specs.Run.{line_of, is_accepted, WritesReply, AnswersLine, Feeds};
+ghost use Rattle.registry.specs.Stops.{stop_of, IsAnswerStop};
 ghost use Rattle.registry.specs.Turn.{Follows};
 
 use crate::pending::{LineReading, PendingLine};
 use crate::service::{Cause, Next, Service};
 use reg_base::Moment;
 use reg_json::{no_memory_line, write_reply};
+use reg_keep::Keeper;
 use reg_outside::{Clock, Failed, Sink, write_whole};
 use reg_view::Reply;
 use std::alloc::{AllocError, Global};
@@ -22,6 +26,8 @@ const LINE_FEED: u8 = 10;
 pub enum Stop {
     /// There was no memory to go on.
     Memory,
+    /// The disk failed.
+    Disk,
     /// The input failed.
     Input,
     /// The output failed.
@@ -38,7 +44,7 @@ fn is_accepted(reply: &Reply) -> bool
 }
 
 /// The text of a reply, and LF.
-fn reply_line(alloc: Global, reply: &Reply) -> Result<String, AllocError>
+pub fn reply_line(alloc: Global, reply: &Reply) -> Result<String, AllocError>
     ensures { IfOk result (λ s. string_bytes s ≡ line_of reply.now) }
 {
     let mut line = write_reply(alloc, reply)?;
@@ -77,41 +83,67 @@ fn write_line<K: Sink>(alloc: Global, reply: &Reply, out: &mut K) -> Result<(), 
 }
 
 /// The reply to a line that isn't skipped, and what follows it.
-fn turn(alloc: Global, service: Service, at: Moment, reading: LineReading) -> (Reply, Next)
-    ensures { (line : List ℕ) → Says reading line → Follows service at (reading_of line) result }
+pub fn turn<J: Keeper>(
+    alloc: Global,
+    service: Service<J>,
+    at: Moment,
+    reading: LineReading,
+) -> (Reply, Next<J>)
+    requires { AsksWritable reading }
+    ensures turn { (told : Result Request Refusal) → Tells reading told → Follows service.state at told result }
+    ensures kept { KeepsNext ⟦<J as Keeper>⟧ service.state.history service.keeper result.1 }
 {
     match reading {
         LineReading::Asked(request) => service.request(alloc, at, request),
         LineReading::Refused(refusal) => service.refuse(at, refusal),
-        LineReading::NoMemory => (Reply::NoMemory, Next::Go(service)),
+        LineReading::NoMemory => {
+            service.stays();
+            (Reply::NoMemory, Next::Go(service))
+        }
+    }
+}
+
+pub fn stop_of(cause: Cause) -> Stop
+    ensures { result ≡ stop_of cause }
+{
+    match cause {
+        Cause::Memory => Stop::Memory,
+        Cause::Disk => Stop::Disk,
     }
 }
 
 /// Answers a line, unless it is skipped. The clock is read once, after the line.
-pub fn answer_line<K: Sink, C: Clock>(
+pub fn answer_line<J: Keeper, K: Sink, C: Clock>(
     alloc: Global,
-    service: Service,
+    service: Service<J>,
     line: &PendingLine,
     out: &mut K,
     clock: &mut C,
-) -> Result<Service, Stop>
+) -> Result<Service<J>, (Stop, J)>
     ensures answered { IfOk result (λ after. (bytes : List ℕ) → Holds line.now bytes →
-        AnswersLine (record { written = K.written out.old; moments = C.moments clock.old; state = service })
-        bytes (record { written = K.written out.new; moments = C.moments clock.new; state = after })) }
+        AnswersLine (record { written = K.written out.old; moments = C.moments clock.old; state = service.state })
+        bytes (record { written = K.written out.new; moments = C.moments clock.new; state = after.state })) }
+    ensures kept { IfOk result (λ after. KeptOn ⟦<J as Keeper>⟧ service.state.history service.keeper after.state.history after.keeper) }
+    ensures halted { IfErr result (λ e. Halted ⟦<J as Keeper>⟧ service.state.history service.keeper e.1) }
     ensures count { K.write_faults out.old ≤ K.write_faults out.new }
-    ensures output { IfErr result (λ e. e ≡ Stop.Output → Rose (K.write_faults out.old) (K.write_faults out.new)) }
-    ensures others { IfErr result (λ e. (e ≡ Stop.Memory) ⊎ (e ≡ Stop.Output)) }
+    ensures output { IfErr result (λ e. e.0 ≡ Stop.Output → Rose (K.write_faults out.old) (K.write_faults out.new)) }
+    ensures disk { IfErr result (λ e. e.0 ≡ Stop.Disk → Rose (J.keep_faults service.keeper) (J.keep_faults e.1)) }
+    ensures others { IfErr result (λ e. IsAnswerStop e.0) }
 {
     if line.is_skipped() {
+        service.stays();
         return Ok(service);
     }
     let moment = clock.now();
     let reading = line.reading(alloc);
     let (reply, next) = turn(alloc, service, moment, reading);
-    write_line(alloc, &reply, out)?;
+    let written = write_line(alloc, &reply, out);
     match next {
-        Next::Go(service) => Ok(service),
-        Next::Stop(Cause::Memory) => Err(Stop::Memory),
+        Next::Stop(cause, keeper) => Err((stop_of(cause), keeper)),
+        Next::Go(service) => match written {
+            Ok(()) => Ok(service),
+            Err(stop) => Err((stop, service.into_keeper())),
+        },
     }
 }
 
@@ -130,27 +162,31 @@ fn line_end(bytes: &[u8]) -> usize
 }
 
 /// Takes bytes up to and with the first LF, which ends the line, and says how many they are.
-fn feed_line<K: Sink, C: Clock>(
+fn feed_line<J: Keeper, K: Sink, C: Clock>(
     alloc: Global,
-    service: Service,
+    service: Service<J>,
     line: PendingLine,
     bytes: &[u8],
     out: &mut K,
     clock: &mut C,
-) -> Result<(Service, PendingLine, usize), Stop>
+) -> Result<(Service<J>, PendingLine, usize), (Stop, J)>
     ensures within { IfOk result (λ after. after.2 ≤ length bytes.now) }
     ensures some { IfOk result (λ after. 0 < length bytes.now → 0 < after.2) }
     ensures fed { IfOk result (λ after.
-        Feeds (record { written = K.written out.old; moments = C.moments clock.old; state = service }) line (take after.2 bytes.now)
-        (record { written = K.written out.new; moments = C.moments clock.new; state = after.0 }) after.1) }
+        Feeds (record { written = K.written out.old; moments = C.moments clock.old; state = service.state }) line (take after.2 bytes.now)
+        (record { written = K.written out.new; moments = C.moments clock.new; state = after.0.state }) after.1) }
+    ensures kept { IfOk result (λ after. KeptOn ⟦<J as Keeper>⟧ service.state.history service.keeper after.0.state.history after.0.keeper) }
+    ensures halted { IfErr result (λ e. Halted ⟦<J as Keeper>⟧ service.state.history service.keeper e.1) }
     ensures count { K.write_faults out.old ≤ K.write_faults out.new }
-    ensures output { IfErr result (λ e. e ≡ Stop.Output → Rose (K.write_faults out.old) (K.write_faults out.new)) }
-    ensures others { IfErr result (λ e. (e ≡ Stop.Memory) ⊎ (e ≡ Stop.Output)) }
+    ensures output { IfErr result (λ e. e.0 ≡ Stop.Output → Rose (K.write_faults out.old) (K.write_faults out.new)) }
+    ensures disk { IfErr result (λ e. e.0 ≡ Stop.Disk → Rose (J.keep_faults service.keeper) (J.keep_faults e.1)) }
+    ensures others { IfErr result (λ e. IsAnswerStop e.0) }
 {
     let end = line_end(bytes);
     let (front, _) = bytes.split_at(end);
     let line = line.extend(front);
     if end == bytes.len() {
+        service.stays();
         return Ok((service, line, end));
     }
     let service = answer_line(alloc, service, &line, out, clock)?;
@@ -158,21 +194,25 @@ fn feed_line<K: Sink, C: Clock>(
 }
 
 /// Answers the lines that a piece of input ends, and keeps the rest of it pending.
-pub fn feed<K: Sink, C: Clock>(
+pub fn feed<J: Keeper, K: Sink, C: Clock>(
     alloc: Global,
-    service: Service,
+    service: Service<J>,
     line: PendingLine,
     piece: &[u8],
     out: &mut K,
     clock: &mut C,
-) -> Result<(Service, PendingLine), Stop>
+) -> Result<(Service<J>, PendingLine), (Stop, J)>
     ensures fed { IfOk result (λ after.
-        Feeds (record { written = K.written out.old; moments = C.moments clock.old; state = service }) line piece.now
-        (record { written = K.written out.new; moments = C.moments clock.new; state = after.0 }) after.1) }
+        Feeds (record { written = K.written out.old; moments = C.moments clock.old; state = service.state }) line piece.now
+        (record { written = K.written out.new; moments = C.moments clock.new; state = after.0.state }) after.1) }
+    ensures kept { IfOk result (λ after. KeptOn ⟦<J as Keeper>⟧ service.state.history service.keeper after.0.state.history after.0.keeper) }
+    ensures halted { IfErr result (λ e. Halted ⟦<J as Keeper>⟧ service.state.history service.keeper e.1) }
     ensures count { K.write_faults out.old ≤ K.write_faults out.new }
-    ensures output { IfErr result (λ e. e ≡ Stop.Output → Rose (K.write_faults out.old) (K.write_faults out.new)) }
-    ensures others { IfErr result (λ e. (e ≡ Stop.Memory) ⊎ (e ≡ Stop.Output)) }
+    ensures output { IfErr result (λ e. e.0 ≡ Stop.Output → Rose (K.write_faults out.old) (K.write_faults out.new)) }
+    ensures disk { IfErr result (λ e. e.0 ≡ Stop.Disk → Rose (J.keep_faults service.keeper) (J.keep_faults e.1)) }
+    ensures others { IfErr result (λ e. IsAnswerStop e.0) }
 {
+    service.stays();
     let mut service = service;
     let mut line = line;
     let mut at = 0;

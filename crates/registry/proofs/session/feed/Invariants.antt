@@ -1,5 +1,6 @@
 use Rattle.std.proofs.Common.{◌≤◌, ◌-◌, length, take}
 use Rattle.registry.specs.Run.{Feeds}
+use Rattle.registry.specs.Kept.{KeptOn}
 use Rattle.registry.proofs.session.feed.Given as goal
 
 -- the bytes up to a place were taken
@@ -9,10 +10,11 @@ invariant-loop-at g l =
     let moments = g.C.Clock.moments in
     let faults = g.K.Sink.write_faults in
     record {
-      fed : Feeds (record { written = written l.fn.out; moments = moments l.fn.clock; state = l.fn.service }) l.fn.line (take l.at l.piece)
-          (record { written = written l.out; moments = moments l.clock; state = l.service }) l.line;
+      fed : Feeds (record { written = written l.fn.out; moments = moments l.fn.clock; state = l.fn.service.state }) l.fn.line (take l.at l.piece)
+          (record { written = written l.out; moments = moments l.clock; state = l.service.state }) l.line;
       within : l.at ≤ length l.piece;
       count : faults l.fn.out ≤ faults l.out;
+      kept : KeptOn g.J.Keeper l.fn.service.state.history l.fn.service.keeper l.service.state.history l.service.keeper;
     }
 
 abbrev pub decreases-loop-at : goal.decreases-loop-at

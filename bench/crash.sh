@@ -1,0 +1,58 @@
+#!/bin/sh
+# Feeds the built program by a slow writer and kills it at a random moment, 200 times. After each kill
+# `check` must open the journal, and every acknowledged line must be in it. Prints how many
+# acknowledged commands were looked at, and how many were lost.
+set -u
+cd "$(dirname "$0")/.." || exit 1
+program=$(pwd)/crates/registry/out/registry
+[ -x "$program" ] || { echo "crash: build the program first: (cd crates/registry && rt run -- FILE check)" >&2; exit 1; }
+runs=${1:-200}
+folder=$(mktemp -d)
+trap 'rm -rf "$folder"' EXIT
+python3 - "$program" "$folder/journal" "$runs" <<'EOF'
+import os, random, signal, subprocess, sys, threading, time
+
+program, journal, runs = sys.argv[1], sys.argv[2], int(sys.argv[3])
+random.seed(7)
+looked = lost = 0
+
+
+def line(n):
+    return b'{"by":"g:isa/GrouperSystem","op":"subject.add","subject":"uni/p%d"}\n' % n
+
+
+def write(pipe):
+    try:
+        for n in range(100000):
+            pipe.write(line(n))
+            pipe.flush()
+            time.sleep(random.random() / 1000)
+    except (BrokenPipeError, ValueError, OSError):
+        pass
+
+
+for run in range(runs):
+    if os.path.exists(journal):
+        os.remove(journal)
+    subprocess.run([program, journal, "init"], check=True)
+    process = subprocess.Popen([program, journal, "apply"], stdin=subprocess.PIPE, stdout=subprocess.PIPE)
+    writer = threading.Thread(target=write, args=(process.stdin,), daemon=True)
+    writer.start()
+    threading.Timer(0.02 + random.random() * 0.3, lambda: os.kill(process.pid, signal.SIGKILL)).start()
+    replies = process.stdout.read()
+    process.wait()
+    writer.join()
+    acknowledged = replies[: replies.rfind(b"\n") + 1].count(b'"ok":true}\n')
+    check = subprocess.run([program, journal, "check"], stdout=subprocess.PIPE)
+    if check.returncode != 0:
+        print("run %d: the journal doesn't open, status %d" % (run, check.returncode))
+        sys.exit(1)
+    kept = int(check.stdout.split()[1])
+    looked += acknowledged
+    lost += max(0, acknowledged - kept)
+    if kept > acknowledged + 1 and kept > 100000:
+        print("run %d: more commands than were sent" % run)
+        sys.exit(1)
+print("%d kills, %d acknowledged commands looked at, %d lost" % (runs, looked, lost))
+sys.exit(0 if lost == 0 else 1)
+EOF

@@ -1,0 +1,23 @@
+use Rattle.std.proofs.Common.{◌≡◌, ◌∙◌, sym, ap, rules, Some}
+use Rattle.reg_base.specs.NameParts.{extension_of}
+use Rattle.reg_facts.specs.declared.kinds.Object.TheVariants.{Folder}
+use Rattle.reg_facts.specs.Naming.{child, folder_id}
+use Rattle.reg_facts.specs.Edits.{the_id, folder_deleted}
+use Rattle.reg_facts.proofs.Walking.{folder_name, folder_home}
+use Rattle.reg_facts.proofs.Indexing.{folder_deleted_indexed}
+use Rattle.reg_facts.proofs.facts.Facts.delete_folder.Goals as goal
+
+-- a folder that isn't the root has a name
+pub home_of_folder-home-requires-clause-name : goal.home_of_folder-home-requires-clause-name
+home_of_folder-home-requires-clause-name c = folder_name c.args.folder.now c.args.self c.requires.form c.requires.suits.0.not_root
+
+-- the maps find what the lists hold after the edit
+pub invariant_of-facts : goal.invariant_of-facts
+invariant_of-facts c =
+    let at = folder_home c.args.folder.now c.args.self (folder_name c.args.folder.now c.args.self c.requires.form c.requires.suits.0.not_root) c.requires.suits.0.stands in
+    let given : folder_id c.args.folder.now c.args.self ≡ Some c.unwrap-id.result = sym (rw c.as_str.ensures at c.folder_id.ensures) ∙ c.unwrap-id.ensures in
+    let id : the_id (folder_id c.args.folder.now c.args.self) ≡ c.unwrap-id.result = ap the_id given in
+    let there : child c.home_of_folder-home.result.0 (extension_of c.args.folder.now) c.args.self ≡ Some (Folder (the_id (folder_id c.args.folder.now c.args.self))) = (rw c.home_of_folder-home.ensures.extension at c.home_of_folder-home.ensures.there) ∙ at.resolved in
+    let is : c.delete_folder.new.self ≡ folder_deleted (the_id (folder_id c.args.folder.now c.args.self)) c.args.self = search rules in
+    rw is (folder_deleted_indexed c.facts.inside.subject_index c.facts.inside.children c.take.new.self c.facts.inside.row_set c.args.folder.now c.home_of_folder-home.result.0 c.args.self
+    (rw c.facts.view_is at c.facts.invariant) c.requires there (λ x y. rw (← c.number.ensures, ← c.home_of_folder-home.ensures.extension) (c.take.ensures x y)))

@@ -1,0 +1,219 @@
+// The lists of the facts.
+ghost use Rattle.std.specs.Prelude.{◌≡◌, ◌∷◌, ◌++◌, [], IfOk, OnOk, List, ℕ, None, Some, map, filter, not, ◌==◌};
+ghost use Rattle.reg_facts.specs.Lists.{Lists, start};
+ghost use Rattle.reg_facts.specs.Edits.{folder_renamed, folder_moved, group_renamed, group_moved, folder_deleted, group_deleted, is_row};
+ghost use Rattle.reg_facts.specs.declared.rows.FolderRow.{FolderRow};
+ghost use Rattle.reg_facts.specs.declared.rows.GroupRow.{GroupRow};
+ghost use Rattle.reg_facts.specs.declared.rows.MemberRow.{MemberRow};
+
+use crate::{
+    AssignRow, AttributeRow, CompositeRow, ConsumerRow, DefinitionRow, FolderRow, GrantRow,
+    GroupRow, InheritRow, JobRow, Made, Member, MemberRow, Object, RuleRow, SubjectRow, list_edits,
+};
+use reg_base::{FolderId, GroupId, Moment, SubjectId, Text};
+use std::alloc::{AllocError, Global};
+use std::marker::Model;
+
+/// The lists. Contracts see the record of them.
+#[derive(Debug, Drop)]
+pub struct Tables {
+    pub folder_rows: Vec<FolderRow>,
+    pub group_rows: Vec<GroupRow>,
+    pub subject_rows: Vec<SubjectRow>,
+    pub member_rows: Vec<MemberRow>,
+    pub composite_rows: Vec<CompositeRow>,
+    pub grant_rows: Vec<GrantRow>,
+    pub inherit_rows: Vec<InheritRow>,
+    pub definition_rows: Vec<DefinitionRow>,
+    pub attribute_rows: Vec<AttributeRow>,
+    pub assign_rows: Vec<AssignRow>,
+    pub rule_rows: Vec<RuleRow>,
+    pub job_rows: Vec<JobRow>,
+    pub consumer_rows: Vec<ConsumerRow>,
+    pub counts: Made,
+}
+
+impl Model for Tables {
+    ghost use Rattle.reg_facts.specs.Lists.{Lists};
+
+    ghost Value = { Lists };
+
+    ghost view = { λ t. record {
+      folders = t.folder_rows.items;
+      groups = t.group_rows.items;
+      subjects = t.subject_rows.items;
+      rows = t.member_rows.items;
+      composites = t.composite_rows.items;
+      grants = t.grant_rows.items;
+      inherits = t.inherit_rows.items;
+      definitions = t.definition_rows.items;
+      attributes = t.attribute_rows.items;
+      assigns = t.assign_rows.items;
+      rules = t.rule_rows.items;
+      jobs = t.job_rows.items;
+      consumers = t.consumer_rows.items;
+      made = t.counts;
+    } };
+}
+
+fn none_made() -> Made
+    ensures { result ≡ record { folders = 0; groups = 0; subjects = 0; definitions = 0; attributes = 0; assigns = 0; rules = 0; jobs = 0 } }
+{
+    Made {
+        folders: 0,
+        groups: 0,
+        subjects: 0,
+        definitions: 0,
+        attributes: 0,
+        assigns: 0,
+        rules: 0,
+        jobs: 0,
+    }
+}
+
+impl Tables {
+    /// The root folder alone.
+    pub fn start(alloc: Global) -> Result<Tables, AllocError>
+        ensures { IfOk result (λ t. t ≡ start) }
+    {
+        let mut folder_rows = Vec::new(alloc);
+        folder_rows.push(FolderRow {
+            id: FolderId::new(0),
+            parent: None,
+            extension: Text::new(alloc, "")?,
+            display: Text::new(alloc, "")?,
+        })?;
+        Ok(Tables {
+            folder_rows,
+            group_rows: Vec::new(alloc),
+            subject_rows: Vec::new(alloc),
+            member_rows: Vec::new(alloc),
+            composite_rows: Vec::new(alloc),
+            grant_rows: Vec::new(alloc),
+            inherit_rows: Vec::new(alloc),
+            definition_rows: Vec::new(alloc),
+            attribute_rows: Vec::new(alloc),
+            assign_rows: Vec::new(alloc),
+            rule_rows: Vec::new(alloc),
+            job_rows: Vec::new(alloc),
+            consumer_rows: Vec::new(alloc),
+            counts: none_made(),
+        })
+    }
+
+    /// Adds a folder of the next id.
+    pub fn push_folder(&mut self, row: FolderRow) -> Result<(), AllocError>
+        ensures { OnOk result (self.new ≡ record self.old { folders = self.old.folders ++ row ∷ []; made = record self.old.made { folders = row.id } }) }
+    {
+        let number = row.id.number();
+        self.folder_rows.push(row)?;
+        self.counts.folders = number;
+        Ok(())
+    }
+
+    /// Adds a group of the next id.
+    pub fn push_group(&mut self, row: GroupRow) -> Result<(), AllocError>
+        ensures { OnOk result (self.new ≡ record self.old { groups = self.old.groups ++ row ∷ []; made = record self.old.made { groups = row.id } }) }
+    {
+        let number = row.id.number();
+        self.group_rows.push(row)?;
+        self.counts.groups = number;
+        Ok(())
+    }
+
+    /// Adds a subject of the next id.
+    pub fn push_subject(&mut self, row: SubjectRow) -> Result<(), AllocError>
+        ensures { OnOk result (self.new ≡ record self.old { subjects = self.old.subjects ++ row ∷ []; made = record self.old.made { subjects = row.id } }) }
+    {
+        let number = row.id.number();
+        self.subject_rows.push(row)?;
+        self.counts.subjects = number;
+        Ok(())
+    }
+
+    /// Adds an immediate membership without an end.
+    pub fn push_row(
+        &mut self,
+        group: GroupId,
+        member: Member,
+        from: Moment,
+    ) -> Result<(), AllocError>
+        ensures { OnOk result (self.new ≡ record self.old { rows = self.old.rows ++ (record { group = group; member = member; from = from; until = None }) ∷ [] }) }
+    {
+        self.member_rows.push(MemberRow {
+            group,
+            member,
+            from,
+            until: None,
+        })?;
+        Ok(())
+    }
+
+    /// Gives a folder another extension.
+    pub fn rename_folder(
+        &mut self,
+        alloc: Global,
+        id: FolderId,
+        extension: &Text,
+    ) -> Result<(), AllocError>
+        ensures { OnOk result (self.new ≡ record self.old { folders = map (folder_renamed id extension.now) self.old.folders }) }
+    {
+        list_edits::rename_folder(alloc, self.folder_rows.as_mut_slice(), id, extension)
+    }
+
+    /// Puts a folder into another.
+    pub fn move_folder(&mut self, id: FolderId, to: FolderId)
+        ensures { self.new ≡ record self.old { folders = map (folder_moved id to) self.old.folders } }
+    {
+        list_edits::move_folder(self.folder_rows.as_mut_slice(), id, to);
+    }
+
+    /// Gives a group another extension.
+    pub fn rename_group(
+        &mut self,
+        alloc: Global,
+        id: GroupId,
+        extension: &Text,
+    ) -> Result<(), AllocError>
+        ensures { OnOk result (self.new ≡ record self.old { groups = map (group_renamed id extension.now) self.old.groups }) }
+    {
+        list_edits::rename_group(alloc, self.group_rows.as_mut_slice(), id, extension)
+    }
+
+    /// Puts a group into another folder.
+    pub fn move_group(&mut self, id: GroupId, to: FolderId)
+        ensures { self.new ≡ record self.old { groups = map (group_moved id to) self.old.groups } }
+    {
+        list_edits::move_group(self.group_rows.as_mut_slice(), id, to);
+    }
+
+    /// Takes away a folder, and the grants, inherits and assignments on it.
+    pub fn delete_folder(&mut self, id: FolderId)
+        ensures { self.new ≡ folder_deleted id self.old }
+    {
+        let object = Object::Folder(id);
+        list_edits::drop_folder(&mut self.folder_rows, id);
+        list_edits::drop_inherits(&mut self.inherit_rows, id);
+        list_edits::drop_grants(&mut self.grant_rows, &object);
+        list_edits::drop_assigns(&mut self.assign_rows, &object);
+    }
+
+    /// Takes away a group, its rows and factors, and the grants and assignments on it.
+    pub fn delete_group(&mut self, id: GroupId)
+        ensures { self.new ≡ group_deleted id self.old }
+    {
+        let object = Object::Group(id);
+        list_edits::drop_group(&mut self.group_rows, id);
+        list_edits::drop_rows(&mut self.member_rows, id);
+        list_edits::drop_composite(&mut self.composite_rows, id);
+        list_edits::drop_grants(&mut self.grant_rows, &object);
+        list_edits::drop_assigns(&mut self.assign_rows, &object);
+    }
+
+    /// Takes an immediate membership away.
+    pub fn remove_row(&mut self, group: GroupId, member: &Member)
+        ensures { self.new ≡ record self.old { rows = filter (λ (row : MemberRow). not (is_row group member.now row)) self.old.rows } }
+    {
+        list_edits::drop_row(&mut self.member_rows, group, member);
+    }
+}

@@ -1,0 +1,71 @@
+-- The fields of a request: first that they are texts that may stand there, and later that the texts have their forms.
+use Rattle.std.specs.Prelude.{ℕ, List, [], ◌∷◌, ◌&&◌, Bool, true, not, Option, Some, None, Result, Ok, Err, drop, nat_eq, codes, option_and_then, if◌then◌else◌, ok_or}
+use Rattle.std.specs.List.{list_any, starts_with}
+use Rattle.std.specs.Str.{bytes_eq}
+use Rattle.serde_json.specs.Data.{Data, Members, no_members, member}
+use Rattle.serde_json.specs.Find.{get, as_str}
+use Rattle.reg_base.specs.Names.{is_extension, is_name, name_of}
+use Rattle.reg_base.specs.Entities.{entity_of}
+use Rattle.reg_base.specs.declared.entity.Entity.{Entity}
+use Rattle.reg_facts.specs.Suiting.{is_display, is_folder_text}
+use Rattle.reg_facts.specs.declared.refusal.Refusal.{Refusal}
+use Rattle.reg_facts.specs.declared.refusal.Refusal.TheVariants.{BadRequest, BadName}
+use Rattle.reg_json.specs.Steps.{◌>>=◌, ensured}
+
+-- an object's keys
+abbrev pub key_list : Members → List (List ℕ)
+key_list no_members = []
+key_list (member k d ms) = k ∷ key_list ms
+
+-- the first key that isn't known
+abbrev pub other_key : List (List ℕ) → List (List ℕ) → Option (List ℕ)
+other_key known [] = None
+other_key known (k ∷ ks) = if list_any (λ word. bytes_eq word k) known then other_key known ks else Some k
+
+-- no key but these
+unfoldable pub no_other : List (List ℕ) → Option Members → Result Bool Refusal
+no_other known None = Ok true
+no_other known (Some ms) = elim (other_key known (key_list ms)) [ None ↦ Ok true | Some k ↦ Err (BadRequest k) ]
+
+-- a text that has to be there
+unfoldable pub text_at : List ℕ → Data → Result (List ℕ) Refusal
+text_at key d = ok_or (option_and_then as_str (get key d)) (BadRequest key)
+
+-- a text that may be left out, and is then empty
+unfoldable pub text_or_empty : List ℕ → Option Data → Result (List ℕ) Refusal
+text_or_empty key None = Ok []
+text_or_empty key (Some d) = ok_or (as_str d) (BadRequest key)
+
+-- the display text
+unfoldable pub display_at : Data → Result (List ℕ) Refusal
+display_at d = do
+  display ← text_or_empty (codes "display") (get (codes "display") d)
+  short ← ensured (is_display display) (codes "display")
+  Ok display
+
+-- the text of a group as an entity
+abbrev pub is_group_text : List ℕ → Bool
+is_group_text text = starts_with nat_eq text (codes "g:gsa/") && is_name (drop 6 text)
+
+-- the text of a member, which isn't a group's yet
+unfoldable pub member_at : Data → Result (List ℕ) Refusal
+member_at d = do
+  text ← text_at (codes "member") d
+  single ← ensured (not (is_group_text text)) (codes "member")
+  Ok text
+
+-- the name that a field's text is
+unfoldable pub name_from : List ℕ → List ℕ → Result (List ℕ) Refusal
+name_from field text = ok_or (name_of text) (BadName field)
+
+-- the name of a folder, or `:`, that a field's text is
+unfoldable pub folder_from : List ℕ → List ℕ → Result (List ℕ) Refusal
+folder_from field text = if is_folder_text text then Ok text else Err (BadName field)
+
+-- the extension that a field's text is
+unfoldable pub extension_from : List ℕ → List ℕ → Result (List ℕ) Refusal
+extension_from field text = if is_extension text then Ok text else Err (BadName field)
+
+-- the entity that a field's text names
+unfoldable pub entity_from : List ℕ → List ℕ → Result Entity Refusal
+entity_from field text = ok_or (entity_of text) (BadName field)

@@ -1,0 +1,138 @@
+-- What an object of each op asks: first its fields stand there and no others do, then each has its form.
+use Rattle.std.specs.Prelude.{[], ◌∷◌, Result, Ok, codes}
+use Rattle.serde_json.specs.Data.{Data}
+use Rattle.serde_json.specs.Find.{as_object}
+use Rattle.reg_view.specs.declared.request.Op.{Op}
+use Rattle.reg_view.specs.declared.request.Op.TheVariants as op
+use Rattle.reg_view.specs.declared.query.Query.TheVariants as query
+use Rattle.reg_facts.specs.declared.command.Command.TheVariants.{FolderAdd, FolderRename, FolderMove, FolderDelete, SubjectAdd, GroupAdd, GroupRename, GroupMove, GroupDelete, MemberAdd, MemberRemove}
+use Rattle.reg_facts.specs.declared.refusal.Refusal.{Refusal}
+use Rattle.reg_json.specs.Steps.{◌>>=◌}
+use Rattle.reg_json.specs.Fields.{no_other, text_at, display_at, member_at, name_from, folder_from, extension_from, entity_from}
+
+-- what an object asks whose op is folder.add
+unfoldable pub folder_add : Data → Result Op Refusal
+folder_add d = do
+  folder_text ← text_at (codes "folder") d
+  display ← display_at d
+  known ← no_other (codes "by" ∷ codes "display" ∷ codes "folder" ∷ codes "op" ∷ []) (as_object d)
+  folder ← name_from (codes "folder") folder_text
+  Ok (op.Command (FolderAdd folder display))
+
+-- what an object asks whose op is folder.rename
+unfoldable pub folder_rename : Data → Result Op Refusal
+folder_rename d = do
+  folder_text ← text_at (codes "folder") d
+  extension_text ← text_at (codes "extension") d
+  known ← no_other (codes "by" ∷ codes "extension" ∷ codes "folder" ∷ codes "op" ∷ []) (as_object d)
+  folder ← folder_from (codes "folder") folder_text
+  extension ← extension_from (codes "extension") extension_text
+  Ok (op.Command (FolderRename folder extension))
+
+-- what an object asks whose op is folder.move
+unfoldable pub folder_move : Data → Result Op Refusal
+folder_move d = do
+  folder_text ← text_at (codes "folder") d
+  to_text ← text_at (codes "to") d
+  known ← no_other (codes "by" ∷ codes "folder" ∷ codes "op" ∷ codes "to" ∷ []) (as_object d)
+  folder ← folder_from (codes "folder") folder_text
+  to ← folder_from (codes "to") to_text
+  Ok (op.Command (FolderMove folder to))
+
+-- what an object asks whose op is folder.delete
+unfoldable pub folder_delete : Data → Result Op Refusal
+folder_delete d = do
+  folder_text ← text_at (codes "folder") d
+  known ← no_other (codes "by" ∷ codes "folder" ∷ codes "op" ∷ []) (as_object d)
+  folder ← folder_from (codes "folder") folder_text
+  Ok (op.Command (FolderDelete folder))
+
+-- what an object asks whose op is subject.add
+unfoldable pub subject_add : Data → Result Op Refusal
+subject_add d = do
+  subject_text ← text_at (codes "subject") d
+  display ← display_at d
+  known ← no_other (codes "by" ∷ codes "display" ∷ codes "op" ∷ codes "subject" ∷ []) (as_object d)
+  subject ← entity_from (codes "subject") subject_text
+  Ok (op.Command (SubjectAdd subject display))
+
+-- what an object asks whose op is group.add
+unfoldable pub group_add : Data → Result Op Refusal
+group_add d = do
+  group_text ← text_at (codes "group") d
+  display ← display_at d
+  known ← no_other (codes "by" ∷ codes "display" ∷ codes "group" ∷ codes "op" ∷ []) (as_object d)
+  group ← name_from (codes "group") group_text
+  Ok (op.Command (GroupAdd group display))
+
+-- what an object asks whose op is group.rename
+unfoldable pub group_rename : Data → Result Op Refusal
+group_rename d = do
+  group_text ← text_at (codes "group") d
+  extension_text ← text_at (codes "extension") d
+  known ← no_other (codes "by" ∷ codes "extension" ∷ codes "group" ∷ codes "op" ∷ []) (as_object d)
+  group ← name_from (codes "group") group_text
+  extension ← extension_from (codes "extension") extension_text
+  Ok (op.Command (GroupRename group extension))
+
+-- what an object asks whose op is group.move
+unfoldable pub group_move : Data → Result Op Refusal
+group_move d = do
+  group_text ← text_at (codes "group") d
+  to_text ← text_at (codes "to") d
+  known ← no_other (codes "by" ∷ codes "group" ∷ codes "op" ∷ codes "to" ∷ []) (as_object d)
+  group ← name_from (codes "group") group_text
+  to ← folder_from (codes "to") to_text
+  Ok (op.Command (GroupMove group to))
+
+-- what an object asks whose op is group.delete
+unfoldable pub group_delete : Data → Result Op Refusal
+group_delete d = do
+  group_text ← text_at (codes "group") d
+  known ← no_other (codes "by" ∷ codes "group" ∷ codes "op" ∷ []) (as_object d)
+  group ← name_from (codes "group") group_text
+  Ok (op.Command (GroupDelete group))
+
+-- what an object asks whose op is member.add
+unfoldable pub member_add : Data → Result Op Refusal
+member_add d = do
+  group_text ← text_at (codes "group") d
+  member_text ← member_at d
+  known ← no_other (codes "by" ∷ codes "group" ∷ codes "member" ∷ codes "op" ∷ []) (as_object d)
+  group ← name_from (codes "group") group_text
+  member ← entity_from (codes "member") member_text
+  Ok (op.Command (MemberAdd group member))
+
+-- what an object asks whose op is member.remove
+unfoldable pub member_remove : Data → Result Op Refusal
+member_remove d = do
+  group_text ← text_at (codes "group") d
+  member_text ← member_at d
+  known ← no_other (codes "by" ∷ codes "group" ∷ codes "member" ∷ codes "op" ∷ []) (as_object d)
+  group ← name_from (codes "group") group_text
+  member ← entity_from (codes "member") member_text
+  Ok (op.Command (MemberRemove group member))
+
+-- what an object asks whose op is group.get
+unfoldable pub group_get : Data → Result Op Refusal
+group_get d = do
+  group_text ← text_at (codes "group") d
+  known ← no_other (codes "by" ∷ codes "group" ∷ codes "op" ∷ []) (as_object d)
+  group ← name_from (codes "group") group_text
+  Ok (op.Query (query.GroupGet group))
+
+-- what an object asks whose op is folder.list
+unfoldable pub folder_list : Data → Result Op Refusal
+folder_list d = do
+  folder_text ← text_at (codes "folder") d
+  known ← no_other (codes "by" ∷ codes "folder" ∷ codes "op" ∷ []) (as_object d)
+  folder ← folder_from (codes "folder") folder_text
+  Ok (op.Query (query.FolderList folder))
+
+-- what an object asks whose op is members
+unfoldable pub members : Data → Result Op Refusal
+members d = do
+  group_text ← text_at (codes "group") d
+  known ← no_other (codes "by" ∷ codes "group" ∷ codes "op" ∷ []) (as_object d)
+  group ← name_from (codes "group") group_text
+  Ok (op.Query (query.Members group))

@@ -1,0 +1,153 @@
+// The ops that are commands.
+ghost use Rattle.std.specs.Prelude.{◌≡◌};
+ghost use Rattle.serde_json.specs.View.{view};
+ghost use Rattle.reg_json.specs.Steps.{Gives};
+ghost use Rattle.reg_json.specs.Ops.{folder_add, folder_rename, folder_move, folder_delete, subject_add, group_add, group_rename, group_move, group_delete, member_add, member_remove};
+
+use crate::fault::ReadFault;
+use crate::fields::{display_at, member_at, no_other, text_at};
+use crate::forms::{entity_from, extension_from, folder_from, name_from};
+use reg_base::Text;
+use reg_facts::Command;
+use reg_view::Op;
+use serde_json::Value;
+use std::alloc::Global;
+
+/// What an object asks whose op is `folder.add`.
+#[tactic(auto, unfolding(crate::specs::Ops::folder_add))]
+pub fn folder_add(alloc: Global, value: &Value) -> Result<Op, ReadFault>
+    ensures { Gives (λ o. o) result (folder_add (view value.now)) }
+{
+    let folder = text_at(alloc, value, "folder")?;
+    let display = display_at(alloc, value)?;
+    no_other(alloc, value, &["by", "display", "folder", "op"])?;
+    let folder = name_from(alloc, "folder", folder)?;
+    let display = Text::new(alloc, display)?;
+    Ok(Op::Command(Command::FolderAdd { folder, display }))
+}
+
+/// What an object asks whose op is `folder.rename`.
+#[tactic(auto, unfolding(crate::specs::Ops::folder_rename))]
+pub fn folder_rename(alloc: Global, value: &Value) -> Result<Op, ReadFault>
+    ensures { Gives (λ o. o) result (folder_rename (view value.now)) }
+{
+    let folder = text_at(alloc, value, "folder")?;
+    let extension = text_at(alloc, value, "extension")?;
+    no_other(alloc, value, &["by", "extension", "folder", "op"])?;
+    let folder = folder_from(alloc, "folder", folder)?;
+    let extension = extension_from(alloc, "extension", extension)?;
+    Ok(Op::Command(Command::FolderRename { folder, extension }))
+}
+
+/// What an object asks whose op is `folder.move`.
+#[tactic(auto, unfolding(crate::specs::Ops::folder_move))]
+pub fn folder_move(alloc: Global, value: &Value) -> Result<Op, ReadFault>
+    ensures { Gives (λ o. o) result (folder_move (view value.now)) }
+{
+    let folder = text_at(alloc, value, "folder")?;
+    let to = text_at(alloc, value, "to")?;
+    no_other(alloc, value, &["by", "folder", "op", "to"])?;
+    let folder = folder_from(alloc, "folder", folder)?;
+    let to = folder_from(alloc, "to", to)?;
+    Ok(Op::Command(Command::FolderMove { folder, to }))
+}
+
+/// What an object asks whose op is `folder.delete`.
+#[tactic(auto, unfolding(crate::specs::Ops::folder_delete))]
+pub fn folder_delete(alloc: Global, value: &Value) -> Result<Op, ReadFault>
+    ensures { Gives (λ o. o) result (folder_delete (view value.now)) }
+{
+    let folder = text_at(alloc, value, "folder")?;
+    no_other(alloc, value, &["by", "folder", "op"])?;
+    let folder = folder_from(alloc, "folder", folder)?;
+    Ok(Op::Command(Command::FolderDelete { folder }))
+}
+
+/// What an object asks whose op is `subject.add`.
+#[tactic(auto, unfolding(crate::specs::Ops::subject_add))]
+pub fn subject_add(alloc: Global, value: &Value) -> Result<Op, ReadFault>
+    ensures { Gives (λ o. o) result (subject_add (view value.now)) }
+{
+    let subject = text_at(alloc, value, "subject")?;
+    let display = display_at(alloc, value)?;
+    no_other(alloc, value, &["by", "display", "op", "subject"])?;
+    let subject = entity_from(alloc, "subject", subject)?;
+    let display = Text::new(alloc, display)?;
+    Ok(Op::Command(Command::SubjectAdd { subject, display }))
+}
+
+/// What an object asks whose op is `group.add`.
+#[tactic(auto, unfolding(crate::specs::Ops::group_add))]
+pub fn group_add(alloc: Global, value: &Value) -> Result<Op, ReadFault>
+    ensures { Gives (λ o. o) result (group_add (view value.now)) }
+{
+    let group = text_at(alloc, value, "group")?;
+    let display = display_at(alloc, value)?;
+    no_other(alloc, value, &["by", "display", "group", "op"])?;
+    let group = name_from(alloc, "group", group)?;
+    let display = Text::new(alloc, display)?;
+    Ok(Op::Command(Command::GroupAdd { group, display }))
+}
+
+/// What an object asks whose op is `group.rename`.
+#[tactic(auto, unfolding(crate::specs::Ops::group_rename))]
+pub fn group_rename(alloc: Global, value: &Value) -> Result<Op, ReadFault>
+    ensures { Gives (λ o. o) result (group_rename (view value.now)) }
+{
+    let group = text_at(alloc, value, "group")?;
+    let extension = text_at(alloc, value, "extension")?;
+    no_other(alloc, value, &["by", "extension", "group", "op"])?;
+    let group = name_from(alloc, "group", group)?;
+    let extension = extension_from(alloc, "extension", extension)?;
+    Ok(Op::Command(Command::GroupRename { group, extension }))
+}
+
+/// What an object asks whose op is `group.move`.
+#[tactic(auto, unfolding(crate::specs::Ops::group_move))]
+pub fn group_move(alloc: Global, value: &Value) -> Result<Op, ReadFault>
+    ensures { Gives (λ o. o) result (group_move (view value.now)) }
+{
+    let group = text_at(alloc, value, "group")?;
+    let to = text_at(alloc, value, "to")?;
+    no_other(alloc, value, &["by", "group", "op", "to"])?;
+    let group = name_from(alloc, "group", group)?;
+    let to = folder_from(alloc, "to", to)?;
+    Ok(Op::Command(Command::GroupMove { group, to }))
+}
+
+/// What an object asks whose op is `group.delete`.
+#[tactic(auto, unfolding(crate::specs::Ops::group_delete))]
+pub fn group_delete(alloc: Global, value: &Value) -> Result<Op, ReadFault>
+    ensures { Gives (λ o. o) result (group_delete (view value.now)) }
+{
+    let group = text_at(alloc, value, "group")?;
+    no_other(alloc, value, &["by", "group", "op"])?;
+    let group = name_from(alloc, "group", group)?;
+    Ok(Op::Command(Command::GroupDelete { group }))
+}
+
+/// What an object asks whose op is `member.add`.
+#[tactic(auto, unfolding(crate::specs::Ops::member_add))]
+pub fn member_add(alloc: Global, value: &Value) -> Result<Op, ReadFault>
+    ensures { Gives (λ o. o) result (member_add (view value.now)) }
+{
+    let group = text_at(alloc, value, "group")?;
+    let member = member_at(alloc, value)?;
+    no_other(alloc, value, &["by", "group", "member", "op"])?;
+    let group = name_from(alloc, "group", group)?;
+    let member = entity_from(alloc, "member", member)?;
+    Ok(Op::Command(Command::MemberAdd { group, member }))
+}
+
+/// What an object asks whose op is `member.remove`.
+#[tactic(auto, unfolding(crate::specs::Ops::member_remove))]
+pub fn member_remove(alloc: Global, value: &Value) -> Result<Op, ReadFault>
+    ensures { Gives (λ o. o) result (member_remove (view value.now)) }
+{
+    let group = text_at(alloc, value, "group")?;
+    let member = member_at(alloc, value)?;
+    no_other(alloc, value, &["by", "group", "member", "op"])?;
+    let group = name_from(alloc, "group", group)?;
+    let member = entity_from(alloc, "member", member)?;
+    Ok(Op::Command(Command::MemberRemove { group, member }))
+}

@@ -1,0 +1,56 @@
+// The forms of fields.
+ghost use Rattle.std.specs.Prelude.{◌≡◌};
+ghost use Rattle.reg_json.specs.Steps.{Gives};
+ghost use Rattle.reg_json.specs.Fields.{name_from, folder_from, extension_from, entity_from};
+
+use crate::fault::{ReadFault, bad_name};
+use reg_base::{Entity, Name, Text, is_extension, is_name};
+use std::alloc::Global;
+
+/// The name that a field's text is.
+#[tactic(auto, unfolding(crate::specs::Fields::name_from))]
+pub fn name_from(alloc: Global, field: &str, text: &str) -> Result<Name, ReadFault>
+    ensures { Gives (λ n. n) result (name_from field.now text.now) }
+{
+    match Name::parse(alloc, text.as_bytes())? {
+        Some(name) => Ok(name),
+        None => Err(bad_name(alloc, field)),
+    }
+}
+
+/// The name of a folder, or `:`, that a field's text is.
+#[tactic(auto, unfolding(crate::specs::Fields::folder_from))]
+pub fn folder_from(alloc: Global, field: &str, text: &str) -> Result<Text, ReadFault>
+    ensures { Gives (λ t. t) result (folder_from field.now text.now) }
+{
+    if text == ":" || is_name(text.as_bytes()) {
+        let folder = Text::new(alloc, text)?;
+        Ok(folder)
+    } else {
+        Err(bad_name(alloc, field))
+    }
+}
+
+/// The extension that a field's text is.
+#[tactic(auto, unfolding(crate::specs::Fields::extension_from))]
+pub fn extension_from(alloc: Global, field: &str, text: &str) -> Result<Text, ReadFault>
+    ensures { Gives (λ t. t) result (extension_from field.now text.now) }
+{
+    if is_extension(text.as_bytes()) {
+        let extension = Text::new(alloc, text)?;
+        Ok(extension)
+    } else {
+        Err(bad_name(alloc, field))
+    }
+}
+
+/// The entity that a field's text names.
+#[tactic(auto, unfolding(crate::specs::Fields::entity_from))]
+pub fn entity_from(alloc: Global, field: &str, text: &str) -> Result<Entity, ReadFault>
+    ensures { Gives (λ e. e) result (entity_from field.now text.now) }
+{
+    match Entity::parse(alloc, text.as_bytes())? {
+        Some(entity) => Ok(entity),
+        None => Err(bad_name(alloc, field)),
+    }
+}

@@ -1,0 +1,51 @@
+// Stamped commands from their payloads.
+ghost use Rattle.std.specs.Prelude.{◌≡◌, IfOk, IfSome, IfNone};
+ghost use Rattle.reg_wire.specs.Steps.{Gives};
+ghost use Rattle.reg_wire.specs.Payload.{payload, stamped_at, stamped_of, IsWritable};
+ghost use Rattle.reg_facts.specs.declared.command.Stamped.{Stamped};
+
+use crate::commands::command_at;
+use crate::fault::ReadFault;
+use crate::fields::{byte_at, entity_at, moment_at};
+use reg_base::Moment;
+use reg_facts::Stamped;
+use std::alloc::{AllocError, Global};
+
+#[tactic(auto, unfolding(crate::specs::Payload::stamped_at))]
+fn stamped_at(alloc: Global, at: Moment, bytes: &[u8]) -> Result<Stamped, ReadFault>
+    ensures { Gives (λ stamped. stamped) result (stamped_at at bytes.now) }
+{
+    let (by, rest) = entity_at(alloc, bytes)?;
+    let (code, rest) = byte_at(rest)?;
+    let (command, rest) = command_at(alloc, code, rest)?;
+    if !rest.is_empty() {
+        return Err(ReadFault::Malformed);
+    }
+    Ok(Stamped { at, by, command })
+}
+
+#[tactic(auto, unfolding(crate::specs::Payload::stamped_of))]
+fn stamped_of(alloc: Global, bytes: &[u8]) -> Result<Stamped, ReadFault>
+    ensures { Gives (λ stamped. stamped) result (stamped_of bytes.now) }
+{
+    match moment_at(bytes) {
+        Ok((at, rest)) => stamped_at(alloc, at, rest),
+        Err(fault) => Err(fault),
+    }
+}
+
+/// The stamped command whose payload the bytes are. None exactly where they are the payload of no
+/// stamped command; the only error is out of memory.
+pub fn decode(alloc: Global, bytes: &[u8]) -> Result<Option<Stamped>, AllocError>
+    ensures value { IfOk result (λ found. found ≡ stamped_of bytes.now) }
+
+    // What is found has these bytes as its payload, and nothing is found only where no stamped command has.
+    ensures found { IfOk result (λ found. IfSome found (λ stamped. IsWritable stamped × (payload stamped ≡ bytes.now))) }
+    ensures none { IfOk result (λ found. IfNone found ((stamped : Stamped) → IsWritable stamped → payload stamped ≡ bytes.now → ⊥)) }
+{
+    match stamped_of(alloc, bytes) {
+        Ok(stamped) => Ok(Some(stamped)),
+        Err(ReadFault::Malformed) => Ok(None),
+        Err(ReadFault::Memory) => Err(AllocError),
+    }
+}

@@ -1,0 +1,167 @@
+// The payloads of stamped commands.
+ghost use Rattle.std.specs.Prelude.{◌≡◌, ◌++◌, ◌<◌, ◌^◌, true, codes, length, IfOk, OnOk};
+ghost use Rattle.std.specs.List.{flat_map};
+ghost use Rattle.reg_base.specs.Names.{is_extension};
+ghost use Rattle.reg_wire.specs.Fields.{is_display, is_entity, is_folder, entity_text, field_bytes, text_bytes, moment_bytes, optional_moment_bytes};
+ghost use Rattle.reg_wire.specs.Payload.{fields_of, is_writable_command, payload, IsWritable};
+
+use crate::codes::code_of;
+use reg_base::{Entity, Moment, Name, Text};
+use reg_facts::{Command, Stamped};
+use std::alloc::{AllocError, Global};
+
+fn put_text(out: &mut Vec<u8>, text: &[u8]) -> Result<(), AllocError>
+    requires { length text.now < 2 ^ 16 }
+    ensures { OnOk result (out.new.items ≡ out.old.items ++ text_bytes text.now) }
+{
+    out.extend_from_slice(&(text.len() as u16).to_le_bytes())?;
+    out.extend_from_slice(text)
+}
+
+#[tactic(auto, using(crate::proofs::Texts::name_short))]
+fn put_name(out: &mut Vec<u8>, name: &Name) -> Result<(), AllocError>
+    ensures { OnOk result (out.new.items ≡ out.old.items ++ text_bytes name.now) }
+{
+    put_text(out, name.bytes())
+}
+
+#[tactic(auto, using(crate::proofs::Texts::name_short))]
+fn put_group(out: &mut Vec<u8>, name: &Name) -> Result<(), AllocError>
+    ensures { OnOk result (out.new.items ≡ out.old.items ++ text_bytes (codes "g:gsa/" ++ name.now)) }
+{
+    let name = name.bytes();
+    out.extend_from_slice(&((6 + name.len()) as u16).to_le_bytes())?;
+    out.extend_from_slice(b"g:gsa/")?;
+    out.extend_from_slice(name)
+}
+
+#[tactic(auto, using(crate::proofs::Texts::person_short))]
+fn put_entity(out: &mut Vec<u8>, entity: &Entity) -> Result<(), AllocError>
+    requires { is_entity entity.now ≡ true }
+    ensures { OnOk result (out.new.items ≡ out.old.items ++ text_bytes (entity_text entity.now)) }
+{
+    match entity {
+        Entity::Person(text) => put_text(out, text.bytes()),
+        Entity::Group(name) => put_group(out, name),
+        Entity::System => put_text(out, b"g:isa/GrouperSystem"),
+        Entity::Everyone => put_text(out, b"g:isa/GrouperAll"),
+    }
+}
+
+fn put_moment(out: &mut Vec<u8>, moment: Moment) -> Result<(), AllocError>
+    ensures { OnOk result (out.new.items ≡ out.old.items ++ moment_bytes moment) }
+{
+    out.extend_from_slice(&moment.micros().to_le_bytes())
+}
+
+fn put_optional_moment(out: &mut Vec<u8>, moment: Option<Moment>) -> Result<(), AllocError>
+    ensures { OnOk result (out.new.items ≡ out.old.items ++ optional_moment_bytes moment) }
+{
+    match moment {
+        None => {
+            out.push(0)?;
+            Ok(())
+        }
+        Some(moment) => {
+            out.push(1)?;
+            put_moment(out, moment)
+        }
+    }
+}
+
+#[tactic(auto, using(crate::proofs::Texts::folder_short))]
+fn put_folder(out: &mut Vec<u8>, folder: &Text) -> Result<(), AllocError>
+    requires { is_folder folder.now ≡ true }
+    ensures { OnOk result (out.new.items ≡ out.old.items ++ text_bytes folder.now) }
+{
+    put_text(out, folder.bytes())
+}
+
+#[tactic(auto, using(crate::proofs::Texts::extension_short))]
+fn put_extension(out: &mut Vec<u8>, extension: &Text) -> Result<(), AllocError>
+    requires { is_extension extension.now ≡ true }
+    ensures { OnOk result (out.new.items ≡ out.old.items ++ text_bytes extension.now) }
+{
+    put_text(out, extension.bytes())
+}
+
+#[tactic(auto, using(crate::proofs::Texts::display_short))]
+fn put_display(out: &mut Vec<u8>, display: &Text) -> Result<(), AllocError>
+    requires { is_display display.now ≡ true }
+    ensures { OnOk result (out.new.items ≡ out.old.items ++ text_bytes display.now) }
+{
+    put_text(out, display.bytes())
+}
+
+#[tactic(auto, unfolding(crate::specs::Payload::is_writable_command))]
+fn put_fields(out: &mut Vec<u8>, command: &Command) -> Result<(), AllocError>
+    requires { is_writable_command command.now ≡ true }
+    ensures { OnOk result (out.new.items ≡ out.old.items ++ flat_map field_bytes (fields_of command.now)) }
+{
+    match command {
+        Command::FolderAdd { folder, display } => {
+            put_name(out, folder)?;
+            put_display(out, display)
+        }
+        Command::FolderRename { folder, extension } => {
+            put_folder(out, folder)?;
+            put_extension(out, extension)
+        }
+        Command::FolderMove { folder, to } => {
+            put_folder(out, folder)?;
+            put_folder(out, to)
+        }
+        Command::FolderDelete { folder } => put_folder(out, folder),
+        Command::SubjectAdd { subject, display } => {
+            put_entity(out, subject)?;
+            put_display(out, display)
+        }
+        Command::GroupAdd { group, display } => {
+            put_name(out, group)?;
+            put_display(out, display)
+        }
+        Command::GroupRename { group, extension } => {
+            put_name(out, group)?;
+            put_extension(out, extension)
+        }
+        Command::GroupMove { group, to } => {
+            put_name(out, group)?;
+            put_folder(out, to)
+        }
+        Command::GroupDelete { group } => put_name(out, group),
+        Command::MemberAdd { group, member } => {
+            put_name(out, group)?;
+            put_entity(out, member)?;
+            put_optional_moment(out, None)?;
+            put_optional_moment(out, None)
+        }
+        Command::MemberRemove { group, member } => {
+            put_name(out, group)?;
+            put_entity(out, member)
+        }
+    }
+}
+
+#[tactic(auto, unfolding(crate::specs::Payload::payload, crate::specs::Payload::command_bytes, crate::specs::Payload::is_writable))]
+fn payload(alloc: Global, stamped: &Stamped) -> Result<Vec<u8>, AllocError>
+    requires { IsWritable stamped.now }
+    ensures { IfOk result (λ v. v.items ≡ payload stamped.now) }
+{
+    let mut out = Vec::new(alloc);
+    put_moment(&mut out, stamped.at)?;
+    put_entity(&mut out, &stamped.by)?;
+    out.push(code_of(&stamped.command))?;
+    put_fields(&mut out, &stamped.command)?;
+    Ok(out)
+}
+
+/// The payload of a stamped command; `is_writable` says which have one. The only error is out of
+/// memory.
+#[tactic(auto, using(crate::proofs::Payloads::payload_short))]
+pub fn encode(alloc: Global, stamped: &Stamped) -> Result<Vec<u8>, AllocError>
+    requires { IsWritable stamped.now }
+    ensures value { IfOk result (λ v. v.items ≡ payload stamped.now) }
+    ensures short { IfOk result (λ v. length v.items < 2 ^ 32) }
+{
+    payload(alloc, stamped)
+}

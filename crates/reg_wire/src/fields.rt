@@ -1,0 +1,175 @@
+// Reading the fields of a payload from the front: each function gives a value and the bytes after it.
+ghost use Rattle.std.specs.Prelude.{◌≡◌, ◌||◌};
+ghost use Rattle.std.specs.Int.{w16, w64};
+ghost use Rattle.reg_wire.specs.Steps.{Gives};
+ghost use Rattle.reg_wire.specs.Fields.{is_folder};
+ghost use Rattle.reg_wire.specs.Reading.{byte_at, number_at, text_at, name_at, folder_at, extension_at, display_at, entity_at, moment_at, optional_moment_at, no_moment_at};
+
+use crate::fault::ReadFault;
+use reg_base::{Entity, Moment, Name, Text, is_extension, is_name};
+use std::alloc::Global;
+
+/// One byte.
+pub fn byte_at(bytes: &[u8]) -> Result<(u8, &[u8]), ReadFault>
+    ensures { Gives (λ x. (x.0, x.1.now)) result (byte_at bytes.now) }
+{
+    match bytes {
+        [] => Err(ReadFault::Malformed),
+        [byte, rest @ ..] => Ok((*byte, rest)),
+    }
+}
+
+#[tactic(auto, unfolding(crate::specs::Reading::number_at))]
+fn u16_at(bytes: &[u8]) -> Result<(u16, &[u8]), ReadFault>
+    ensures { Gives (λ x. (x.0, x.1.now)) result (number_at w16 bytes.now) }
+{
+    if bytes.len() < 2 {
+        return Err(ReadFault::Malformed);
+    }
+    let (front, rest) = bytes.split_at(2);
+    let number = u16::from_le_bytes([front[0], front[1]]);
+    Ok((number, rest))
+}
+
+#[tactic(auto, unfolding(crate::specs::Reading::number_at))]
+fn u64_at(bytes: &[u8]) -> Result<(u64, &[u8]), ReadFault>
+    ensures { Gives (λ x. (x.0, x.1.now)) result (number_at w64 bytes.now) }
+{
+    if bytes.len() < 8 {
+        return Err(ReadFault::Malformed);
+    }
+    let (front, rest) = bytes.split_at(8);
+    let number = u64::from_le_bytes([
+        front[0], front[1], front[2], front[3], front[4], front[5], front[6], front[7],
+    ]);
+    Ok((number, rest))
+}
+
+#[tactic(auto, unfolding(crate::specs::Reading::text_at))]
+fn text_at(bytes: &[u8]) -> Result<(&[u8], &[u8]), ReadFault>
+    ensures { Gives (λ x. (x.0.now, x.1.now)) result (text_at bytes.now) }
+{
+    let (size, rest) = u16_at(bytes)?;
+    let size = size as usize;
+    if rest.len() < size {
+        return Err(ReadFault::Malformed);
+    }
+    Ok(rest.split_at(size))
+}
+
+/// The name of an object.
+#[tactic(auto, unfolding(crate::specs::Reading::tested_at))]
+pub fn name_at(alloc: Global, bytes: &[u8]) -> Result<(Name, &[u8]), ReadFault>
+    ensures { Gives (λ x. (x.0, x.1.now)) result (name_at bytes.now) }
+{
+    let (text, rest) = text_at(bytes)?;
+    match Name::parse(alloc, text)? {
+        Some(name) => Ok((name, rest)),
+        None => Err(ReadFault::Malformed),
+    }
+}
+
+/// Whether the text is the name of a folder, or `:` for the root.
+pub fn is_folder(text: &[u8]) -> bool
+    ensures { result ≡ is_folder text.now }
+{
+    is_name(text) || text == b":".as_slice()
+}
+
+/// The name of a folder, or `:` for the root.
+#[tactic(auto, using(crate::proofs::Texts::folder_utf8), unfolding(crate::specs::Reading::tested_at))]
+pub fn folder_at(alloc: Global, bytes: &[u8]) -> Result<(Text, &[u8]), ReadFault>
+    ensures { Gives (λ x. (x.0, x.1.now)) result (folder_at bytes.now) }
+{
+    let (text, rest) = text_at(bytes)?;
+    if !is_folder(text) {
+        return Err(ReadFault::Malformed);
+    }
+    match Text::of(alloc, text)? {
+        Some(folder) => Ok((folder, rest)),
+        // no folder comes here, since its bytes are ASCII
+        None => Err(ReadFault::Malformed),
+    }
+}
+
+/// An extension.
+#[tactic(auto, using(crate::proofs::Texts::extension_utf8), unfolding(crate::specs::Reading::tested_at))]
+pub fn extension_at(alloc: Global, bytes: &[u8]) -> Result<(Text, &[u8]), ReadFault>
+    ensures { Gives (λ x. (x.0, x.1.now)) result (extension_at bytes.now) }
+{
+    let (text, rest) = text_at(bytes)?;
+    if !is_extension(text) {
+        return Err(ReadFault::Malformed);
+    }
+    match Text::of(alloc, text)? {
+        Some(extension) => Ok((extension, rest)),
+        // no extension comes here, since its bytes are ASCII
+        None => Err(ReadFault::Malformed),
+    }
+}
+
+/// A display text.
+#[tactic(auto, using(crate::proofs::Texts::display_is, crate::proofs::Texts::display_isnt), unfolding(crate::specs::Reading::tested_at))]
+pub fn display_at(alloc: Global, bytes: &[u8]) -> Result<(Text, &[u8]), ReadFault>
+    ensures { Gives (λ x. (x.0, x.1.now)) result (display_at bytes.now) }
+{
+    let (text, rest) = text_at(bytes)?;
+    if text.len() > 255 {
+        return Err(ReadFault::Malformed);
+    }
+    match Text::of(alloc, text)? {
+        Some(display) => Ok((display, rest)),
+        None => Err(ReadFault::Malformed),
+    }
+}
+
+/// An entity, by its text.
+#[tactic(auto, unfolding(crate::specs::Reading::entity_at))]
+pub fn entity_at(alloc: Global, bytes: &[u8]) -> Result<(Entity, &[u8]), ReadFault>
+    ensures { Gives (λ x. (x.0, x.1.now)) result (entity_at bytes.now) }
+{
+    let (text, rest) = text_at(bytes)?;
+    match Entity::parse(alloc, text)? {
+        Some(entity) => Ok((entity, rest)),
+        None => Err(ReadFault::Malformed),
+    }
+}
+
+/// A moment.
+#[tactic(auto, unfolding(crate::specs::Reading::moment_at))]
+pub fn moment_at(bytes: &[u8]) -> Result<(Moment, &[u8]), ReadFault>
+    ensures { Gives (λ x. (x.0, x.1.now)) result (moment_at bytes.now) }
+{
+    let (number, rest) = u64_at(bytes)?;
+    match Moment::new(number) {
+        Some(moment) => Ok((moment, rest)),
+        None => Err(ReadFault::Malformed),
+    }
+}
+
+#[tactic(auto, unfolding(crate::specs::Reading::optional_moment_at))]
+fn optional_moment_at(bytes: &[u8]) -> Result<(Option<Moment>, &[u8]), ReadFault>
+    ensures { Gives (λ x. (x.0, x.1.now)) result (optional_moment_at bytes.now) }
+{
+    match bytes {
+        [] => Err(ReadFault::Malformed),
+        [0, rest @ ..] => Ok((None, rest)),
+        [1, rest @ ..] => match moment_at(rest) {
+            Ok((moment, rest)) => Ok((Some(moment), rest)),
+            Err(fault) => Err(fault),
+        },
+        [_, ..] => Err(ReadFault::Malformed),
+    }
+}
+
+/// A moment that is left out.
+#[tactic(auto, unfolding(crate::specs::Reading::no_moment_at))]
+pub fn no_moment_at(bytes: &[u8]) -> Result<&[u8], ReadFault>
+    ensures { Gives (λ rest. (tt, rest.now)) result (no_moment_at bytes.now) }
+{
+    match optional_moment_at(bytes) {
+        Ok((None, rest)) => Ok(rest),
+        Ok((Some(_), _)) => Err(ReadFault::Malformed),
+        Err(fault) => Err(fault),
+    }
+}

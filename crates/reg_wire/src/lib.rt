@@ -1,0 +1,24 @@
+//! Stamped commands as bytes, the payloads of the journal. Each command that `is_writable` has one payload, and each
+//! payload is of one command. A payload has the moment (eight bytes, the least first), the text of who gave the
+//! command, the code of its op (one byte) and the op's fields in order, and nothing else. A text is its length (two
+//! bytes, the least first) and its bytes. A moment that may be left out is 0, or 1 and the moment.
+#![tactic(auto)]
+
+mod codes;
+mod commands;
+mod decoding;
+mod encoding;
+mod fault;
+mod fields;
+mod laws;
+mod writable;
+
+pub use decoding::decode;
+pub use encoding::encode;
+pub use laws::{
+    payload_is_short, payload_reads_back, read_is_payload, texts_are_utf8, writable_is_formed,
+};
+pub use writable::is_writable;
+
+#[cfg(test)]
+mod tests;

@@ -1,0 +1,126 @@
+// Payloads byte by byte.
+use super::{decode, encode, is_writable};
+use reg_base::{Entity, Moment, Text};
+use reg_facts::{Command, Stamped};
+use std::alloc::Global;
+use std::test::Fail;
+
+const ANN: [u8; 44] = [
+    0x00, 0x80, 0x7c, 0x0d, 0xb2, 0x3d, 0x06, 0x00, 0x13, 0x00, 0x67, 0x3a, 0x69, 0x73, 0x61, 0x2f,
+    0x47, 0x72, 0x6f, 0x75, 0x70, 0x65, 0x72, 0x53, 0x79, 0x73, 0x74, 0x65, 0x6d, 0x05, 0x07, 0x00,
+    0x75, 0x6e, 0x69, 0x2f, 0x61, 0x6e, 0x6e, 0x03, 0x00, 0x41, 0x6e, 0x6e,
+];
+
+fn ann(alloc: Global) -> Result<Stamped, Fail> {
+    let at = Moment::new(1_756_684_800_000_000).ok_or("a moment")?;
+    let subject = Entity::parse(alloc, b"uni/ann")?.ok_or("an entity")?;
+    let display = Text::new(alloc, "Ann")?;
+    Ok(Stamped {
+        at,
+        by: Entity::System,
+        command: Command::SubjectAdd { subject, display },
+    })
+}
+
+#[test]
+fn a_payload_has_these_44_bytes(rt: HostRuntime) -> Result<(), Fail> {
+    let stamped = ann(rt.alloc())?;
+    assert!(rt; is_writable(&stamped));
+    let bytes = encode(rt.alloc(), &stamped)?;
+    assert_eq!(rt; bytes.as_slice(), ANN.as_slice());
+    let read = decode(rt.alloc(), &ANN)?.ok_or("a payload")?;
+    assert_eq!(rt; read.at.micros(), 1_756_684_800_000_000);
+    assert!(rt; matches!(&read.by, Entity::System));
+    match &read.command {
+        Command::SubjectAdd {
+            subject: Entity::Person(subject),
+            display,
+        } => {
+            assert_eq!(rt; subject.as_str(), "uni/ann");
+            assert_eq!(rt; display.as_str(), "Ann");
+        }
+        _ => assert!(rt; false, "another command"),
+    }
+    Ok(())
+}
+
+// the op of a payload, or `none`
+fn op_of(alloc: Global, bytes: &[u8]) -> Result<&'static str, Fail> {
+    let Some(stamped) = decode(alloc, bytes)? else {
+        return Ok("none");
+    };
+    Ok(match stamped.command {
+        Command::FolderAdd { .. } => "folder.add",
+        Command::FolderRename { .. } => "folder.rename",
+        Command::FolderMove { .. } => "folder.move",
+        Command::FolderDelete { .. } => "folder.delete",
+        Command::SubjectAdd { .. } => "subject.add",
+        Command::GroupAdd { .. } => "group.add",
+        Command::GroupRename { .. } => "group.rename",
+        Command::GroupMove { .. } => "group.move",
+        Command::GroupDelete { .. } => "group.delete",
+        Command::MemberAdd { .. } => "member.add",
+        Command::MemberRemove { .. } => "member.remove",
+    })
+}
+
+const READ: [(&str, &str); 16] = [
+    (
+        "\x01\0\0\0\0\0\0\0\x07\0uni/ann\x01\x03\0a:b\0\0",
+        "folder.add",
+    ),
+    (
+        "\x01\0\0\0\0\0\0\0\x07\0uni/ann\x02\x01\0:\x02\0up",
+        "folder.rename",
+    ),
+    (
+        "\x01\0\0\0\0\0\0\0\x07\0uni/ann\x03\x01\0a\x01\0:",
+        "folder.move",
+    ),
+    (
+        "\x01\0\0\0\0\0\0\0\x07\0uni/ann\x04\x01\0a",
+        "folder.delete",
+    ),
+    (
+        "\x01\0\0\0\0\0\0\0\x07\0uni/ann\x06\x03\0a:g\x01\0G",
+        "group.add",
+    ),
+    (
+        "\x01\0\0\0\0\0\0\0\x07\0uni/ann\x07\x03\0a:g\x01\0h",
+        "group.rename",
+    ),
+    (
+        "\x01\0\0\0\0\0\0\0\x07\0uni/ann\x08\x03\0a:g\x01\0:",
+        "group.move",
+    ),
+    (
+        "\x01\0\0\0\0\0\0\0\x07\0uni/ann\x09\x03\0a:g",
+        "group.delete",
+    ),
+    (
+        "\x01\0\0\0\0\0\0\0\x10\0g:isa/GrouperAll\x0a\x01\0g\x07\0g:gsa/h\0\0",
+        "member.add",
+    ),
+    (
+        "\x01\0\0\0\0\0\0\0\x07\0g:gsa/h\x0b\x01\0g\x07\0uni/ann",
+        "member.remove",
+    ),
+    ("", "none"),
+    ("\x01\0\0\0\0\0\0\0\x07\0uni/ann\x04\x01\0a\0", "none"),
+    ("\x01\0\0\0\0\0\0\0\x07\0uni/ann\x09\x01\0:", "none"),
+    ("\x01\0\0\0\0\0\0\x7f\x07\0uni/ann\x04\x01\0a", "none"),
+    (
+        "\x01\0\0\0\0\0\0\0\x07\0uni/ann\x0a\x01\0g\x07\0g:gsa/h\0\x02",
+        "none",
+    ),
+    ("\x01\0\0\0\0\0\0\0\x07\0uni/ann\x7f\x01\0a", "none"),
+];
+
+#[test]
+fn payloads_are_read_by_their_codes(rt: HostRuntime) -> Result<(), Fail> {
+    for (bytes, op) in READ.iter() {
+        let found = op_of(rt.alloc(), bytes.as_bytes())?;
+        assert_eq!(rt; found, *op, "{bytes:?}");
+    }
+    Ok(())
+}

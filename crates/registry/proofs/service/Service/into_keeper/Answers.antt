@@ -1,0 +1,11 @@
+use Rattle.registry.specs.Opening.{Served}
+use Rattle.std.proofs.Common.{subst, Ok, ◌≡◌}
+use Rattle.registry.specs.Opening.{payloads_of}
+use Rattle.registry.proofs.Keeping.{leaves_history}
+use Rattle.registry.proofs.service.Service.into_keeper.Goals as goal
+
+-- a stop leaves the history
+pub returns-clause-leaves : goal.returns-clause-leaves
+returns-clause-leaves g c r left =
+    subst (λ (v : Served g.row.K.Denot). r ≡ Ok (payloads_of v.state.history)) c.self.view_is
+    (leaves_history g.K.Keeper c.self.inside.machine c.self.inside.keeper c.self.invariant (g.met.K.Keeper.stop_now c.self.inside.keeper) r left)
