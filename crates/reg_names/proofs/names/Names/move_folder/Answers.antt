@@ -1,0 +1,23 @@
+use Rattle.std.proofs.Common.{◌≡◌, ◌∙◌, sym, ap, Some}
+use Rattle.reg_base.specs.NameParts.{extension_of}
+use Rattle.reg_facts.specs.declared.kinds.Object.TheVariants.{Folder}
+use Rattle.reg_facts.specs.Naming.{child, folder_id}
+use Rattle.reg_facts.specs.Edits.{the_id}
+use Rattle.reg_facts.proofs.Walking.{folder_name, folder_home, and_left}
+use Rattle.reg_facts.proofs.Objects.{folder_moved_found}
+use Rattle.reg_names.proofs.names.Names.move_folder.Goals as goal
+
+-- a folder that isn't the root has a name
+pub home_of_folder-parent-requires-clause-name : goal.home_of_folder-parent-requires-clause-name
+home_of_folder-parent-requires-clause-name c = folder_name c.args.folder.now c.args.before.now (and_left _ _ c.requires.suits.form) c.requires.suits.suits.0.not_root
+
+-- the index finds what stands after the edit
+pub returns : goal.returns
+returns c =
+    let at = folder_home c.args.folder.now c.args.before.now (folder_name c.args.folder.now c.args.before.now (and_left _ _ c.requires.suits.form) c.requires.suits.suits.0.not_root) c.requires.suits.suits.0.stands in
+    let there : child c.home_of_folder-parent.result.0 (extension_of c.args.folder.now) c.args.before.now ≡ Some (Folder (the_id (folder_id c.args.folder.now c.args.before.now))) = (rw c.home_of_folder-parent.ensures.extension at c.home_of_folder-parent.ensures.there) ∙ at.resolved in
+    let given : folder_id c.args.folder.now c.args.before.now ≡ Some c.unwrap-id.result = sym (rw c.as_str.ensures at c.folder_id.ensures) ∙ c.unwrap-id.ensures in
+    let id : the_id (folder_id c.args.folder.now c.args.before.now) ≡ c.unwrap-id.result = ap the_id given in
+    let target : folder_id c.args.to.now c.args.before.now ≡ Some c.unwrap-target.result = sym (rw c.as_str-2.ensures at c.folder_id-2.ensures) ∙ c.unwrap-target.ensures in
+    folder_moved_found c.args.self.children c.take.new.self c.put.new.self c.args.folder.now c.args.to.now c.home_of_folder-parent.result.0 c.unwrap-target.result c.args.before.now c.requires.in_step c.sound.ensures c.requires.suits.suits.0 c.requires.suits.suits.1.free target there
+    (λ x y. rw (← c.number.ensures, ← c.home_of_folder-parent.ensures.extension) (c.take.ensures x y)) (λ x y. rw (id, ← c.number-2.ensures, ← c.home_of_folder-parent.ensures.extension) (c.in_ok-put.ensures x y))
