@@ -1,0 +1,6 @@
+use Rattle.std.proofs.Common.{◌∙◌}
+use Rattle.reg_effect.proofs.Deep.{member_level}
+use Rattle.reg_effect.proofs.plain.PlainKept.is_member.Goals as goal
+
+pub returns-clause-by_level : goal.returns-clause-by_level
+returns-clause-by_level c = c.has.ensures ∙ (c.self.invariant.sets c.args.g c.args.s ∙ rw (← c.self.view_is) (member_level c.self.inside.live c.self.invariant.no_circle c.args.g c.args.s))

@@ -1,0 +1,11 @@
+pub mod Member
+pub mod Edges
+pub mod Order
+pub mod Factors
+pub mod Changes
+pub mod Deltas
+pub mod Bound
+pub mod Asked
+pub mod Walk
+pub mod Invariant
+pub mod Example

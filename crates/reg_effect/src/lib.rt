@@ -1,0 +1,27 @@
+//! Effective membership: who is a member of which group, by rows, nested groups and composites, and what a change of them
+//! begins and ends.
+#![tactic(auto)]
+
+mod combine;
+mod composites;
+mod incremental;
+mod kept;
+mod live;
+mod marks;
+mod pairs;
+mod plain;
+mod relink;
+mod rows;
+mod uncounted;
+mod walk;
+
+pub use composites::Composites;
+pub use incremental::Incremental;
+pub use kept::Kept;
+pub use live::{Change, Delta, Live};
+pub use pairs::Pairs;
+pub use plain::Plain;
+pub use rows::Rows;
+
+#[cfg(test)]
+mod tests;
