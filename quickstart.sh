@@ -12,11 +12,11 @@ stop() {
     exit 1
 }
 
-# shows a command of the program, its output and its status, and stops where the status isn't 0
+# shows a command of the program and its output, and stops where its status isn't 0
 show() {
     echo "   registry journal $*"
-    "$program" "$folder/journal" "$@" | sed 's/^/      /'
-    "$program" "$folder/journal" check > /dev/null || stop "the journal doesn't open"
+    "$program" "$folder/journal" "$@" > "$folder/shown" || stop "$1 ended with status $?"
+    sed 's/^/      /' "$folder/shown"
 }
 
 command -v rt > /dev/null || stop "the kit's command rt is not on the PATH"
