@@ -5,10 +5,10 @@ use Rattle.std.specs.List.{AllByRecursion}
 use Rattle.reg_graph.specs.Edges.{reaches, has_edge, IsAcyclic}
 use Rattle.reg_effect.specs.Member.{member}
 use Rattle.reg_effect.specs.Edges.{edges}
-use Rattle.reg_effect.specs.Changes.{changed_by, nothing, Suits}
+use Rattle.reg_effect.specs.Changes.{changed_by, nothing, Suits, SuitAll}
 use Rattle.reg_effect.specs.Deltas.{members_of}
 use Rattle.reg_effect.specs.Bound.{most_steps}
-use Rattle.reg_effect.specs.Example.{building, nested_complement, leaving_4, SuitAll}
+use Rattle.reg_effect.specs.Example.{building, nested_complement, leaving_4}
 
 -- no edge of a list leads back
 pub no_way_back : (all es : List (ℕ × ℕ)) → AllByRecursion (λ (e : ℕ × ℕ). reaches all e.1 e.0 ≡ false) es → (a b : ℕ) → has_edge es a b ≡ true → reaches all b a ≡ false

@@ -1,6 +1,6 @@
 -- The edges of live data under changes, each counted as often as it stands.
-use Rattle.std.proofs.Common.{◌≡◌, ◌<◌, ◌+◌, ◌==◌, ◌&&◌, ℕ, List, [], ◌∷◌, ◌++◌, true, false, not, cond, Some, arith, refl, sym, ◌∙◌, ap, subst, inl, inr}
-use Rattle.std.proofs.lemmas.Bool.{cases_Bool, ne_eqb, eq-eqb, or_parts, both_ways, false_from_ne_true}
+use Rattle.std.proofs.Common.{◌≡◌, ◌<◌, ◌≤◌, ◌+◌, ◌==◌, ◌&&◌, ℕ, List, [], ◌∷◌, ◌++◌, true, false, not, cond, Some, arith, refl, sym, ◌∙◌, ap, subst, inl, inr}
+use Rattle.std.proofs.lemmas.Bool.{cases_Bool, eqb-false, ne_eqb, eq-eqb, or_parts, both_ways, false_from_ne_true}
 use Rattle.std.proofs.lemmas.List.Sums.{sum_by-cons}
 use Rattle.std.proofs.lemmas.List.Sorted.{sum_by_pushed}
 use Rattle.std.specs.List.{list_any, AllByRecursion, sum_by, find}
@@ -268,3 +268,72 @@ person_off_edges L g p = ap (λ es. es ++ factor_edges L.composites) (person_tak
 -- a graph without circles has the edges of live data without one
 pub acyclic_counted : (L : Live) (graph : List (ℕ × ℕ)) → IsCounted L graph → IsAcyclic graph → IsAcyclic (edges L)
 acyclic_counted L graph k c a b e = sym (reaches_same graph (edges L) (edge_counted L graph k) b a) ∙ c a b (edge_counted L graph k a b ∙ e)
+
+-- ---- fewer edges
+pub reaches_fewer : (es fs : List (ℕ × ℕ)) → ((a b : ℕ) → has_edge fs a b ≡ true → has_edge es a b ≡ true) → (a b : ℕ) → reaches fs a b ≡ true → reaches es a b ≡ true
+reaches_fewer es fs fewer a b r = kept_along (λ y. reaches es a y) fs (λ x y e p. reaches_trans es a x y p (reaches_edge es x y (fewer x y e))) a b r (reaches_self es a)
+
+-- fewer edges close no circle
+pub acyclic_fewer : (es fs : List (ℕ × ℕ)) → IsAcyclic es → ((a b : ℕ) → has_edge fs a b ≡ true → has_edge es a b ≡ true) → IsAcyclic fs
+acyclic_fewer es fs c fewer a b e = false_from_ne_true (reaches fs b a) (λ r. both_ways (reaches es b a) (c a b (fewer a b e)) (reaches_fewer es fs fewer b a r))
+
+pub counts : (a b : ℕ) (es : List (ℕ × ℕ)) → has_edge es a b ≡ true → 0 < copies a b es
+counts a b es h = above (copies a b es) (sym (edge_copies a b es) ∙ h)
+  where
+    above : (n : ℕ) → not (n == 0) ≡ true → 0 < n
+    above n e = elim (cases_Bool (n == 0)) [
+      | inl t ↦ let w : false ≡ true = rw t at e in cc
+      | inr f ↦ let z = eqb-false n 0 f in omega (arith, z)
+    ]
+
+-- where edges close no circle, no path of some of them leads back along one of them
+pub no_way_back : (es fs : List (ℕ × ℕ)) (a b : ℕ) → IsAcyclic es → 0 < copies a b es → ((x y : ℕ) → copies x y fs ≤ copies x y es) → reaches fs b a ≡ false
+no_way_back es fs a b c e fewer = false_from_ne_true (reaches fs b a) (λ r. both_ways (reaches es b a) (c a b (positive a b es e)) (reaches_fewer es fs (λ x y h. positive x y es (let i = counts x y fs h in let j = fewer x y in omega (arith, i, j))) b a r))
+
+pub nested_open : (L : Live) (g x : ℕ) (graph : List (ℕ × ℕ)) → has_row g (Group x) L.rows ≡ false → IsCounted L graph → IsAcyclic (edges (changed (RowOn g (Group x)) L)) → reaches graph x g ≡ false
+nested_open L g x graph h k c =
+    let N = changed (RowOn g (Group x)) L in
+    no_way_back (edges N) graph g x c
+    (let r = row_more g x g (Group x) L.rows h in
+    let t = copies_edges N g x in
+    let i = one_self g x in
+    omega (arith, r, t, i))
+    (λ y z.
+    let r = row_more y z g (Group x) L.rows h in
+    let s = copies_edges L y z in
+    let t = copies_edges N y z in
+    let u = k y z in
+    omega (arith, r, s, t, u))
+
+pub left_open : (L : Live) (g : ℕ) (op : SetOp) (left right : ℕ) (graph : List (ℕ × ℕ)) → is_composite g L.composites ≡ false → IsCounted L graph → IsAcyclic (edges (changed (FactorsOn g op left right) L)) → reaches graph left g ≡ false
+left_open L g op left right graph h k c =
+    let N = changed (FactorsOn g op left right) L in
+    let new : CompositeRow = record { group = g; op = op; left = left; right = right } in
+    no_way_back (edges N) graph g left c
+    (let r = factor_more g left new L.composites h in
+    let t = copies_edges N g left in
+    let i = one_self g left in
+    omega (arith, r, t, i))
+    (λ y z.
+    let r = factor_more y z new L.composites h in
+    let s = copies_edges L y z in
+    let t = copies_edges N y z in
+    let u = k y z in
+    omega (arith, r, s, t, u))
+
+pub right_open : (L : Live) (g : ℕ) (op : SetOp) (left right : ℕ) (graph mid : List (ℕ × ℕ)) → is_composite g L.composites ≡ false → IsCounted L graph → IsPermutation ((g, left) ∷ graph) mid → IsAcyclic (edges (changed (FactorsOn g op left right) L)) → reaches mid right g ≡ false
+right_open L g op left right graph mid h k p c =
+    let N = changed (FactorsOn g op left right) L in
+    let new : CompositeRow = record { group = g; op = op; left = left; right = right } in
+    no_way_back (edges N) mid g right c
+    (let r = factor_more g right new L.composites h in
+    let t = copies_edges N g right in
+    let i = one_self g right in
+    omega (arith, r, t, i))
+    (λ y z.
+    let r = factor_more y z new L.composites h in
+    let s = copies_edges L y z in
+    let t = copies_edges N y z in
+    let u = k y z in
+    let v = copies_pushed y z (g, left) graph mid p in
+    omega (arith, r, s, t, u, v))

@@ -21,3 +21,6 @@ pub mod Own
 pub mod Examples
 pub mod Alone
 pub mod LiveOf
+pub mod LiveLaws
+pub mod RowsOff
+pub mod Standing

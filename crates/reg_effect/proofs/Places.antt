@@ -1,12 +1,13 @@
 -- Rows and composites as ordered maps and sets keep them.
-use Rattle.std.proofs.Common.{◌≡◌, ◌<◌, ◌==◌, ◌&&◌, ◌^◌, ℕ, List, [], ◌∷◌, Bool, true, false, cond, map, filter, Option, Some, arith, refl, sym, ◌∙◌, ap, inl, inr}
+use Rattle.std.proofs.Common.{◌≡◌, ◌<◌, ◌==◌, ◌&&◌, ◌^◌, ℕ, List, [], ◌∷◌, Bool, true, false, cond, map, filter, Option, Some, None, Bor, arith, refl, sym, ◌∙◌, ap, inl, inr}
 use Rattle.std.proofs.lemmas.Grind.{common_steps}
 use Rattle.std.proofs.lemmas.Bool.Decides.{nat_tests}
-use Rattle.std.proofs.lemmas.Bool.{cases_Bool, eqb-true, eqb-false, or_parts}
+use Rattle.std.proofs.lemmas.Bool.{cases_Bool, eqb-true, eqb-false, or_left, or_parts}
 use Rattle.std.specs.List.{list_any, AllByRecursion, find}
 use Rattle.std.specs.BTreeSet.{insert_key}
 use Rattle.std.specs.BTreeMap.{is_at, insert_entry}
-use Rattle.std.specs.Option.{option_map}
+use Rattle.std.specs.Option.{option_map, is_some}
+use Rattle.std.specs.Map.Iter.{TakesFirst, deref}
 use Rattle.std.specs.BTreeMap.Range.{range_contains}
 use Rattle.std.specs.Set.{remove_key}
 use Rattle.std.specs.Map.{lookup, remove_entry}
@@ -20,7 +21,7 @@ use Rattle.reg_facts.specs.declared.kinds.Member.{Member}
 use Rattle.reg_facts.specs.declared.kinds.Member.TheVariants.{Person, Group}
 use Rattle.reg_facts.specs.declared.rows.CompositeRow.{CompositeRow}
 use Rattle.reg_effect.specs.declared.composites.Factors.{Factors}
-use Rattle.reg_effect.specs.Order.{place_of, place_cmp, row_cmp, composite_cmp, row_at, is_row, has_row, nested, ArePlaces}
+use Rattle.reg_effect.specs.Order.{place_of, place_cmp, row_cmp, composite_cmp, row_at, is_row, has_row, has_rows, nested, row_members, ArePlaces}
 use Rattle.reg_effect.specs.Factors.{composite_at}
 use Rattle.reg_effect.specs.Member.{is_composite}
 
@@ -181,3 +182,57 @@ composite_inserted g f (e ∷ es) h =
 pub composite_removed : (g : ℕ) (es : List (ℕ × Factors)) → map composite_at (remove_entry (is_at (nat_cmp g)) es) ≡ remove_key (λ (c : CompositeRow). c.group == g) (map composite_at es)
 composite_removed g [] = refl
 composite_removed g (e ∷ es) = rw (at_number g e.0) (elim (e.0 == g) as (λ b. map composite_at (cond b es (e ∷ remove_entry (is_at (nat_cmp g)) es)) ≡ cond b (map composite_at es) (composite_at e ∷ remove_key (λ (c : CompositeRow). c.group == g) (map composite_at es))) [ true ↦ refl | false ↦ ap (λ ys. composite_at e ∷ ys) (composite_removed g es) ])
+
+-- ---- the rows of a group
+abbrev pub range_all : ℕ → ℕ × ℕ × ℕ → Bool
+range_all g = range_contains place_cmp (Included (g, 0, 0)) (Included (g, 1, 4294967295))
+
+pub in_range_all : (g x y z : ℕ) → y < 2 → z < 2 ^ 32 → range_all g (x, y, z) ≡ (x == g)
+in_range_all g x y z k h = grind (arith, nat_tests, common_steps)
+
+pub members_by : (g : ℕ) (ps : List (ℕ × ℕ × ℕ)) → AllByRecursion Small ps → map (λ (p : ℕ × ℕ × ℕ). (row_at p).1) (filter (range_all g) ps) ≡ row_members g (map row_at ps)
+members_by g [] h = refl
+members_by g ((x, y, z) ∷ ps) h =
+    let rest = members_by g ps h.1 in
+    rw (in_range_all g x y z h.0.0 h.0.1) (elim (cases_Bool (x == g)) [
+      | inl t ↦ rw t (ap (λ ms. (row_at (x, y, z)).1 ∷ ms) rest)
+      | inr f ↦ rw f rest
+    ])
+
+pub members_are : (g n : ℕ) (items : List Member) (xs ps : List (ℕ × ℕ × ℕ)) (view : List (ℕ × Member)) → items ≡ map (λ (p : ℕ × ℕ × ℕ). (row_at p).1) xs → xs ≡ filter (range_all n) ps → n ≡ g → ArePlaces ps → map row_at ps ≡ view → items ≡ row_members g view
+members_are g n items xs ps view a b c d e = a ∙ ap (λ ys. map (λ (p : ℕ × ℕ × ℕ). (row_at p).1) ys) b ∙ rw (c, ← e) (members_by g ps (by_place ps d))
+
+pub any_by : (g : ℕ) (ps : List (ℕ × ℕ × ℕ)) → AllByRecursion Small ps → has_rows g (map row_at ps) ≡ list_any (range_all g) ps
+any_by g [] h = refl
+any_by g ((x, y, z) ∷ ps) h = rw (in_range_all g x y z h.0.0 h.0.1, any_by g ps h.1) refl
+
+pub some_of : (g : ℕ) (xs ps : List (ℕ × ℕ × ℕ)) (p : ℕ × ℕ × ℕ) (view : List (ℕ × Member)) → filter (range_all g) ps ≡ p ∷ xs → ArePlaces ps → map row_at ps ≡ view → has_rows g view ≡ true
+some_of g xs ps p view e d v = rw (← v) (any_by g ps (by_place ps d) ∙ found ps e)
+  where
+    found : (ps : List (ℕ × ℕ × ℕ)) → filter (range_all g) ps ≡ p ∷ xs → list_any (range_all g) ps ≡ true
+    found [] e = cc
+    found (q ∷ qs) e = elim (cases_Bool (range_all g q)) [
+      | inl t ↦ or_left _ _ t
+      | inr f ↦ rw f (found qs (rw f at e))
+    ]
+
+pub none_of : (g : ℕ) (ps : List (ℕ × ℕ × ℕ)) (view : List (ℕ × Member)) → filter (range_all g) ps ≡ [] → ArePlaces ps → map row_at ps ≡ view → has_rows g view ≡ false
+none_of g ps view e d v = rw (← v) (any_by g ps (by_place ps d) ∙ missed ps e)
+  where
+    missed : (ps : List (ℕ × ℕ × ℕ)) → filter (range_all g) ps ≡ [] → list_any (range_all g) ps ≡ false
+    missed [] e = refl
+    missed (q ∷ qs) e = elim (cases_Bool (range_all g q)) [
+      | inl t ↦ let w : q ∷ filter (range_all g) qs ≡ [] = rw t at e in cc
+      | inr f ↦ rw f (missed qs (rw f at e))
+    ]
+
+pub any_is : (g n : ℕ) (r : Option (Bor (ℕ × ℕ × ℕ))) (s t ps : List (ℕ × ℕ × ℕ)) (view : List (ℕ × Member)) → TakesFirst deref s r t → s ≡ filter (range_all n) ps → n ≡ g → ArePlaces ps → map row_at ps ≡ view → is_some r ≡ has_rows g view
+any_is g n None s t ps view h e k d v = let f : s ≡ filter (range_all g) ps = rw k at e in sym (none_of g ps view (sym f ∙ h.0) d v)
+any_is g n (Some x) s t ps view h e k d v = let f : s ≡ filter (range_all g) ps = rw k at e in sym (some_of g t ps x.now view (sym f ∙ h) d v)
+
+pub found_some : (g : ℕ) (cs : List CompositeRow) → is_some (find (λ (c : CompositeRow). c.group == g) cs) ≡ is_composite g cs
+found_some g [] = refl
+found_some g (c ∷ cs) = elim (cases_Bool (c.group == g)) [
+  | inl t ↦ rw t refl
+  | inr f ↦ rw f (found_some g cs)
+]

@@ -1,5 +1,5 @@
 -- What a change does to live data, and what it asks of them.
-use Rattle.std.specs.Prelude.{◌≡◌, ℕ, ◌==◌, List, [], ◌∷◌, true, false, if◌then◌else◌, nat_le}
+use Rattle.std.specs.Prelude.{◌≡◌, ⊤, ℕ, ◌==◌, List, [], ◌∷◌, true, false, if◌then◌else◌, nat_le}
 use Rattle.std.specs.BTreeSet.{insert_key}
 use Rattle.std.specs.Set.{remove_key}
 use Rattle.reg_facts.specs.declared.kinds.Member.{Member}
@@ -42,6 +42,11 @@ group_of (FactorsOff g) = g
 pub record Suits (c : Change) (L : Live) : Type 0 where
   pub fits : Fits c L
   pub no_circle : IsAcyclic (edges (changed c L))
+
+-- each change suits the live data that those before it leave
+abbrev pub SuitAll : List Change → Live → Type 0
+SuitAll [] L = ⊤
+SuitAll (c ∷ cs) L = Suits c L × SuitAll cs (changed c L)
 
 -- live data after the changes of a list, one after the other
 abbrev pub changed_by : List Change → Live → Live

@@ -1,5 +1,5 @@
 -- A worked example: ann, person 1, is in the groups 1 and 4; group 1 is nested in group 2, and group 3 is who is in 2 and not in 4.
-use Rattle.std.specs.Prelude.{◌≡◌, ◌==◌, ⊤, ℕ, List, [], ◌∷◌}
+use Rattle.std.specs.Prelude.{◌≡◌, ◌==◌, ℕ, List, [], ◌∷◌}
 use Rattle.reg_facts.specs.declared.kinds.Member.TheVariants.{Person, Group}
 use Rattle.reg_facts.specs.declared.kinds.SetOp.TheVariants.{Complement}
 use Rattle.reg_effect.specs.declared.live.Live.{Live}
@@ -7,7 +7,6 @@ use Rattle.reg_effect.specs.declared.live.Change.{Change}
 use Rattle.reg_effect.specs.declared.live.Change.TheVariants.{RowOn, RowOff, FactorsOn}
 use Rattle.reg_graph.specs.Edges.{reaches}
 use Rattle.reg_effect.specs.Bound.{leaving}
-use Rattle.reg_effect.specs.Changes.{changed, Suits}
 
 -- the changes that make it
 abbrev pub building : List Change
@@ -20,11 +19,6 @@ nested_complement = record { rows = (1, Person 1) ∷ (2, Group 1) ∷ (4, Perso
 -- ann leaves group 4
 abbrev pub leaving_4 : Change
 leaving_4 = RowOff 4 (Person 1)
-
--- each change suits the live data that those before it leave
-abbrev pub SuitAll : List Change → Live → Type 0
-SuitAll [] L = ⊤
-SuitAll (c ∷ cs) L = Suits c L × SuitAll cs (changed c L)
 
 -- no edge leaves the group, and nothing but the group itself depends on it
 pub record IsAlone (es : List (ℕ × ℕ)) (g : ℕ) : Type 0 where

@@ -9,3 +9,4 @@ pub mod Asked
 pub mod Walk
 pub mod Invariant
 pub mod Example
+pub mod Standing

@@ -70,6 +70,13 @@ impl Composites {
         }
     }
 
+    /// Whether the group is a composite. Takes no memory.
+    pub fn has(&self, group: GroupId) -> bool
+        ensures { result ≡ is_composite group self.now }
+    {
+        self.of(group).is_some()
+    }
+
     /// Puts a composite at its place; its group must be none. Out of memory the composites stay as they were.
     pub fn insert(&mut self, row: CompositeRow) -> Result<(), AllocError>
         requires { is_composite row.group self.old ≡ false }

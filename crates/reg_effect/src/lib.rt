@@ -2,6 +2,7 @@
 //! begins and ends.
 #![tactic(auto)]
 
+mod changing;
 mod combine;
 mod composites;
 mod incremental;
@@ -15,6 +16,7 @@ mod rows;
 mod uncounted;
 mod walk;
 
+pub use changing::{change_one, take_rows};
 pub use composites::Composites;
 pub use incremental::Incremental;
 pub use kept::Kept;

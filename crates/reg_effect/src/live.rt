@@ -1,10 +1,13 @@
 // Live data and their changes.
-ghost use Rattle.std.specs.Prelude.{◌≡◌, OnOk};
-ghost use Rattle.reg_effect.specs.Changes.{nothing, changed, group_of, Fits};
+ghost use Rattle.std.specs.Prelude.{◌≡◌, ◌==◌, [], IfOk, OnOk};
+ghost use Rattle.std.specs.List.{find};
+ghost use Rattle.reg_effect.specs.Member.{is_composite};
+ghost use Rattle.reg_effect.specs.Order.{has_rows};
+ghost use Rattle.reg_effect.specs.Changes.{nothing, changed, group_of, Fits, rows_on, composites_in, live_of};
 
 use crate::{Composites, Pairs, Rows};
-use reg_base::GroupId;
-use reg_facts::{CompositeRow, Member, SetOp};
+use reg_base::{GroupId, Moment};
+use reg_facts::{CompositeRow, Facts, Member, MemberRow, SetOp};
 use std::alloc::{AllocError, Global};
 
 /// The rows that are on at a moment, and the composites, each in order: what effective membership is computed from.
@@ -12,6 +15,32 @@ use std::alloc::{AllocError, Global};
 pub struct Live {
     pub rows: Rows,
     pub composites: Composites,
+}
+
+/// The rows that are on at a moment.
+fn rows_on(alloc: Global, rows: &[MemberRow], at: Moment) -> Result<Rows, AllocError>
+    ensures { IfOk result (λ r. r ≡ rows_on at rows.now []) }
+{
+    let mut on = Rows::new(alloc);
+    for row in rows {
+        if row.from <= at {
+            on.insert(row.group, row.member)?;
+        }
+    }
+    Ok(on)
+}
+
+/// Composites in order. Of several of one group the first counts.
+fn composites_in(alloc: Global, rows: &[CompositeRow]) -> Result<Composites, AllocError>
+    ensures { IfOk result (λ c. c ≡ composites_in rows.now []) }
+{
+    let mut composites = Composites::new(alloc);
+    for row in rows {
+        if !composites.has(row.group) {
+            composites.insert(*row)?;
+        }
+    }
+    Ok(composites)
 }
 
 impl Live {
@@ -23,6 +52,36 @@ impl Live {
             rows: Rows::new(alloc),
             composites: Composites::new(alloc),
         }
+    }
+
+    /// The live data of the facts at a moment: the rows that are on, and the composites.
+    pub fn of(alloc: Global, facts: &Facts, at: Moment) -> Result<Live, AllocError>
+        ensures { IfOk result (λ l. l ≡ live_of at facts.now.rows facts.now.composites) }
+    {
+        let rows = rows_on(alloc, facts.rows(), at)?;
+        let composites = composites_in(alloc, facts.composites())?;
+        Ok(Live { rows, composites })
+    }
+
+    /// Whether the group has rows. Takes no memory.
+    pub fn has_rows(&self, group: GroupId) -> bool
+        ensures { result ≡ has_rows group self.now.rows }
+    {
+        self.rows.has_any(group)
+    }
+
+    /// Whether the group is a composite. Takes no memory.
+    pub fn is_composite(&self, group: GroupId) -> bool
+        ensures { result ≡ is_composite group self.now.composites }
+    {
+        self.composites.has(group)
+    }
+
+    /// The group's factors, where it is a composite. Takes no memory.
+    pub fn composite(&self, group: GroupId) -> Option<CompositeRow>
+        ensures { result ≡ find (λ c. c.group == group) self.now.composites }
+    {
+        self.composites.of(group)
     }
 
     /// The live data after a change.

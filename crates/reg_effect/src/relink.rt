@@ -1,29 +1,32 @@
 // The graph of nested groups and factors under a change.
-ghost use Rattle.std.specs.Prelude.{◌∷◌, OnOk};
+ghost use Rattle.std.specs.Prelude.{◌≡◌, ◌∷◌, false, OnOk};
 ghost use Rattle.std.specs.List.Sorted.{IsPermutation};
+ghost use Rattle.reg_graph.specs.Edges.{reaches};
 ghost use Rattle.reg_effect.specs.declared.live.Change.TheVariants.{RowOn, RowOff, FactorsOn, FactorsOff};
-ghost use Rattle.reg_effect.specs.Changes.{changed, Fits};
+ghost use Rattle.reg_effect.specs.Changes.{changed, Fits, Suits};
 ghost use Rattle.reg_effect.specs.Invariant.{IsCounted};
 
 use crate::{Change, Live};
 use reg_base::GroupId;
 use reg_facts::{Member, SetOp};
-use reg_graph::Dag;
+use reg_graph::{Dag, EdgeFault};
 use std::alloc::AllocError;
 
-/// One more edge. A change closes no circle, so that only memory can be wanting.
+/// One more edge, which closes no circle, so that only memory can be wanting.
 fn link(graph: &mut Dag, from: GroupId, to: GroupId) -> Result<(), AllocError>
+    requires { reaches graph.old to from ≡ false }
     ensures { OnOk result (IsPermutation ((from, to) ∷ graph.old) graph.new) }
 {
     match graph.add_edge(from, to) {
         Ok(()) => Ok(()),
-        Err(_) => Err(AllocError),
+        Err(EdgeFault::NoMemory) => Err(AllocError),
+        Err(EdgeFault::Circular(_)) => unreachable!(),
     }
 }
 
-#[tactic(auto, using(crate::proofs::Graphs::counted_person, crate::proofs::Graphs::counted_nested))]
+#[tactic(auto, using(crate::proofs::Graphs::counted_person, crate::proofs::Graphs::counted_nested, crate::proofs::Graphs::nested_open))]
 fn link_row(live: &Live, graph: &mut Dag, group: GroupId, member: Member) -> Result<(), AllocError>
-    requires fits { Fits (RowOn group member) live.now }
+    requires suits { Suits (RowOn group member) live.now }
     requires counted { IsCounted live.now graph.old }
     ensures { OnOk result (IsCounted (changed (RowOn group member) live.now) graph.new) }
 {
@@ -54,7 +57,7 @@ fn link_factors(
     left: GroupId,
     right: GroupId,
 ) -> Result<(), AllocError>
-    requires fits { Fits (FactorsOn group op left right) live.now }
+    requires suits { Suits (FactorsOn group op left right) live.now }
     requires counted { IsCounted live.now graph.old }
     ensures { OnOk result (IsCounted (changed (FactorsOn group op left right) live.now) graph.new) }
 {
@@ -77,7 +80,7 @@ fn unlink_factors(live: &Live, graph: &mut Dag, group: GroupId)
 
 /// Brings the graph from live data to those after a change.
 pub(crate) fn relink(live: &Live, graph: &mut Dag, change: &Change) -> Result<(), AllocError>
-    requires fits { Fits change.now live.now }
+    requires suits { Suits change.now live.now }
     requires counted { IsCounted live.now graph.old }
     ensures { OnOk result (IsCounted (changed change.now live.now) graph.new) }
 {

@@ -2,7 +2,7 @@
 ghost use Rattle.std.specs.Prelude.{◌≡◌, ◌<◌, ◌^◌, [], IfOk, OnOk, OnErr};
 ghost use Rattle.std.specs.BTreeSet.{insert_key};
 ghost use Rattle.std.specs.Set.{remove_key};
-ghost use Rattle.reg_effect.specs.Order.{place_of, row_cmp, row_at, is_row, has_row, nested};
+ghost use Rattle.reg_effect.specs.Order.{place_of, row_cmp, row_at, is_row, has_row, has_rows, nested, row_members};
 
 use reg_base::{GroupId, SubjectId};
 use reg_facts::Member;
@@ -75,6 +75,17 @@ impl Rows {
         self.places.contains(&place_of(group, member))
     }
 
+    /// Whether the group has rows. Takes no memory.
+    pub fn has_any(&self, group: GroupId) -> bool
+        ensures { result ≡ has_rows group self.now }
+    {
+        let number = group.number();
+        self.places
+            .range((number, PERSON, 0)..=(number, GROUP, u32::MAX))
+            .next()
+            .is_some()
+    }
+
     /// Puts a row at its place, unless it is there. Out of memory the rows stay as they were.
     pub fn insert(&mut self, group: GroupId, member: Member) -> Result<(), AllocError>
         ensures ok { OnOk result (self.new ≡ insert_key row_cmp self.old (group, member)) }
@@ -104,6 +115,21 @@ impl Rows {
             groups.push(GroupId::new(place.2))?;
         }
         Ok(groups)
+    }
+
+    /// The members that the group's rows name: persons by id, then groups by id.
+    pub fn members(&self, group: GroupId) -> Result<Vec<Member>, AllocError>
+        ensures { IfOk result (λ v. v.items ≡ row_members group self.now) }
+    {
+        let number = group.number();
+        let mut members = Vec::new(self.alloc);
+        for place in self
+            .places
+            .range((number, PERSON, 0)..=(number, GROUP, u32::MAX))
+        {
+            members.push(row_at(*place).1)?;
+        }
+        Ok(members)
     }
 
     /// The rows in order.

@@ -2,9 +2,9 @@
 ghost use Rattle.std.specs.Prelude.{◌≡◌, ◌+◌, ◌≤◌, ◌<◌, IfOk, OnOk};
 ghost use Rattle.reg_facts.specs.declared.kinds.Member.TheVariants.{Person};
 ghost use Rattle.reg_effect.specs.declared.live.Change.TheVariants.{RowOn};
-ghost use Rattle.reg_effect.specs.Changes.{changed_by, Suits};
+ghost use Rattle.reg_effect.specs.Changes.{changed_by, Suits, SuitAll};
 ghost use Rattle.reg_effect.specs.Edges.{edges};
-ghost use Rattle.reg_effect.specs.Example.{building, nested_complement, IsAlone, SuitAll};
+ghost use Rattle.reg_effect.specs.Example.{building, nested_complement, IsAlone};
 
 use crate::{Change, Delta, Incremental, Kept, Plain};
 use reg_base::{GroupId, Steps, SubjectId};

@@ -2,6 +2,7 @@ pub mod Places
 pub mod Ways
 pub mod Depths
 pub mod Frames
+pub mod Joined
 pub mod Standing
 pub mod Resolving
 pub mod Changes
@@ -17,3 +18,10 @@ pub mod Walking
 pub mod Objects
 pub mod Indexing
 pub mod Below
+pub mod Subjects
+pub mod Searched
+pub mod RowPlaces
+pub mod RowFinds
+pub mod LeftRows
+pub mod CompositeFinds
+pub mod Longest

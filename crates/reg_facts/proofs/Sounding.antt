@@ -5,7 +5,7 @@ use Rattle.std.proofs.lemmas.Bool.{cases_Bool, both_ways, and_parts, or_parts, e
 use Rattle.reg_base.specs.Names.{is_extension, is_name}
 use Rattle.reg_base.specs.NameParts.{extension_of}
 use Rattle.reg_facts.specs.declared.command.Command.{Command}
-use Rattle.reg_facts.specs.declared.command.Command.TheVariants.{FolderAdd, FolderRename, FolderMove, FolderDelete, SubjectAdd, GroupAdd, GroupRename, GroupMove, GroupDelete, MemberAdd, MemberRemove}
+use Rattle.reg_facts.specs.declared.command.Command.TheVariants.{FolderAdd, FolderRename, FolderMove, FolderDelete, SubjectAdd, GroupAdd, GroupRename, GroupMove, GroupDelete, MemberAdd, MemberRemove, CompositeSet, CompositeClear}
 use Rattle.reg_facts.specs.declared.kinds.Object.{Object}
 use Rattle.reg_facts.specs.declared.kinds.Object.TheVariants.{Folder, Group}
 use Rattle.reg_facts.specs.declared.kinds.Member.{Member}
@@ -13,24 +13,27 @@ use Rattle.reg_facts.specs.declared.rows.FolderRow.{FolderRow}
 use Rattle.reg_facts.specs.declared.rows.GroupRow.{GroupRow}
 use Rattle.reg_facts.specs.declared.rows.SubjectRow.{SubjectRow}
 use Rattle.reg_facts.specs.declared.rows.MemberRow.{MemberRow}
+use Rattle.reg_facts.specs.declared.rows.CompositeRow.{CompositeRow}
+use Rattle.reg_facts.specs.declared.kinds.SetOp.{SetOp}
 use Rattle.reg_facts.specs.Kinds.{same_object}
 use Rattle.reg_facts.specs.Lists.{Lists, root, root_row, start}
 use Rattle.reg_facts.specs.Naming.{Placed, placed, placed_folders, placed_group, placed_definition, placed_attribute, place_of, found_in, resolve, as_folder, folder_id, group_id, home_of, home_id, parent_of, lies_in, longest, most_levels}
-use Rattle.reg_facts.specs.Edits.{the_id, edit, folder_added, folder_renamed, folder_moved, folder_deleted, person_text, subject_added, group_added, group_renamed, group_moved, group_deleted, member_of, row_added, row_removed}
+use Rattle.reg_facts.specs.Edits.{the_id, edit, folder_added, folder_renamed, folder_moved, folder_deleted, person_text, subject_added, group_added, group_renamed, group_moved, group_deleted, member_of, is_row, has_member, is_nested, is_composite, is_factor, row_added, row_removed, composite_set, composite_cleared}
 use Rattle.reg_facts.specs.Suiting.{is_folder_text, CanEdit, CanName, IsFolder, CanRename, CanMove, below_named, holds_some}
-use Rattle.reg_facts.specs.Sound.{IsSound}
+use Rattle.reg_facts.specs.Sound.{IsKnown, has_group, MemberStands, CompositeStands, IsSound}
 use Rattle.reg_facts.proofs.Places.{place_cases, AreOnce}
 use Rattle.reg_facts.proofs.Ways.{Rises, Clear, heft, Below}
 use Rattle.reg_facts.proofs.Depths.{heavy, below_longest, lies, clear_by, not_round}
 use Rattle.reg_facts.proofs.Frames.{Frame, rest_places, lies_is, parent_found}
+use Rattle.reg_facts.proofs.Joined.{Joined, Named, sound_joined, none_joined, joined_groups, among_more, among_changed, joined_subject, joined_row, joined_rows_less, joined_composite, joined_composites_less, joined_group_less, member_known, member_stands}
 use Rattle.reg_facts.proofs.Standing.{Ids, Core, placed_is, ids_frame, sound_frame, sound_core, core_sound}
 use Rattle.reg_facts.proofs.Changes.{core_put, core_cut, core_insert, alter, alter_differs, alter_at, kept, cut_differs, cut_at}
-use Rattle.reg_facts.proofs.Homes.{extension_form, name_short, name_whole, folder_found, group_found, named_place, heft_home, resolve_root}
-use Rattle.reg_facts.proofs.Edited.{ascend_push, ascend_map, ascend_filter, begins_push, begins_map, begins_filter, places_folder, places_group, titled, sited, folders_titled, folders_sited, folder_altered, folder_cut, group_titled, group_sited, group_cut, begins_parent}
+use Rattle.reg_facts.proofs.Homes.{some_is, extension_form, name_short, name_whole, folder_found, group_found, named_place, heft_home, resolve_root}
+use Rattle.reg_facts.proofs.Edited.{placed_in_groups, ascend_push, ascend_map, ascend_filter, begins_push, begins_map, begins_filter, places_folder, places_group, titled, sited, folders_titled, folders_sited, folder_altered, folder_cut, group_titled, group_sited, group_cut, begins_parent}
 
 -- one object more
-insert_sound : (f g : Lists) (a b : List Placed) (new : Placed) (m : ℕ) → placed f ≡ a ++ b → placed g ≡ a ++ (new ∷ b) → IsSound f → Ids g → same_object (Folder root) new.object ≡ false → is_extension new.extension ≡ true → found_in new.folder new.extension (placed f) ≡ None → Rises m new.folder root (placed f) → heft m new.folder (placed f) + (1 + length new.extension) ≤ 1001 → IsSound g
-insert_sound f g a b new m was is s ids other form free up fits = core_sound g ids (subst (λ ps. Core ps) (sym is) (core_insert a b new m
+insert_sound : (f g : Lists) (a b : List Placed) (new : Placed) (m : ℕ) → placed f ≡ a ++ b → placed g ≡ a ++ (new ∷ b) → IsSound f → Ids g → Joined g.groups g.subjects g.rows g.composites → same_object (Folder root) new.object ≡ false → is_extension new.extension ≡ true → found_in new.folder new.extension (placed f) ≡ None → Rises m new.folder root (placed f) → heft m new.folder (placed f) + (1 + length new.extension) ≤ 1001 → IsSound g
+insert_sound f g a b new m was is s ids joined other form free up fits = core_sound g ids joined (subst (λ ps. Core ps) (sym is) (core_insert a b new m
     (subst (λ ps. AreOnce ps) is (ids_frame g ids).once)
     other
     (subst (λ ps. Core ps) was (sound_core f s))
@@ -40,8 +43,8 @@ insert_sound f g a b new m was is s ids other form free up fits = core_sound g i
     (subst (λ ps. heft m new.folder ps + (1 + length new.extension) ≤ 1001) was fits)))
 
 -- one object altered
-alter_sound : (f g : Lists) (o : Object) (change : Placed → Placed) (p : Placed) (m most : ℕ) → placed g ≡ map (alter o change) (placed f) → ((q : Placed) → (change q).object ≡ q.object) → IsSound f → Ids g → place_of o (placed f) ≡ Some p → is_extension (change p).extension ≡ true → found_in (change p).folder (change p).extension (placed f) ≡ None → Clear m (change p).folder root o (placed f) → heft m (change p).folder (placed f) + (1 + length (change p).extension) + most ≤ 1001 → Below o (placed f) most → IsSound g
-alter_sound f g o change p m most is keeps s ids at form free clear fits below = core_sound g ids (subst (λ ps. Core ps) (sym is) (core_put (placed f) (map (alter o change) (placed f)) o (change p) m most
+alter_sound : (f g : Lists) (o : Object) (change : Placed → Placed) (p : Placed) (m most : ℕ) → placed g ≡ map (alter o change) (placed f) → ((q : Placed) → (change q).object ≡ q.object) → IsSound f → Ids g → Joined g.groups g.subjects g.rows g.composites → place_of o (placed f) ≡ Some p → is_extension (change p).extension ≡ true → found_in (change p).folder (change p).extension (placed f) ≡ None → Clear m (change p).folder root o (placed f) → heft m (change p).folder (placed f) + (1 + length (change p).extension) + most ≤ 1001 → Below o (placed f) most → IsSound g
+alter_sound f g o change p m most is keeps s ids joined at form free clear fits below = core_sound g ids joined (subst (λ ps. Core ps) (sym is) (core_put (placed f) (map (alter o change) (placed f)) o (change p) m most
     (alter_differs o change keeps (placed f))
     (alter_at o change keeps (placed f) p at)
     (sound_core f s)
@@ -52,8 +55,8 @@ alter_sound f g o change p m most is keeps s ids at form free clear fits below =
     below))
 
 -- one object less
-cut_sound : (f g : Lists) (o : Object) → placed g ≡ filter (kept o) (placed f) → IsSound f → Ids g → ((x : Object) (p : Placed) → place_of x (placed f) ≡ Some p → same_object (Folder p.folder) o ≡ false) → IsSound g
-cut_sound f g o is s ids unused = core_sound g ids (subst (λ ps. Core ps) (sym is) (core_cut (placed f) (filter (kept o) (placed f)) o (cut_differs o (placed f)) (cut_at o (placed f)) (sound_core f s) unused))
+cut_sound : (f g : Lists) (o : Object) → placed g ≡ filter (kept o) (placed f) → IsSound f → Ids g → Joined g.groups g.subjects g.rows g.composites → ((x : Object) (p : Placed) → place_of x (placed f) ≡ Some p → same_object (Folder p.folder) o ≡ false) → IsSound g
+cut_sound f g o is s ids joined unused = core_sound g ids joined (subst (λ ps. Core ps) (sym is) (core_cut (placed f) (filter (kept o) (placed f)) o (cut_differs o (placed f)) (cut_at o (placed f)) (sound_core f s) unused))
 
 -- the facts at the start
 no_core : Core []
@@ -74,7 +77,7 @@ unfolding placed
 nothing_placed = refl
 
 pub start_sound : IsSound start
-start_sound = core_sound start (record { folders = (refl, omega arith, tt); groups = omega arith; subjects = omega arith; definitions = omega arith; attributes = omega arith }) (subst (λ ps. Core ps) (sym nothing_placed) no_core)
+start_sound = core_sound start (record { folders = (refl, omega arith, tt); groups = omega arith; subjects = omega arith; definitions = omega arith; attributes = omega arith }) none_joined (subst (λ ps. Core ps) (sym nothing_placed) no_core)
 
 -- subjects and memberships place nothing
 subject_placed : (text display : List ℕ) (f : Lists) → placed (subject_added text display f) ≡ placed f
@@ -84,24 +87,65 @@ subject_placed text display f = refl
 pub subject_add_sound : (text display : List ℕ) (f : Lists) → IsSound f → IsSound (subject_added text display f)
 subject_add_sound text display f s = core_sound (subject_added text display f)
     (record { folders = s.folders; groups = s.groups; subjects = ascend_push (λ (r : SubjectRow). r.id) 0 f.made.subjects f.subjects _ s.subjects refl; definitions = s.definitions; attributes = s.attributes })
+    (joined_subject f.groups f.subjects _ f.rows f.composites (sound_joined f s))
     (subst (λ ps. Core ps) (sym (subject_placed text display f)) (sound_core f s))
 
 rows_placed : (rows : List MemberRow) (f : Lists) → placed (record f { rows = rows }) ≡ placed f
 unfolding placed
 rows_placed rows f = refl
 
-rows_sound : (rows : List MemberRow) (f : Lists) → IsSound f → IsSound (record f { rows = rows })
-rows_sound rows f s = core_sound (record f { rows = rows })
+rows_sound : (rows : List MemberRow) (f : Lists) → Joined f.groups f.subjects rows f.composites → IsSound f → IsSound (record f { rows = rows })
+rows_sound rows f joined s = core_sound (record f { rows = rows })
     (record { folders = s.folders; groups = s.groups; subjects = s.subjects; definitions = s.definitions; attributes = s.attributes })
+    joined
     (subst (λ ps. Core ps) (sym (rows_placed rows f)) (sound_core f s))
 
-pub row_add_sound : (at g : ℕ) (m : Option Member) (f : Lists) → IsSound f → IsSound (row_added at g m f)
-row_add_sound at g None f s = s
-row_add_sound at g (Some m) f s = rows_sound _ f s
+-- what names a group is no name of the root
+group_out : (f : Lists) (fr : Frame f.folders (placed f)) (core : Core (placed f)) (text : List ℕ) (id : ℕ) → resolve text f ≡ Some (Group id) → bytes_eq text (codes ":") ≡ false
+group_out f fr core text id h = elim (cases_Bool (bytes_eq text (codes ":"))) [
+  | inl t ↦ absurd (let e : Some (Folder root) ≡ Some (Group id) = sym (resolve_root f fr core text t) ∙ h in let clash : ⊥ = cc in clash)
+  | inr t ↦ t
+]
+
+-- a group that a name has stands
+pub group_named : (f : Lists) → IsSound f → Named f
+group_named f s name g h =
+    let fr = sound_frame f s in
+    let core = sound_core f s in
+    let some : IsSome (group_id name f) = rw h refl in
+    let found : resolve name f ≡ Some (Group g) = group_found (resolve name f) some ∙ ap (λ x. Some (Group (the_id x))) h in
+    let w = named_place f fr core name (Group g) (group_out f fr core name g found) found in
+    placed_in_groups g f.folders f.groups f.definitions f.attributes w.0 (subst (λ ps. place_of (Group g) ps ≡ Some w.0) (placed_is f) w.1)
+
+the_group : (f : Lists) → IsSound f → (name : List ℕ) → IsSome (group_id name f) → has_group (the_id (group_id name f)) f.groups ≡ true
+the_group f s name stands = let found = some_is (group_id name f) stands in rw found.1 (group_named f s name found.0 found.1)
+
+pub row_add_sound : (at g : ℕ) (m : Option Member) (f : Lists) → has_member g m f.rows ≡ false → has_group g f.groups ≡ true → ((x : Member) → m ≡ Some x → IsKnown f.subjects x × MemberStands f.groups x) → IsSound f → IsSound (row_added at g m f)
+row_add_sound at g None f new stands known s = s
+row_add_sound at g (Some m) f new stands known s =
+    let w = known m refl in
+    rows_sound _ f (joined_row f.groups f.subjects f.rows (record { group = g; member = m; from = at; until = None }) f.composites new w.0 (record { group = stands; member = w.1 }) (sound_joined f s)) s
 
 pub row_remove_sound : (g : ℕ) (m : Option Member) (f : Lists) → IsSound f → IsSound (row_removed g m f)
 row_remove_sound g None f s = s
-row_remove_sound g (Some m) f s = rows_sound _ f s
+row_remove_sound g (Some m) f s = rows_sound _ f (joined_rows_less f.groups f.subjects (λ (row : MemberRow). not (is_row g m row)) f.rows f.composites (sound_joined f s)) s
+
+-- composites place nothing
+composites_placed : (cs : List CompositeRow) (f : Lists) → placed (record f { composites = cs }) ≡ placed f
+unfolding placed
+composites_placed cs f = refl
+
+composites_sound : (cs : List CompositeRow) (f : Lists) → Joined f.groups f.subjects f.rows cs → IsSound f → IsSound (record f { composites = cs })
+composites_sound cs f joined s = core_sound (record f { composites = cs })
+    (record { folders = s.folders; groups = s.groups; subjects = s.subjects; definitions = s.definitions; attributes = s.attributes })
+    joined
+    (subst (λ ps. Core ps) (sym (composites_placed cs f)) (sound_core f s))
+
+pub composite_set_sound : (g : ℕ) (op : SetOp) (left right : ℕ) (f : Lists) → is_composite g f.composites ≡ false → CompositeStands f.groups (record { group = g; op = op; left = left; right = right }) → IsSound f → IsSound (composite_set g op left right f)
+composite_set_sound g op left right f new stands s = composites_sound _ f (joined_composite f.groups f.subjects f.rows f.composites (record { group = g; op = op; left = left; right = right }) new stands (sound_joined f s)) s
+
+pub composite_clear_sound : (g : ℕ) (f : Lists) → IsSound f → IsSound (composite_cleared g f)
+composite_clear_sound g f s = composites_sound _ f (joined_composites_less f.groups f.subjects f.rows (λ (row : CompositeRow). not (row.group == g)) f.composites (sound_joined f s)) s
 
 -- a folder more
 pub folder_add_sound : (name display : List ℕ) (f : Lists) → is_name name ≡ true → CanName name f → IsSound f → IsSound (folder_added name display f)
@@ -116,6 +160,7 @@ folder_add_sound name display f form can s =
     (placed_is g ∙ places_folder f.folders (record { id = f.made.folders + 1; parent = home_id name f; extension = extension_of name; display = display }) (the_id (home_id name f)) rest parent)
     s
     (record { folders = begins_push f.made.folders f.folders _ s.folders refl can.home; groups = s.groups; subjects = s.subjects; definitions = s.definitions; attributes = s.attributes })
+    (sound_joined f s)
     (ne_eqb root (f.made.folders + 1) (λ e. absurd (omega (arith, e))))
     (extension_form name form)
     can.free
@@ -135,6 +180,7 @@ group_add_sound name display f form can s =
     (placed_is g ∙ places_group (placed_folders f.folders) f.groups row last)
     s
     (record { folders = s.folders; groups = ascend_push (λ (r : GroupRow). r.id) 0 f.made.groups f.groups row s.groups refl; subjects = s.subjects; definitions = s.definitions; attributes = s.attributes })
+    (joined_groups f.groups (f.groups ++ row ∷ []) f.subjects f.rows f.composites (among_more f.groups row) (sound_joined f s))
     refl
     (extension_form name form)
     can.free
@@ -142,12 +188,6 @@ group_add_sound name display f form can s =
     (omega (arith, up.2, name_whole name, name_short name form))
 
 -- what a name but `:` names is no root
-group_out : (f : Lists) (fr : Frame f.folders (placed f)) (core : Core (placed f)) (text : List ℕ) (id : ℕ) → resolve text f ≡ Some (Group id) → bytes_eq text (codes ":") ≡ false
-group_out f fr core text id h = elim (cases_Bool (bytes_eq text (codes ":"))) [
-  | inl t ↦ absurd (let e : Some (Folder root) ≡ Some (Group id) = sym (resolve_root f fr core text t) ∙ h in let clash : ⊥ = cc in clash)
-  | inr t ↦ t
-]
-
 folder_out : (f : Lists) (fr : Frame f.folders (placed f)) (core : Core (placed f)) (text : List ℕ) (id : ℕ) → (id == root) ≡ false → resolve text f ≡ Some (Folder id) → bytes_eq text (codes ":") ≡ false
 folder_out f fr core text id other h = elim (cases_Bool (bytes_eq text (codes ":"))) [
   | inl t ↦
@@ -196,6 +236,7 @@ group_rename_sound name extension f form stands can s =
     (λ q. refl)
     s
     (group_ids f (group_renamed id extension) (group_renamed_id id extension) s)
+    (joined_groups f.groups (map (group_renamed id extension) f.groups) f.subjects f.rows f.composites (among_changed (group_renamed id extension) (group_renamed_id id extension) f.groups) (sound_joined f s))
     w.1
     form
     (subst (λ d. found_in d extension (placed f) ≡ None) (ap the_id w.2) can.free)
@@ -220,6 +261,7 @@ group_move_sound name to f stands can s =
     (λ q. refl)
     s
     (group_ids f (group_moved id d) (group_moved_id id d) s)
+    (joined_groups f.groups (map (group_moved id d) f.groups) f.subjects f.rows f.composites (among_changed (group_moved id d) (group_moved_id id d) f.groups) (sound_joined f s))
     w.1
     (core.formed.form (Group id) w.0 w.1)
     (subst (λ e. found_in d e (placed f) ≡ None) w.3 can.free)
@@ -227,13 +269,14 @@ group_move_sound name to f stands can s =
     (omega (arith, up.2, can.fits, same))
     (below_group id (placed f))
 
-pub group_delete_sound : (id : ℕ) (f : Lists) → IsSound f → IsSound (group_deleted id f)
-group_delete_sound id f s =
+pub group_delete_sound : (id : ℕ) (f : Lists) → is_nested id f.rows ≡ false → is_factor id f.composites ≡ false → IsSound f → IsSound (group_deleted id f)
+group_delete_sound id f nested factor s =
     let g = group_deleted id f in
     cut_sound f g (Group id)
     (placed_is g ∙ group_cut f.folders f.definitions f.attributes id f.groups ∙ ap (filter (kept (Group id))) (sym (placed_is f)))
     s
     (record { folders = s.folders; groups = ascend_filter (λ (r : GroupRow). r.id) (λ (row : GroupRow). not (row.id == id)) 0 f.made.groups f.groups s.groups; subjects = s.subjects; definitions = s.definitions; attributes = s.attributes })
+    (joined_group_less id f.groups f.subjects f.rows f.composites nested factor (sound_joined f s))
     (λ x p h. refl)
 
 -- a folder with another extension
@@ -273,6 +316,7 @@ folder_rename_sound name extension f form it can s =
     (λ q. refl)
     s
     (folder_ids f (folder_renamed id extension) (folder_renamed_id id extension) (folder_renamed_up id extension) (root_renamed id extension (root_other id it.not_root)) s)
+    (sound_joined f s)
     w.1
     form
     (subst (λ d. found_in d extension (placed f) ≡ None) (ap the_id w.2) can.free)
@@ -298,6 +342,7 @@ folder_move_sound name to f it can outside s =
     (λ q. refl)
     s
     (folder_ids f (folder_moved id d) (folder_moved_id id d) (folder_moved_up id d) (root_moved id d (root_other id it.not_root)) s)
+    (sound_joined f s)
     w.1
     (core.formed.form (Folder id) w.0 w.1)
     (subst (λ e. found_in d e (placed f) ≡ None) w.3 can.free)
@@ -322,6 +367,7 @@ folder_delete_sound id f other empty s =
     (placed_is g ∙ folder_cut f.groups f.definitions f.attributes id f.folders ∙ ap (filter (kept (Folder id))) (sym (placed_is f)))
     s
     (record { folders = begins_filter f.made.folders (λ (row : FolderRow). not (row.id == id)) f.folders (not_from_false (root == id) (root_other id other)) s.folders; groups = s.groups; subjects = s.subjects; definitions = s.definitions; attributes = s.attributes })
+    (sound_joined f s)
     (λ x p h. none_in id (placed f) x p empty h)
 
 -- a command that suits sound facts leaves them sound
@@ -335,9 +381,11 @@ edit_sound at (SubjectAdd subject display) f can s = subject_add_sound (person_t
 edit_sound at (GroupAdd group display) f can s = group_add_sound group display f (and_parts _ _ can.form).0 can.suits.0 s
 edit_sound at (GroupRename group extension) f can s = group_rename_sound group extension f (and_parts (is_name group) (is_extension extension) can.form).1 can.suits.0 can.suits.1 s
 edit_sound at (GroupMove group to) f can s = group_move_sound group to f can.suits.0 can.suits.1 s
-edit_sound at (GroupDelete group) f can s = group_delete_sound (the_id (group_id group f)) f s
-edit_sound at (MemberAdd group member) f can s = row_add_sound at (the_id (group_id group f)) (member_of member f) f s
+edit_sound at (GroupDelete group) f can s = group_delete_sound (the_id (group_id group f)) f can.suits.1 can.suits.2 s
+edit_sound at (MemberAdd group member) f can s = row_add_sound at (the_id (group_id group f)) (member_of member f) f can.suits.2 (the_group f s group can.suits.0) (λ m h. (member_known member f m h, member_stands member f m (group_named f s) h)) s
 edit_sound at (MemberRemove group member) f can s = row_remove_sound (the_id (group_id group f)) (member_of member f) f s
+edit_sound at (CompositeSet group kind left right) f can s = composite_set_sound (the_id (group_id group f)) kind (the_id (group_id left f)) (the_id (group_id right f)) f can.suits.3 (record { group = the_group f s group can.suits.0; left = the_group f s left can.suits.1; right = the_group f s right can.suits.2 }) s
+edit_sound at (CompositeClear group) f can s = composite_clear_sound (the_id (group_id group f)) f s
 
 -- no folder lies below itself
 pub not_below_itself : (d p : ℕ) (f : Lists) → IsSound f → parent_of d f.folders ≡ Some p → lies_in most_levels p d f.folders ≡ false

@@ -16,6 +16,7 @@ use Rattle.reg_facts.specs.Sound.{Ascend, BeginsAtRoot, IsRooted, IsSound}
 use Rattle.reg_facts.proofs.Places.{place_is, all_places, from_places, Apart, apart_from, apart_places}
 use Rattle.reg_facts.proofs.Ways.{Rises, trail, weight, weight-push, heft, trail_enough, Well, StandsWell}
 use Rattle.reg_facts.proofs.Depths.{Formed, heavy}
+use Rattle.reg_facts.proofs.Joined.{Joined}
 use Rattle.reg_facts.proofs.Frames.{Frame, frame, places, under_rises, rises_under, path_is, row_stands}
 
 pub placed_is : (f : Lists) → placed f ≡ places f.folders f.groups f.definitions f.attributes
@@ -130,8 +131,8 @@ sound_core f s = record { formed = formed; apart = apart_places (placed f) s.apa
         let same = ap weight (trail_all r.depth p.folder (placed f) formed fr.rootless up (omega (arith, least, bytes))) in
         (r.depth, up, omega (arith, least, bytes, same))
 
-pub core_sound : (f : Lists) → Ids f → Core (placed f) → IsSound f
-core_sound f ids core = record {
+pub core_sound : (f : Lists) → Ids f → Joined f.groups f.subjects f.rows f.composites → Core (placed f) → IsSound f
+core_sound f ids joined core = record {
   folders = ids.folders;
   groups = ids.groups;
   subjects = ids.subjects;
@@ -142,6 +143,11 @@ core_sound f ids core = record {
   rooted = from_places (λ p. IsRooted f.folders p.folder) (placed f) fr.once (λ o p h.
       let w = core.well.stands o p h in
       record { stands = some_row f fr w.0 p.folder w.1; depth = w.0; under = rises_under f.folders (placed f) fr w.0 p.folder w.1 });
+  rows_once = joined.rows_once;
+  composites_once = joined.composites_once;
+  known = joined.known;
+  members_stand = joined.members_stand;
+  factors_stand = joined.factors_stand;
   fits = from_places (λ p. length (name_of p.object f) ≤ max_name) (placed f) fr.once (λ o p h.
       let w = core.well.stands o p h in
       let same = ap weight (trail_within w.0 p.folder (placed f) core.formed fr.rootless w.1 (omega (arith, w.2))) in

@@ -1,16 +1,17 @@
 -- What each command changes in the facts, and which commands suit them.
-use Rattle.std.specs.Prelude.{ℕ, ◌+◌, ◌==◌, ◌&&◌, List, [], ◌∷◌, ◌++◌, Bool, false, not, Option, None, Some, unwrap_or, map, filter, if◌then◌else◌}
+use Rattle.std.specs.Prelude.{ℕ, ◌+◌, ◌==◌, ◌&&◌, ◌||◌, List, [], ◌∷◌, ◌++◌, Bool, false, not, Option, None, Some, unwrap_or, map, filter, if◌then◌else◌}
 use Rattle.std.specs.List.{list_any}
 use Rattle.std.specs.Str.{bytes_eq}
 use Rattle.reg_base.specs.NameParts.{extension_of}
 use Rattle.reg_base.specs.declared.entity.Entity.{Entity}
 use Rattle.reg_base.specs.declared.entity.Entity.TheVariants as entity
 use Rattle.reg_facts.specs.declared.command.Command.{Command}
-use Rattle.reg_facts.specs.declared.command.Command.TheVariants.{FolderAdd, FolderRename, FolderMove, FolderDelete, SubjectAdd, GroupAdd, GroupRename, GroupMove, GroupDelete, MemberAdd, MemberRemove}
+use Rattle.reg_facts.specs.declared.command.Command.TheVariants.{FolderAdd, FolderRename, FolderMove, FolderDelete, SubjectAdd, GroupAdd, GroupRename, GroupMove, GroupDelete, MemberAdd, MemberRemove, CompositeSet, CompositeClear}
 use Rattle.reg_facts.specs.declared.kinds.Object.{Object}
 use Rattle.reg_facts.specs.declared.kinds.Object.TheVariants.{Folder, Group}
 use Rattle.reg_facts.specs.declared.kinds.Member.{Member}
 use Rattle.reg_facts.specs.declared.kinds.Member.TheVariants as member
+use Rattle.reg_facts.specs.declared.kinds.SetOp.{SetOp}
 use Rattle.reg_facts.specs.declared.rows.FolderRow.{FolderRow}
 use Rattle.reg_facts.specs.declared.rows.GroupRow.{GroupRow}
 use Rattle.reg_facts.specs.declared.rows.SubjectRow.{SubjectRow}
@@ -28,10 +29,10 @@ abbrev pub subject_id : List ℕ → List SubjectRow → Option ℕ
 subject_id text [] = None
 subject_id text (row ∷ rows) = if bytes_eq row.text text then Some row.id else subject_id text rows
 
--- the person that an entity names, if it names one that stands
+-- the person or group that an entity names, if it names one that stands
 abbrev pub member_of : Entity → Lists → Option Member
 member_of (entity.Person text) f = elim (subject_id text f.subjects) [ None ↦ None | Some s ↦ Some (member.Person s) ]
-member_of (entity.Group name) f = None
+member_of (entity.Group name) f = elim (group_id name f) [ None ↦ None | Some g ↦ Some (member.Group g) ]
 member_of entity.System f = None
 member_of entity.Everyone f = None
 
@@ -47,6 +48,22 @@ has_row g m rows = list_any (is_row g m) rows
 abbrev pub has_member : ℕ → Option Member → List MemberRow → Bool
 has_member g None rows = false
 has_member g (Some m) rows = has_row g m rows
+
+-- whether a group has rows
+abbrev pub has_rows : ℕ → List MemberRow → Bool
+has_rows g rows = list_any (λ (row : MemberRow). row.group == g) rows
+
+-- whether a group is the member of a row
+abbrev pub is_nested : ℕ → List MemberRow → Bool
+is_nested g rows = list_any (λ (row : MemberRow). same_member row.member (member.Group g)) rows
+
+-- whether a group is a composite
+abbrev pub is_composite : ℕ → List CompositeRow → Bool
+is_composite g composites = list_any (λ (row : CompositeRow). row.group == g) composites
+
+-- whether a group is a factor of a composite
+abbrev pub is_factor : ℕ → List CompositeRow → Bool
+is_factor g composites = list_any (λ (row : CompositeRow). (row.left == g) || (row.right == g)) composites
 
 -- a folder with another extension
 abbrev pub folder_renamed : ℕ → List ℕ → FolderRow → FolderRow
@@ -128,6 +145,14 @@ abbrev pub row_removed : ℕ → Option Member → Lists → Lists
 row_removed g None f = f
 row_removed g (Some m) f = record f { rows = filter (λ (row : MemberRow). not (is_row g m row)) f.rows }
 
+-- a composite more
+abbrev pub composite_set : ℕ → SetOp → ℕ → ℕ → Lists → Lists
+composite_set g op left right f = record f { composites = f.composites ++ (record { group = g; op = op; left = left; right = right }) ∷ [] }
+
+-- a composite less: the group has its factors no longer
+abbrev pub composite_cleared : ℕ → Lists → Lists
+composite_cleared g f = record f { composites = filter (λ (row : CompositeRow). not (row.group == g)) f.composites }
+
 -- the folder of this name with another extension
 abbrev pub folder_renamed_in : List ℕ → List ℕ → Lists → Lists
 folder_renamed_in folder extension f = record f { folders = map (folder_renamed (the_id (folder_id folder f)) extension) f.folders }
@@ -157,3 +182,5 @@ edit at (GroupMove group to) f = group_moved_in group to f
 edit at (GroupDelete group) f = group_deleted (the_id (group_id group f)) f
 edit at (MemberAdd group member) f = row_added at (the_id (group_id group f)) (member_of member f) f
 edit at (MemberRemove group member) f = row_removed (the_id (group_id group f)) (member_of member f) f
+edit at (CompositeSet group kind left right) f = composite_set (the_id (group_id group f)) kind (the_id (group_id left f)) (the_id (group_id right f)) f
+edit at (CompositeClear group) f = composite_cleared (the_id (group_id group f)) f

@@ -1,7 +1,7 @@
 -- What the maps beside the lists hold.
-use Rattle.std.specs.Prelude.{ℕ, ◌+◌, ◌*◌, List, Option, Bool, ◌==◌, ◌&&◌, slice_get, option_and_then}
-use Rattle.std.specs.List.{list_any}
-use Rattle.std.specs.BTreeMap.{get_by_text}
+use Rattle.std.specs.Prelude.{ℕ, ◌+◌, ◌*◌, List, Option, Bool, is_some, slice_get, option_and_then}
+use Rattle.std.specs.Ordering.{nat_cmp, ordering_then}
+use Rattle.std.specs.BTreeMap.{get_by, get_by_text}
 use Rattle.reg_facts.specs.declared.by_extension.ByExtension.{ByExtension}
 use Rattle.reg_facts.specs.declared.children.Children.{Children}
 use Rattle.reg_facts.specs.declared.text_index.TextIndex.{TextIndex}
@@ -29,4 +29,4 @@ member_key (Group g) = 2 * g + 1
 
 -- whether a set has a membership
 abbrev pub has_pair : RowSet → ℕ → Member → Bool
-has_pair set g m = list_any (λ (p : ℕ × ℕ). (p.0 == g) && (p.1 == member_key m)) set.pairs.keys
+has_pair set g m = is_some (get_by (λ (q : ℕ × ℕ). ordering_then (nat_cmp g q.0) (nat_cmp (member_key m) q.1)) set.stamps)

@@ -7,8 +7,8 @@ use Rattle.reg_base.specs.NameParts.{extension_of}
 use Rattle.reg_base.specs.declared.entity.Entity.{Entity}
 use Rattle.reg_base.specs.declared.entity.Entity.TheVariants as entity
 use Rattle.reg_facts.specs.declared.command.Command.{Command}
-use Rattle.reg_facts.specs.declared.command.Command.TheVariants.{FolderAdd, FolderRename, FolderMove, FolderDelete, SubjectAdd, GroupAdd, GroupRename, GroupMove, GroupDelete, MemberAdd, MemberRemove}
-use Rattle.reg_facts.specs.Edits.{subject_id, member_of, has_member, the_id, person_text}
+use Rattle.reg_facts.specs.declared.command.Command.TheVariants.{FolderAdd, FolderRename, FolderMove, FolderDelete, SubjectAdd, GroupAdd, GroupRename, GroupMove, GroupDelete, MemberAdd, MemberRemove, CompositeSet, CompositeClear}
+use Rattle.reg_facts.specs.Edits.{subject_id, member_of, has_member, has_rows, is_nested, is_composite, is_factor, the_id, person_text}
 use Rattle.reg_facts.specs.Limits.{max_folders, max_groups, max_subjects, max_rows, max_name}
 use Rattle.reg_facts.specs.Lists.{Lists, root}
 use Rattle.reg_facts.specs.Naming.{Placed, placed, child, folder_id, group_id, home_of, home_id, lies_in, longest, most_levels, name_in}
@@ -41,6 +41,8 @@ has_form (GroupMove group to) = is_name group && is_folder_text to
 has_form (GroupDelete group) = is_name group
 has_form (MemberAdd group member) = is_name group && is_entity member
 has_form (MemberRemove group member) = is_name group && is_entity member
+has_form (CompositeSet group kind left right) = is_name group && is_name left && is_name right
+has_form (CompositeClear group) = is_name group
 
 -- nothing stands there yet
 abbrev pub IsFree : ℕ → List ℕ → Lists → Type 0
@@ -92,15 +94,28 @@ Suits (SubjectAdd subject display) f = (is_person (person_text subject) ≡ true
 Suits (GroupAdd group display) f = CanName group f × (f.made.groups < max_groups)
 Suits (GroupRename group extension) f = IsSome (group_id group f) × CanRename group extension 0 f
 Suits (GroupMove group to) f = IsSome (group_id group f) × CanMove group to 0 f
-Suits (GroupDelete group) f = IsSome (group_id group f)
+Suits (GroupDelete group) f =
+    IsSome (group_id group f)
+    × (is_nested (the_id (group_id group f)) f.rows ≡ false)
+    × (is_factor (the_id (group_id group f)) f.composites ≡ false)
 Suits (MemberAdd group member) f =
     IsSome (group_id group f)
     × IsSome (member_of member f)
     × (has_member (the_id (group_id group f)) (member_of member f) f.rows ≡ false)
+    × (is_composite (the_id (group_id group f)) f.composites ≡ false)
     × (length f.rows < max_rows)
 Suits (MemberRemove group member) f =
     IsSome (group_id group f)
     × (has_member (the_id (group_id group f)) (member_of member f) f.rows ≡ true)
+Suits (CompositeSet group kind left right) f =
+    IsSome (group_id group f)
+    × IsSome (group_id left f)
+    × IsSome (group_id right f)
+    × (is_composite (the_id (group_id group f)) f.composites ≡ false)
+    × (has_rows (the_id (group_id group f)) f.rows ≡ false)
+Suits (CompositeClear group) f =
+    IsSome (group_id group f)
+    × (is_composite (the_id (group_id group f)) f.composites ≡ true)
 
 -- a command may be taken into the facts
 pub record CanEdit (c : Command) (f : Lists) : Type 0 where

@@ -4,12 +4,12 @@ ghost use Rattle.reg_base.specs.Names.{is_name};
 ghost use Rattle.reg_base.specs.NameParts.{extension_of};
 ghost use Rattle.reg_base.specs.declared.entity.Entity.TheVariants as entity;
 ghost use Rattle.reg_facts.specs.Naming.{child, resolve, folder_id, group_id, home_id};
-ghost use Rattle.reg_facts.specs.Edits.{edit, folder_added, folder_renamed_in, folder_moved_in, folder_deleted, subject_added, person_text, group_added, group_renamed_in, group_moved_in, group_deleted, row_added, row_removed, member_of, the_id};
+ghost use Rattle.reg_facts.specs.Edits.{edit, folder_added, folder_renamed_in, folder_moved_in, folder_deleted, subject_added, person_text, group_added, group_renamed_in, group_moved_in, group_deleted, row_added, row_removed, composite_set, composite_cleared, member_of, the_id};
 ghost use Rattle.reg_facts.specs.Suiting.{CanEdit};
-ghost use Rattle.reg_facts.specs.declared.command.Command.TheVariants.{FolderAdd, FolderRename, FolderMove, FolderDelete, SubjectAdd, GroupAdd, GroupRename, GroupMove, GroupDelete, MemberAdd, MemberRemove};
+ghost use Rattle.reg_facts.specs.declared.command.Command.TheVariants.{FolderAdd, FolderRename, FolderMove, FolderDelete, SubjectAdd, GroupAdd, GroupRename, GroupMove, GroupDelete, MemberAdd, MemberRemove, CompositeSet, CompositeClear};
 
 use crate::facts::as_folder;
-use crate::{Command, Facts, FolderRow, GroupRow, Object, SubjectRow};
+use crate::{Command, CompositeRow, Facts, FolderRow, GroupRow, Object, SetOp, SubjectRow};
 use reg_base::{Entity, FolderId, GroupId, Moment, Name, SubjectId, Text};
 use std::alloc::{AllocError, Global};
 
@@ -40,6 +40,13 @@ impl Facts {
             Command::GroupDelete { group } => Ok(self.delete_group(group)),
             Command::MemberAdd { group, member } => self.add_member(at, group, member),
             Command::MemberRemove { group, member } => Ok(self.remove_member(group, member)),
+            Command::CompositeSet {
+                group,
+                kind,
+                left,
+                right,
+            } => self.set_composite(group, *kind, left, right),
+            Command::CompositeClear { group } => Ok(self.clear_composite(group)),
         }
     }
 
@@ -238,8 +245,9 @@ impl Facts {
         let (home, extension) = self.home_of_group(group);
         let mut facts = self;
         facts.children.take(home.number(), extension);
-        facts.row_set.remove_group(id);
-        facts.tables.delete_group(id);
+        facts
+            .tables
+            .delete_group(&mut facts.row_set, &mut facts.composite_index, id);
         facts
     }
 
@@ -262,8 +270,41 @@ impl Facts {
         let group = self.group_id(group.as_str()).unwrap();
         let member = self.member_of(member).unwrap();
         let mut facts = self;
-        facts.row_set.remove(group, &member);
-        facts.tables.remove_row(group, &member);
+        facts.tables.remove_row(&mut facts.row_set, group, &member);
+        facts
+    }
+
+    fn set_composite(
+        self,
+        group: &Name,
+        kind: SetOp,
+        left: &Name,
+        right: &Name,
+    ) -> Result<Facts, AllocError>
+        requires { CanEdit (CompositeSet group.now kind left.now right.now) self }
+        ensures { IfOk result (λ f. f ≡ composite_set (the_id (group_id group.now self)) kind (the_id (group_id left.now self)) (the_id (group_id right.now self)) self) }
+    {
+        let row = CompositeRow {
+            group: self.group_id(group.as_str()).unwrap(),
+            op: kind,
+            left: self.group_id(left.as_str()).unwrap(),
+            right: self.group_id(right.as_str()).unwrap(),
+        };
+        let mut facts = self;
+        facts.composite_index.insert(row.group)?;
+        facts.tables.push_composite(row)?;
+        Ok(facts)
+    }
+
+    fn clear_composite(self, group: &Name) -> Facts
+        requires { CanEdit (CompositeClear group.now) self }
+        ensures { result ≡ composite_cleared (the_id (group_id group.now self)) self }
+    {
+        let id = self.group_id(group.as_str()).unwrap();
+        let mut facts = self;
+        facts
+            .tables
+            .remove_composite(&mut facts.composite_index, id);
         facts
     }
 }

@@ -1,16 +1,20 @@
 // The facts.
-ghost use Rattle.std.specs.Prelude.{◌≡◌, ◌<◌, ◌∷◌, [], ◌++◌, IfOk, IsSome, IsTrue, Some, None, ℕ, List, option_map, true, unwrap_or};
+ghost use Rattle.std.specs.Prelude.{◌≡◌, ◌==◌, ◌<◌, ◌∷◌, [], ◌++◌, IfOk, IsSome, IsTrue, Some, None, ℕ, List, option_map, true, unwrap_or};
 ghost use Rattle.reg_base.specs.Names.{extensions_of, is_name};
 ghost use Rattle.reg_base.specs.NameParts.{front_of, last_of, extension_of};
 ghost use Rattle.reg_facts.specs.Lists.{Lists, start, root};
 ghost use Rattle.reg_facts.specs.Naming.{child, step, walk, resolve, folder_id, group_id, home_id, home_of};
-ghost use Rattle.reg_facts.specs.Kinds.{as_folder, as_group};
-ghost use Rattle.reg_facts.specs.Edits.{edit, subject_id, member_of, has_row};
+ghost use Rattle.std.specs.List.{list_any};
+ghost use Rattle.reg_facts.specs.Kinds.{as_folder, as_group, same_member};
+ghost use Rattle.reg_facts.specs.declared.kinds.Member.TheVariants as member;
+ghost use Rattle.reg_facts.specs.declared.rows.MemberRow.{MemberRow};
+ghost use Rattle.reg_facts.specs.Edits.{edit, subject_id, member_of, has_row, is_composite};
 ghost use Rattle.reg_facts.specs.Suiting.{CanEdit};
 ghost use Rattle.reg_facts.specs.Sound.{IsSound};
 ghost use Rattle.reg_facts.specs.declared.kinds.Object.TheVariants.{Folder};
 
 use crate::children::Children;
+use crate::composite_index::CompositeIndex;
 use crate::row_set::RowSet;
 use crate::tables::Tables;
 use crate::text_index::TextIndex;
@@ -31,6 +35,7 @@ pub struct Facts {
     pub(crate) subject_index: TextIndex,
     pub(crate) children: Children,
     pub(crate) row_set: RowSet,
+    pub(crate) composite_index: CompositeIndex,
 }
 
 impl Model for Facts {
@@ -41,7 +46,7 @@ impl Model for Facts {
 
     ghost view = { λ f. f.tables };
 
-    ghost invariant = { λ f. IsIndexed f.subject_index f.children f.row_set f.tables };
+    ghost invariant = { λ f. IsIndexed f.subject_index f.children f.row_set f.composite_index f.tables };
 }
 
 /// A folder's id, if the object is one.
@@ -75,6 +80,7 @@ impl Facts {
             subject_index: TextIndex::new(alloc),
             children: Children::new(alloc),
             row_set: RowSet::new(alloc),
+            composite_index: CompositeIndex::new(alloc),
         })
     }
 
@@ -160,13 +166,14 @@ impl Facts {
         self.subject_index.number(text).map(SubjectId::new)
     }
 
-    /// The person that an entity names, if it names one that stands. It takes no memory.
+    /// The person or group that an entity names, if it names one that stands. It takes no memory.
     pub fn member_of(&self, entity: &Entity) -> Option<Member>
         ensures { result ≡ member_of entity.now self.now }
     {
         match entity {
             Entity::Person(text) => self.subject_id(text.as_str()).map(Member::Person),
-            _ => None,
+            Entity::Group(name) => self.group_id(name.as_str()).map(Member::Group),
+            Entity::System | Entity::Everyone => None,
         }
     }
 
@@ -175,5 +182,26 @@ impl Facts {
         ensures { result ≡ has_row group member.now self.now.rows }
     {
         self.row_set.contains(group, member)
+    }
+
+    /// Whether a group has an immediate membership. It takes no memory.
+    pub fn has_rows(&self, group: GroupId) -> bool
+        ensures { result ≡ list_any (λ (row : MemberRow). row.group == group) self.now.rows }
+    {
+        self.row_set.has_rows(group)
+    }
+
+    /// Whether a group is the member of an immediate membership. It takes no memory.
+    pub fn is_nested(&self, group: GroupId) -> bool
+        ensures { result ≡ list_any (λ (row : MemberRow). same_member row.member (member.Group group)) self.now.rows }
+    {
+        self.row_set.is_nested(group)
+    }
+
+    /// Whether a group is a composite. It takes no memory.
+    pub fn is_composite(&self, group: GroupId) -> bool
+        ensures { result ≡ is_composite group self.now.composites }
+    {
+        self.composite_index.contains(group)
     }
 }

@@ -4,9 +4,11 @@
 mod accessors;
 mod attr_values;
 mod by_extension;
+mod by_id;
 mod children;
 mod climbing;
 mod command;
+mod composite_index;
 mod editing;
 mod facts;
 mod kinds;

@@ -1,11 +1,16 @@
 // The lists of the facts.
 ghost use Rattle.std.specs.Prelude.{◌≡◌, ◌∷◌, ◌++◌, [], IfOk, OnOk, List, ℕ, None, Some, map, filter, not, ◌==◌};
 ghost use Rattle.reg_facts.specs.Lists.{Lists, start};
-ghost use Rattle.reg_facts.specs.Edits.{folder_renamed, folder_moved, group_renamed, group_moved, folder_deleted, group_deleted, is_row};
+ghost use Rattle.reg_facts.specs.Edits.{folder_renamed, folder_moved, group_renamed, group_moved, folder_deleted, group_deleted, is_row, composite_set, composite_cleared};
+ghost use Rattle.reg_facts.specs.Ascending.{FoldersAscend, GroupsAscend};
+ghost use Rattle.reg_facts.specs.RowIndex.{FindsRows};
+ghost use Rattle.reg_facts.specs.CompositeStamps.{FindsComposites};
 ghost use Rattle.reg_facts.specs.declared.rows.FolderRow.{FolderRow};
 ghost use Rattle.reg_facts.specs.declared.rows.GroupRow.{GroupRow};
 ghost use Rattle.reg_facts.specs.declared.rows.MemberRow.{MemberRow};
 
+use crate::composite_index::CompositeIndex;
+use crate::row_set::RowSet;
 use crate::{
     AssignRow, AttributeRow, CompositeRow, ConsumerRow, DefinitionRow, FolderRow, GrantRow,
     GroupRow, InheritRow, JobRow, Made, Member, MemberRow, Object, RuleRow, SubjectRow, list_edits,
@@ -149,6 +154,23 @@ impl Tables {
         Ok(())
     }
 
+    /// Adds a composite.
+    pub fn push_composite(&mut self, row: CompositeRow) -> Result<(), AllocError>
+        ensures { OnOk result (self.new ≡ composite_set row.group row.op row.left row.right self.old) }
+    {
+        self.composite_rows.push(row)?;
+        Ok(())
+    }
+
+    /// Takes a composite's factors away.
+    pub fn remove_composite(&mut self, index: &mut CompositeIndex, group: GroupId)
+        requires { FindsComposites index.old self.old.composites }
+        ensures lists { self.new ≡ composite_cleared group self.old }
+        ensures found { FindsComposites index.new self.new.composites }
+    {
+        index.remove(&mut self.composite_rows, group);
+    }
+
     /// Gives a folder another extension.
     pub fn rename_folder(
         &mut self,
@@ -156,6 +178,7 @@ impl Tables {
         id: FolderId,
         extension: &Text,
     ) -> Result<(), AllocError>
+        requires { FoldersAscend self.old.folders }
         ensures { OnOk result (self.new ≡ record self.old { folders = map (folder_renamed id extension.now) self.old.folders }) }
     {
         list_edits::rename_folder(alloc, self.folder_rows.as_mut_slice(), id, extension)
@@ -163,6 +186,7 @@ impl Tables {
 
     /// Puts a folder into another.
     pub fn move_folder(&mut self, id: FolderId, to: FolderId)
+        requires { FoldersAscend self.old.folders }
         ensures { self.new ≡ record self.old { folders = map (folder_moved id to) self.old.folders } }
     {
         list_edits::move_folder(self.folder_rows.as_mut_slice(), id, to);
@@ -175,6 +199,7 @@ impl Tables {
         id: GroupId,
         extension: &Text,
     ) -> Result<(), AllocError>
+        requires { GroupsAscend self.old.groups }
         ensures { OnOk result (self.new ≡ record self.old { groups = map (group_renamed id extension.now) self.old.groups }) }
     {
         list_edits::rename_group(alloc, self.group_rows.as_mut_slice(), id, extension)
@@ -182,6 +207,7 @@ impl Tables {
 
     /// Puts a group into another folder.
     pub fn move_group(&mut self, id: GroupId, to: FolderId)
+        requires { GroupsAscend self.old.groups }
         ensures { self.new ≡ record self.old { groups = map (group_moved id to) self.old.groups } }
     {
         list_edits::move_group(self.group_rows.as_mut_slice(), id, to);
@@ -189,6 +215,7 @@ impl Tables {
 
     /// Takes away a folder, and the grants, inherits and assignments on it.
     pub fn delete_folder(&mut self, id: FolderId)
+        requires { FoldersAscend self.old.folders }
         ensures { self.new ≡ folder_deleted id self.old }
     {
         let object = Object::Folder(id);
@@ -199,21 +226,28 @@ impl Tables {
     }
 
     /// Takes away a group, its rows and factors, and the grants and assignments on it.
-    pub fn delete_group(&mut self, id: GroupId)
-        ensures { self.new ≡ group_deleted id self.old }
+    pub fn delete_group(&mut self, row_set: &mut RowSet, index: &mut CompositeIndex, id: GroupId)
+        requires ascend { GroupsAscend self.old.groups }
+        requires rows { FindsRows row_set.old self.old.rows }
+        requires composites { FindsComposites index.old self.old.composites }
+        ensures lists { self.new ≡ group_deleted id self.old }
+        ensures rows { FindsRows row_set.new self.new.rows }
+        ensures composites { FindsComposites index.new self.new.composites }
     {
         let object = Object::Group(id);
         list_edits::drop_group(&mut self.group_rows, id);
-        list_edits::drop_rows(&mut self.member_rows, id);
-        list_edits::drop_composite(&mut self.composite_rows, id);
+        row_set.remove_group(&mut self.member_rows, id);
+        index.remove(&mut self.composite_rows, id);
         list_edits::drop_grants(&mut self.grant_rows, &object);
         list_edits::drop_assigns(&mut self.assign_rows, &object);
     }
 
     /// Takes an immediate membership away.
-    pub fn remove_row(&mut self, group: GroupId, member: &Member)
-        ensures { self.new ≡ record self.old { rows = filter (λ (row : MemberRow). not (is_row group member.now row)) self.old.rows } }
+    pub fn remove_row(&mut self, row_set: &mut RowSet, group: GroupId, member: &Member)
+        requires { FindsRows row_set.old self.old.rows }
+        ensures lists { self.new ≡ record self.old { rows = filter (λ (row : MemberRow). not (is_row group member.now row)) self.old.rows } }
+        ensures found { FindsRows row_set.new self.new.rows }
     {
-        list_edits::drop_row(&mut self.member_rows, group, member);
+        row_set.remove(&mut self.member_rows, group, member);
     }
 }

@@ -16,9 +16,10 @@ use Rattle.std.specs.declared.ops.Bound.TheVariants.{Included}
 use Rattle.std.proofs.lemmas.List.Sorted.{IsPermutation-refl, IsPermutation-sym, IsPermutation-trans, IsPermutation-cons, IsPermutation-middle, IsPermutation-map}
 use Rattle.std.proofs.lemmas.List.Elements.{recursion_from_All, All-weaker}
 use Rattle.std.proofs.lemmas.Map.Views.{All-insert_key, All-remove_key}
+use Rattle.std.specs.Prelude.{not, is_some}
 use Rattle.std.specs.Option.{option_copied}
 use Rattle.std.specs.Map.Iter.{TakesFirst, deref}
-use Rattle.reg_graph.specs.Edges.{has_edge, among}
+use Rattle.reg_graph.specs.Edges.{has_edge, is_needed, among}
 use Rattle.reg_graph.specs.Levels.{edge_of, IsNumbered}
 
 abbrev pub key_cmp : ℕ × ℕ × ℕ → ℕ × ℕ × ℕ → Ordering
@@ -98,6 +99,26 @@ among_group g z (k ∷ ks) = elim (k.0 == g) as (λ b. among z (map (λ (k : ℕ
 pub above_is : (g : ℕ) (items : List ℕ) (xs keys : List (ℕ × ℕ × ℕ)) (view : List (ℕ × ℕ)) (next : ℕ) → items ≡ map (λ (k : ℕ × ℕ × ℕ). k.1) xs
     → xs ≡ filter (range_contains key_cmp (Included (g, 0, 0)) (Included (g, 4294967295, 18446744073709551615))) keys → IsNumbered keys next → map edge_of keys ≡ view → (z : ℕ) → among z items ≡ has_edge view z g
 above_is g items xs keys view next a b i e z = rw (a, b, ← e, group_range g keys next i.small (recursion_from_All (λ (k : ℕ × ℕ × ℕ). (k.1 < 2 ^ 32) × (k.2 < next)) keys i.each)) (among_group g z keys)
+
+abbrev is_none_left : List (ℕ × ℕ × ℕ) → Bool
+is_none_left [] = true
+is_none_left (k ∷ ks) = false
+
+-- some key is a group's exactly where an edge goes to it
+needed_group : (g : ℕ) (keys : List (ℕ × ℕ × ℕ)) → is_needed (map edge_of keys) g ≡ not (is_none_left (filter (λ (k : ℕ × ℕ × ℕ). k.0 == g) keys))
+needed_group g [] = refl
+needed_group g (k ∷ ks) = elim (k.0 == g) as (λ b. (b || is_needed (map edge_of ks) g) ≡ not (is_none_left (cond b (k ∷ filter (λ (k : ℕ × ℕ × ℕ). k.0 == g) ks) (filter (λ (k : ℕ × ℕ × ℕ). k.0 == g) ks)))) [
+  | true ↦ refl
+  | false ↦ needed_group g ks
+]
+
+first_of_range : (r : Option (Bor (ℕ × ℕ × ℕ))) (s t : List (ℕ × ℕ × ℕ)) → TakesFirst deref s r t → is_some r ≡ not (is_none_left s)
+first_of_range None s t h = rw h.0 refl
+first_of_range (Some x) s t h = rw h refl
+
+pub needed_is : (g next : ℕ) (r : Option (Bor (ℕ × ℕ × ℕ))) (s t keys : List (ℕ × ℕ × ℕ)) (view : List (ℕ × ℕ)) → TakesFirst deref s r t
+    → s ≡ filter (range_contains key_cmp (Included (g, 0, 0)) (Included (g, 4294967295, 18446744073709551615))) keys → IsNumbered keys next → map edge_of keys ≡ view → is_some r ≡ is_needed view g
+needed_is g next r s t keys view h e i v = first_of_range r s t h ∙ (rw (e, ← v, group_range g keys next i.small (recursion_from_All (λ (k : ℕ × ℕ × ℕ). (k.1 < 2 ^ 32) × (k.2 < next)) keys i.each)) (sym (needed_group g keys)))
 
 -- ---- one more edge
 pub numbered_more : (to from next more : ℕ) (old new : List (ℕ × ℕ × ℕ)) → IsNumbered old next → new ≡ insert_key key_cmp old (to, from, next) → from < 2 ^ 32 → more ≡ next + 1 → more < 2 ^ 64 → IsNumbered new more

@@ -8,6 +8,10 @@ use Rattle.reg_graph.specs.declared.dag.EdgeFault.TheVariants.{Circular, NoMemor
 abbrev pub has_edge : List (ℕ × ℕ) → ℕ → ℕ → Bool
 has_edge es a b = list_any (λ (e : ℕ × ℕ). (e.0 == a) && (e.1 == b)) es
 
+-- whether an edge goes to the group
+abbrev pub is_needed : List (ℕ × ℕ) → ℕ → Bool
+is_needed es b = list_any (λ (e : ℕ × ℕ). e.1 == b) es
+
 -- whether a is b or depends on it: along the later edges alone, or by way of the first edge
 unfoldable pub reaches : List (ℕ × ℕ) → ℕ → ℕ → Bool
 reaches [] a b = a == b

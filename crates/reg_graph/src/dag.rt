@@ -2,7 +2,7 @@
 ghost use Rattle.std.specs.Prelude.{◌≡◌, ◌↔◌, [], ◌∷◌, ℕ, ◌==◌, ◌&&◌, ◌||◌, IfOk, IfErr, OnOk, OnErr, IsTrue, true, false};
 ghost use Rattle.std.specs.List.Sorted.{IsPermutation};
 ghost use Rattle.reg_graph.specs.Sets.{holds};
-ghost use Rattle.reg_graph.specs.Edges.{has_edge, reaches, HasPath, IsAcyclic, IsAbove, IsRefused};
+ghost use Rattle.reg_graph.specs.Edges.{has_edge, is_needed, reaches, HasPath, IsAcyclic, IsAbove, IsRefused};
 ghost use Rattle.reg_graph.specs.Levels.{level_of, IsLevelled};
 
 use crate::edges::Edges;
@@ -156,6 +156,13 @@ impl Dag {
         }
         let above = climb(self.alloc, &self.edges, &self.levels, to.number())?;
         Ok(above.contains(&from))
+    }
+
+    /// Whether a group depends on this one by an edge. Takes no memory.
+    pub fn is_needed(&self, node: GroupId) -> bool
+        ensures { result ≡ is_needed self.now node }
+    {
+        self.edges.has_above(node.number())
     }
 
     /// The group and all that depend on it, each once, and each before those that depend on it.

@@ -1,7 +1,7 @@
 // Edges by the group to which they go.
 ghost use Rattle.std.specs.Prelude.{◌≡◌, [], ◌∷◌, ℕ, IfOk, OnOk, OnErr, true};
 ghost use Rattle.std.specs.List.Sorted.{IsPermutation};
-ghost use Rattle.reg_graph.specs.Edges.{has_edge, among};
+ghost use Rattle.reg_graph.specs.Edges.{has_edge, is_needed, among};
 
 use std::alloc::{AllocError, Global};
 use std::collections::BTreeSet;
@@ -64,6 +64,16 @@ impl Edges {
         if let Some(key) = first {
             self.keys.remove(&key);
         }
+    }
+
+    /// Whether an edge goes to this group. Takes no memory.
+    pub(crate) fn has_above(&self, group: u32) -> bool
+        ensures { result ≡ is_needed self.now group }
+    {
+        self.keys
+            .range((group, 0, 0)..=(group, u32::MAX, u64::MAX))
+            .next()
+            .is_some()
     }
 
     /// The groups from which an edge goes to this one.

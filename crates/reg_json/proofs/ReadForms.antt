@@ -8,14 +8,15 @@ use Rattle.reg_base.specs.Names.{is_extension, is_name, is_person, name_of}
 use Rattle.reg_base.specs.Entities.{entity_of}
 use Rattle.reg_base.specs.declared.entity.Entity.TheVariants.{Person, Group}
 use Rattle.reg_facts.specs.Suiting.{is_display, is_entity, is_folder_text}
+use Rattle.reg_facts.specs.declared.kinds.SetOp.{SetOp}
 use Rattle.reg_facts.specs.declared.refusal.Refusal.{Refusal}
 use Rattle.reg_facts.specs.declared.refusal.Refusal.TheVariants.{BadName, BadRequest}
 use Rattle.reg_view.specs.declared.request.Request.{Request}
 use Rattle.reg_json.specs.declared.op_kind.OpKind.{OpKind}
 use Rattle.reg_json.specs.declared.op_kind.OpKind.TheVariants as kind
 use Rattle.reg_json.specs.Steps.{◌>>=◌, ensured}
-use Rattle.reg_json.specs.Fields.{text_at, text_or_empty, no_other, display_at, member_at, name_from, folder_from, extension_from, entity_from}
-use Rattle.reg_json.specs.Ops.{folder_add, folder_rename, folder_move, folder_delete, subject_add, group_add, group_rename, group_move, group_delete, member_add, member_remove, group_get, folder_list, members}
+use Rattle.reg_json.specs.Fields.{text_at, text_or_empty, no_other, display_at, kind_at, name_from, folder_from, extension_from, entity_from}
+use Rattle.reg_json.specs.Ops.{folder_add, folder_rename, folder_move, folder_delete, subject_add, group_add, group_rename, group_move, group_delete, member_add, member_remove, composite_set, composite_clear, group_get, folder_list, members}
 use Rattle.reg_json.specs.Reading.{data_of, kind_of, known_kind, op_of, reading_of}
 use Rattle.reg_json.specs.Forms.{IsFormed, ReadForm}
 
@@ -37,8 +38,8 @@ pass (Err e) g = record { kept = tt }
 pass_text : {B : Type 0} {Q : B → Type 0} {f : List ℕ → Result B Refusal} (key : List ℕ) (d : Data) → ((x : List ℕ) → Keeps Q (f x)) → Keeps Q (text_at key d >>= f)
 pass_text key d g = pass (text_at key d) g
 
-pass_member : {B : Type 0} {Q : B → Type 0} {f : List ℕ → Result B Refusal} (d : Data) → ((x : List ℕ) → Keeps Q (f x)) → Keeps Q (member_at d >>= f)
-pass_member d g = pass (member_at d) g
+pass_kind : {B : Type 0} {Q : B → Type 0} {f : SetOp → Result B Refusal} (d : Data) → ((x : SetOp) → Keeps Q (f x)) → Keeps Q (kind_at d >>= f)
+pass_kind d g = pass (kind_at d) g
 
 pass_known : {B : Type 0} {Q : B → Type 0} {f : Bool → Result B Refusal} (known : List (List ℕ)) (members : Option Members) → ((x : Bool) → Keeps Q (f x)) → Keeps Q (no_other known members >>= f)
 pass_known known members g = pass (no_other known members) g
@@ -173,7 +174,7 @@ member_add_form : (d : Data) → Keeps ReadForm (member_add d)
 unfolding member_add
 member_add_form d =
     pass_text _ _ (λ group_text.
-    pass_member _ (λ member_text.
+    pass_text _ _ (λ member_text.
     pass_known _ _ (λ known.
     step (name_form (codes "group") group_text) (λ group group_good.
     step (entity_form (codes "member") member_text) (λ member member_good. last (both _ _ group_good member_good))))))
@@ -182,10 +183,29 @@ member_remove_form : (d : Data) → Keeps ReadForm (member_remove d)
 unfolding member_remove
 member_remove_form d =
     pass_text _ _ (λ group_text.
-    pass_member _ (λ member_text.
+    pass_text _ _ (λ member_text.
     pass_known _ _ (λ known.
     step (name_form (codes "group") group_text) (λ group group_good.
     step (entity_form (codes "member") member_text) (λ member member_good. last (both _ _ group_good member_good))))))
+
+composite_set_form : (d : Data) → Keeps ReadForm (composite_set d)
+unfolding composite_set
+composite_set_form d =
+    pass_text _ _ (λ group_text.
+    pass_kind _ (λ made.
+    pass_text _ _ (λ left_text.
+    pass_text _ _ (λ right_text.
+    pass_known _ _ (λ known.
+    step (name_form (codes "group") group_text) (λ group group_good.
+    step (name_form (codes "left") left_text) (λ left left_good.
+    step (name_form (codes "right") right_text) (λ right right_good. last (both _ _ (both _ _ group_good left_good) right_good)))))))))
+
+composite_clear_form : (d : Data) → Keeps ReadForm (composite_clear d)
+unfolding composite_clear
+composite_clear_form d =
+    pass_text _ _ (λ group_text.
+    pass_known _ _ (λ known.
+    step (name_form (codes "group") group_text) (λ group group_good. last (group_good))))
 
 group_get_form : (d : Data) → Keeps ReadForm (group_get d)
 unfolding group_get
@@ -220,6 +240,8 @@ op_form kind.GroupMove d = group_move_form d
 op_form kind.GroupDelete d = group_delete_form d
 op_form kind.MemberAdd d = member_add_form d
 op_form kind.MemberRemove d = member_remove_form d
+op_form kind.CompositeSet d = composite_set_form d
+op_form kind.CompositeClear d = composite_clear_form d
 op_form kind.GroupGet d = group_get_form d
 op_form kind.FolderList d = folder_list_form d
 op_form kind.Members d = members_form d

@@ -1,13 +1,15 @@
 -- The fields of a request: first that they are texts that may stand there, and later that the texts have their forms.
-use Rattle.std.specs.Prelude.{ℕ, List, [], ◌∷◌, ◌&&◌, Bool, true, not, Option, Some, None, Result, Ok, Err, drop, nat_eq, codes, option_and_then, if◌then◌else◌, ok_or}
-use Rattle.std.specs.List.{list_any, starts_with}
+use Rattle.std.specs.Prelude.{ℕ, List, [], ◌∷◌, Bool, true, Option, Some, None, Result, Ok, Err, codes, option_and_then, if◌then◌else◌, ok_or}
+use Rattle.std.specs.List.{list_any}
 use Rattle.std.specs.Str.{bytes_eq}
 use Rattle.serde_json.specs.Data.{Data, Members, no_members, member}
 use Rattle.serde_json.specs.Find.{get, as_str}
-use Rattle.reg_base.specs.Names.{is_extension, is_name, name_of}
+use Rattle.reg_base.specs.Names.{is_extension, name_of}
 use Rattle.reg_base.specs.Entities.{entity_of}
 use Rattle.reg_base.specs.declared.entity.Entity.{Entity}
 use Rattle.reg_facts.specs.Suiting.{is_display, is_folder_text}
+use Rattle.reg_facts.specs.declared.kinds.SetOp.{SetOp}
+use Rattle.reg_facts.specs.declared.kinds.SetOp.TheVariants.{Intersection, Complement}
 use Rattle.reg_facts.specs.declared.refusal.Refusal.{Refusal}
 use Rattle.reg_facts.specs.declared.refusal.Refusal.TheVariants.{BadRequest, BadName}
 use Rattle.reg_json.specs.Steps.{◌>>=◌, ensured}
@@ -43,16 +45,17 @@ display_at d = do
   short ← ensured (is_display display) (codes "display")
   Ok display
 
--- the text of a group as an entity
-abbrev pub is_group_text : List ℕ → Bool
-is_group_text text = starts_with nat_eq text (codes "g:gsa/") && is_name (drop 6 text)
+-- the kind of composite that a word names
+abbrev pub composite_kind : List ℕ → Option SetOp
+composite_kind word =
+    if bytes_eq word (codes "intersection") then Some Intersection else
+    (if bytes_eq word (codes "complement") then Some Complement else None)
 
--- the text of a member, which isn't a group's yet
-unfoldable pub member_at : Data → Result (List ℕ) Refusal
-member_at d = do
-  text ← text_at (codes "member") d
-  single ← ensured (not (is_group_text text)) (codes "member")
-  Ok text
+-- the kind of a composite
+unfoldable pub kind_at : Data → Result SetOp Refusal
+kind_at d = do
+  word ← text_at (codes "kind") d
+  ok_or (composite_kind word) (BadRequest (codes "kind"))
 
 -- the name that a field's text is
 unfoldable pub name_from : List ℕ → List ℕ → Result (List ℕ) Refusal

@@ -5,10 +5,10 @@ use Rattle.serde_json.specs.Find.{as_object}
 use Rattle.reg_view.specs.declared.request.Op.{Op}
 use Rattle.reg_view.specs.declared.request.Op.TheVariants as op
 use Rattle.reg_view.specs.declared.query.Query.TheVariants as query
-use Rattle.reg_facts.specs.declared.command.Command.TheVariants.{FolderAdd, FolderRename, FolderMove, FolderDelete, SubjectAdd, GroupAdd, GroupRename, GroupMove, GroupDelete, MemberAdd, MemberRemove}
+use Rattle.reg_facts.specs.declared.command.Command.TheVariants.{FolderAdd, FolderRename, FolderMove, FolderDelete, SubjectAdd, GroupAdd, GroupRename, GroupMove, GroupDelete, MemberAdd, MemberRemove, CompositeSet, CompositeClear}
 use Rattle.reg_facts.specs.declared.refusal.Refusal.{Refusal}
 use Rattle.reg_json.specs.Steps.{◌>>=◌}
-use Rattle.reg_json.specs.Fields.{no_other, text_at, display_at, member_at, name_from, folder_from, extension_from, entity_from}
+use Rattle.reg_json.specs.Fields.{no_other, text_at, display_at, kind_at, name_from, folder_from, extension_from, entity_from}
 
 -- what an object asks whose op is folder.add
 unfoldable pub folder_add : Data → Result Op Refusal
@@ -97,7 +97,7 @@ group_delete d = do
 unfoldable pub member_add : Data → Result Op Refusal
 member_add d = do
   group_text ← text_at (codes "group") d
-  member_text ← member_at d
+  member_text ← text_at (codes "member") d
   known ← no_other (codes "by" ∷ codes "group" ∷ codes "member" ∷ codes "op" ∷ []) (as_object d)
   group ← name_from (codes "group") group_text
   member ← entity_from (codes "member") member_text
@@ -107,11 +107,32 @@ member_add d = do
 unfoldable pub member_remove : Data → Result Op Refusal
 member_remove d = do
   group_text ← text_at (codes "group") d
-  member_text ← member_at d
+  member_text ← text_at (codes "member") d
   known ← no_other (codes "by" ∷ codes "group" ∷ codes "member" ∷ codes "op" ∷ []) (as_object d)
   group ← name_from (codes "group") group_text
   member ← entity_from (codes "member") member_text
   Ok (op.Command (MemberRemove group member))
+
+-- what an object asks whose op is composite.set
+unfoldable pub composite_set : Data → Result Op Refusal
+composite_set d = do
+  group_text ← text_at (codes "group") d
+  kind ← kind_at d
+  left_text ← text_at (codes "left") d
+  right_text ← text_at (codes "right") d
+  known ← no_other (codes "by" ∷ codes "group" ∷ codes "kind" ∷ codes "left" ∷ codes "op" ∷ codes "right" ∷ []) (as_object d)
+  group ← name_from (codes "group") group_text
+  left ← name_from (codes "left") left_text
+  right ← name_from (codes "right") right_text
+  Ok (op.Command (CompositeSet group kind left right))
+
+-- what an object asks whose op is composite.clear
+unfoldable pub composite_clear : Data → Result Op Refusal
+composite_clear d = do
+  group_text ← text_at (codes "group") d
+  known ← no_other (codes "by" ∷ codes "group" ∷ codes "op" ∷ []) (as_object d)
+  group ← name_from (codes "group") group_text
+  Ok (op.Command (CompositeClear group))
 
 -- what an object asks whose op is group.get
 unfoldable pub group_get : Data → Result Op Refusal

@@ -2,10 +2,10 @@
 ghost use Rattle.std.specs.Prelude.{◌≡◌};
 ghost use Rattle.serde_json.specs.View.{view};
 ghost use Rattle.reg_json.specs.Steps.{Gives};
-ghost use Rattle.reg_json.specs.Ops.{folder_add, folder_rename, folder_move, folder_delete, subject_add, group_add, group_rename, group_move, group_delete, member_add, member_remove};
+ghost use Rattle.reg_json.specs.Ops.{folder_add, folder_rename, folder_move, folder_delete, subject_add, group_add, group_rename, group_move, group_delete, member_add, member_remove, composite_set, composite_clear};
 
 use crate::fault::ReadFault;
-use crate::fields::{display_at, member_at, no_other, text_at};
+use crate::fields::{display_at, kind_at, no_other, text_at};
 use crate::forms::{entity_from, extension_from, folder_from, name_from};
 use reg_base::Text;
 use reg_facts::Command;
@@ -132,7 +132,7 @@ pub fn member_add(alloc: Global, value: &Value) -> Result<Op, ReadFault>
     ensures { Gives (λ o. o) result (member_add (view value.now)) }
 {
     let group = text_at(alloc, value, "group")?;
-    let member = member_at(alloc, value)?;
+    let member = text_at(alloc, value, "member")?;
     no_other(alloc, value, &["by", "group", "member", "op"])?;
     let group = name_from(alloc, "group", group)?;
     let member = entity_from(alloc, "member", member)?;
@@ -145,9 +145,45 @@ pub fn member_remove(alloc: Global, value: &Value) -> Result<Op, ReadFault>
     ensures { Gives (λ o. o) result (member_remove (view value.now)) }
 {
     let group = text_at(alloc, value, "group")?;
-    let member = member_at(alloc, value)?;
+    let member = text_at(alloc, value, "member")?;
     no_other(alloc, value, &["by", "group", "member", "op"])?;
     let group = name_from(alloc, "group", group)?;
     let member = entity_from(alloc, "member", member)?;
     Ok(Op::Command(Command::MemberRemove { group, member }))
+}
+
+/// What an object asks whose op is `composite.set`.
+#[tactic(auto, unfolding(crate::specs::Ops::composite_set))]
+pub fn composite_set(alloc: Global, value: &Value) -> Result<Op, ReadFault>
+    ensures { Gives (λ o. o) result (composite_set (view value.now)) }
+{
+    let group = text_at(alloc, value, "group")?;
+    let kind = kind_at(alloc, value)?;
+    let left = text_at(alloc, value, "left")?;
+    let right = text_at(alloc, value, "right")?;
+    no_other(
+        alloc,
+        value,
+        &["by", "group", "kind", "left", "op", "right"],
+    )?;
+    let group = name_from(alloc, "group", group)?;
+    let left = name_from(alloc, "left", left)?;
+    let right = name_from(alloc, "right", right)?;
+    Ok(Op::Command(Command::CompositeSet {
+        group,
+        kind,
+        left,
+        right,
+    }))
+}
+
+/// What an object asks whose op is `composite.clear`.
+#[tactic(auto, unfolding(crate::specs::Ops::composite_clear))]
+pub fn composite_clear(alloc: Global, value: &Value) -> Result<Op, ReadFault>
+    ensures { Gives (λ o. o) result (composite_clear (view value.now)) }
+{
+    let group = text_at(alloc, value, "group")?;
+    no_other(alloc, value, &["by", "group", "op"])?;
+    let group = name_from(alloc, "group", group)?;
+    Ok(Op::Command(Command::CompositeClear { group }))
 }

@@ -14,6 +14,8 @@ pub enum OpKind {
     GroupDelete,
     MemberAdd,
     MemberRemove,
+    CompositeSet,
+    CompositeClear,
     GroupGet,
     FolderList,
     Members,

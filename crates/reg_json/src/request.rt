@@ -6,8 +6,8 @@ ghost use Rattle.reg_json.specs.Forms.{IsFormed};
 ghost use Rattle.reg_json.specs.Reading.{data_of, known_kind, kind_of, op_of, reading_of};
 
 use crate::commands::{
-    folder_add, folder_delete, folder_move, folder_rename, group_add, group_delete, group_move,
-    group_rename, member_add, member_remove, subject_add,
+    composite_clear, composite_set, folder_add, folder_delete, folder_move, folder_rename,
+    group_add, group_delete, group_move, group_rename, member_add, member_remove, subject_add,
 };
 use crate::fault::{ReadFault, bad};
 use crate::fields::{ensured, text_at};
@@ -74,6 +74,8 @@ fn op_of(alloc: Global, kind: OpKind, value: &Value) -> Result<Op, ReadFault>
         OpKind::GroupDelete => group_delete(alloc, value),
         OpKind::MemberAdd => member_add(alloc, value),
         OpKind::MemberRemove => member_remove(alloc, value),
+        OpKind::CompositeSet => composite_set(alloc, value),
+        OpKind::CompositeClear => composite_clear(alloc, value),
         OpKind::GroupGet => group_get(alloc, value),
         OpKind::FolderList => folder_list(alloc, value),
         OpKind::Members => members(alloc, value),

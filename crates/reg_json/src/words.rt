@@ -1,8 +1,10 @@
-// The words of the ops.
+// The words of the ops and of the kinds of composites.
 ghost use Rattle.std.specs.Prelude.{◌≡◌};
+ghost use Rattle.reg_json.specs.Fields.{composite_kind};
 ghost use Rattle.reg_json.specs.Reading.{kind_of};
 
 use crate::op_kind::OpKind;
+use reg_facts::SetOp;
 
 /// The kind of op that a word names.
 pub fn kind_of(word: &str) -> Option<OpKind>
@@ -20,9 +22,22 @@ pub fn kind_of(word: &str) -> Option<OpKind>
         "group.delete" => Some(OpKind::GroupDelete),
         "member.add" => Some(OpKind::MemberAdd),
         "member.remove" => Some(OpKind::MemberRemove),
+        "composite.set" => Some(OpKind::CompositeSet),
+        "composite.clear" => Some(OpKind::CompositeClear),
         "group.get" => Some(OpKind::GroupGet),
         "folder.list" => Some(OpKind::FolderList),
         "members" => Some(OpKind::Members),
+        _ => None,
+    }
+}
+
+/// The kind of composite that a word names.
+pub fn composite_kind(word: &str) -> Option<SetOp>
+    ensures { result ≡ composite_kind word.now }
+{
+    match word {
+        "intersection" => Some(SetOp::Intersection),
+        "complement" => Some(SetOp::Complement),
         _ => None,
     }
 }

@@ -5,14 +5,16 @@ use Rattle.reg_base.specs.declared.entity.Entity.{Entity}
 use Rattle.reg_base.specs.declared.entity.Entity.TheVariants as entity
 use Rattle.reg_facts.specs.declared.command.Stamped.{Stamped}
 use Rattle.reg_facts.specs.declared.command.Command.{Command}
-use Rattle.reg_facts.specs.declared.command.Command.TheVariants.{FolderAdd, FolderRename, FolderMove, FolderDelete, SubjectAdd, GroupAdd, GroupRename, GroupMove, GroupDelete, MemberAdd, MemberRemove}
+use Rattle.reg_facts.specs.declared.command.Command.TheVariants.{FolderAdd, FolderRename, FolderMove, FolderDelete, SubjectAdd, GroupAdd, GroupRename, GroupMove, GroupDelete, MemberAdd, MemberRemove, CompositeSet, CompositeClear}
 use Rattle.reg_facts.specs.declared.refusal.Refusal.{Refusal}
-use Rattle.reg_facts.specs.declared.refusal.Refusal.TheVariants.{NotFound, WrongKind, Taken, Already, NoSuch, Circular, NotEmpty, Full}
-use Rattle.reg_facts.specs.Edits.{subject_id, member_of, has_member, the_id, person_text}
+use Rattle.reg_facts.specs.declared.refusal.Refusal.TheVariants.{NotFound, WrongKind, Taken, Already, NoSuch, IsComposite, HasMembers, Circular, InUse, NotEmpty, Full}
+use Rattle.reg_facts.specs.Edits.{subject_id, member_of, has_member, has_rows, is_nested, is_composite, is_factor, the_id, person_text}
 use Rattle.reg_facts.specs.Limits.{max_folders, max_groups, max_subjects, max_rows, max_name}
 use Rattle.reg_facts.specs.Lists.{Lists, root}
 use Rattle.reg_facts.specs.Naming.{child, folder_id, group_id, home_of, home_id, lies_in, most_levels, name_in}
 use Rattle.reg_facts.specs.Suiting.{below_named, holds_some}
+use Rattle.reg_graph.specs.Edges.{reaches}
+use Rattle.reg_effect.specs.Standing.{standing}
 
 -- a test, and the refusal where it holds
 abbrev pub Check : Type 0
@@ -53,16 +55,41 @@ is_no_person (entity.Group name) = true
 is_no_person entity.System = true
 is_no_person entity.Everyone = true
 
--- the person that an entity names doesn't stand
+-- an entity of the registry itself: neither a person nor a group
+abbrev pub is_internal : Entity → Bool
+is_internal (entity.Person text) = false
+is_internal (entity.Group name) = false
+is_internal entity.System = true
+is_internal entity.Everyone = true
+
+-- the text of a person, and the name of a group
+abbrev pub named_text : Entity → List ℕ
+named_text (entity.Person text) = text
+named_text (entity.Group name) = name
+named_text entity.System = []
+named_text entity.Everyone = []
+
+-- the person or the group that an entity names doesn't stand
 abbrev pub is_unknown : Entity → Lists → Bool
 is_unknown (entity.Person text) f = not (is_some (subject_id text f.subjects))
-is_unknown (entity.Group name) f = false
+is_unknown (entity.Group name) f = not (is_some (group_id name f))
 is_unknown entity.System f = false
 is_unknown entity.Everyone f = false
 
 -- whether the entity is an immediate member of the group
 abbrev pub is_member : List ℕ → Entity → Lists → Bool
 is_member group member f = has_member (the_id (group_id group f)) (member_of member f) f.rows
+
+-- a row of the group that names the other, or a factor, would lead back: the other is the group or depends on it
+abbrev pub leads_back : ℕ → ℕ → Lists → Bool
+leads_back g other f = reaches (standing f.rows f.composites) other g
+
+-- a row of the group for this member would lead back
+abbrev pub is_circular : ℕ → Entity → Lists → Bool
+is_circular g (entity.Person text) f = false
+is_circular g (entity.Group name) f = leads_back g (the_id (group_id name f)) f
+is_circular g entity.System f = false
+is_circular g entity.Everyone f = false
 
 -- what may refuse to add a folder, in order
 abbrev pub folder_add_checks : List Stamped → Lists → List ℕ → List Check
@@ -145,6 +172,8 @@ group_move_checks history f group to =
 abbrev pub group_delete_checks : List Stamped → Lists → List ℕ → List Check
 group_delete_checks history f group =
     missing (group_id group f) group
+    ∷ (is_nested (the_id (group_id group f)) f.rows, InUse (codes "member"))
+    ∷ (is_factor (the_id (group_id group f)) f.composites, InUse (codes "factor"))
     ∷ ended history
     ∷ []
 
@@ -152,9 +181,11 @@ group_delete_checks history f group =
 abbrev pub member_add_checks : List Stamped → Lists → List ℕ → Entity → List Check
 member_add_checks history f group member =
     missing (group_id group f) group
-    ∷ (is_unknown member f, NotFound (person_text member))
-    ∷ (is_no_person member, WrongKind (codes "member"))
+    ∷ (is_unknown member f, NotFound (named_text member))
+    ∷ (is_internal member, WrongKind (codes "member"))
     ∷ (is_member group member f, Already)
+    ∷ (is_composite (the_id (group_id group f)) f.composites, IsComposite group)
+    ∷ (is_circular (the_id (group_id group f)) member f, Circular (named_text member))
     ∷ limited max_rows (length f.rows) (codes "row")
     ∷ ended history
     ∷ []
@@ -163,9 +194,30 @@ member_add_checks history f group member =
 abbrev pub member_remove_checks : List Stamped → Lists → List ℕ → Entity → List Check
 member_remove_checks history f group member =
     missing (group_id group f) group
-    ∷ (is_unknown member f, NotFound (person_text member))
-    ∷ (is_no_person member, WrongKind (codes "member"))
+    ∷ (is_unknown member f, NotFound (named_text member))
+    ∷ (is_internal member, WrongKind (codes "member"))
     ∷ (not (is_member group member f), NoSuch)
+    ∷ ended history
+    ∷ []
+
+-- what may refuse to make a group a composite, in order
+abbrev pub composite_set_checks : List Stamped → Lists → List ℕ → List ℕ → List ℕ → List Check
+composite_set_checks history f group left right =
+    missing (group_id group f) group
+    ∷ missing (group_id left f) left
+    ∷ missing (group_id right f) right
+    ∷ (is_composite (the_id (group_id group f)) f.composites, IsComposite group)
+    ∷ (has_rows (the_id (group_id group f)) f.rows, HasMembers)
+    ∷ (leads_back (the_id (group_id group f)) (the_id (group_id left f)) f, Circular left)
+    ∷ (leads_back (the_id (group_id group f)) (the_id (group_id right f)) f, Circular right)
+    ∷ ended history
+    ∷ []
+
+-- what may refuse to take a composite's factors away, in order
+abbrev pub composite_clear_checks : List Stamped → Lists → List ℕ → List Check
+composite_clear_checks history f group =
+    missing (group_id group f) group
+    ∷ (not (is_composite (the_id (group_id group f)) f.composites), NoSuch)
     ∷ ended history
     ∷ []
 
@@ -182,3 +234,5 @@ checks history f (GroupMove group to) = group_move_checks history f group to
 checks history f (GroupDelete group) = group_delete_checks history f group
 checks history f (MemberAdd group member) = member_add_checks history f group member
 checks history f (MemberRemove group member) = member_remove_checks history f group member
+checks history f (CompositeSet group kind left right) = composite_set_checks history f group left right
+checks history f (CompositeClear group) = composite_clear_checks history f group

@@ -4,15 +4,16 @@ ghost use Rattle.reg_machine.specs.Checks.{folder_add_checks, folder_rename_chec
 ghost use Rattle.reg_machine.specs.History.{facts, first_of};
 
 use crate::Machine;
-use crate::refusing::{full, not_found, taken, taken_in, wrong_kind};
+use crate::refusing::{full, leading_back, not_found, taken, taken_in, wrong_kind};
 use reg_base::{Name, Text};
+use reg_effect::Kept;
 use reg_facts::{Refusal, extension_of, home_of};
 use std::alloc::{AllocError, Global};
 
 /// How many folders but the root may ever be made.
 const MAX_FOLDERS: u32 = 10_000;
 
-impl Machine {
+impl<K: Kept> Machine<K> {
     pub(crate) fn decide_folder_add(
         &self,
         alloc: Global,
@@ -79,8 +80,7 @@ impl Machine {
             return taken_in(alloc, to.as_str(), extension);
         }
         if self.facts().lies_in(target, id) {
-            let object = to.copy(alloc)?;
-            return Ok(Some(Refusal::Circular { object }));
+            return leading_back(alloc, to.as_str());
         }
         let below = self.facts().longest_below(id);
         self.decide_name(alloc, to.as_str(), extension, below)

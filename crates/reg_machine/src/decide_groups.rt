@@ -4,15 +4,16 @@ ghost use Rattle.reg_machine.specs.Checks.{group_add_checks, group_rename_checks
 ghost use Rattle.reg_machine.specs.History.{facts, first_of};
 
 use crate::Machine;
-use crate::refusing::{full, not_found, taken, taken_in};
+use crate::refusing::{full, in_use, not_found, taken, taken_in};
 use reg_base::{Name, Text};
+use reg_effect::Kept;
 use reg_facts::{Refusal, extension_of, home_of};
 use std::alloc::{AllocError, Global};
 
 /// How many groups may ever be made.
 const MAX_GROUPS: u32 = 100_000;
 
-impl Machine {
+impl<K: Kept> Machine<K> {
     pub(crate) fn decide_group_add(
         &self,
         alloc: Global,
@@ -82,8 +83,14 @@ impl Machine {
     ) -> Result<Option<Refusal>, AllocError>
         ensures { IfOk result (λ found. found ≡ first_of (group_delete_checks self.now.history (facts self.now.history) group.now)) }
     {
-        if self.facts().group_id(group.as_str()).is_none() {
+        let Some(id) = self.facts().group_id(group.as_str()) else {
             return not_found(alloc, group.as_str());
+        };
+        if self.facts().is_nested(id) {
+            return in_use(alloc, "member");
+        }
+        if self.is_factor(id) {
+            return in_use(alloc, "factor");
         }
         self.decide_room(alloc)
     }

@@ -7,6 +7,7 @@ ghost use Rattle.reg_machine.specs.History.{facts, first_of};
 
 use crate::Machine;
 use reg_base::{FolderId, Text};
+use reg_effect::Kept;
 use reg_facts::{Refusal, name_in, name_length};
 use std::alloc::{AllocError, Global};
 
@@ -48,6 +49,30 @@ pub fn taken_in(alloc: Global, home: &str, extension: &str) -> Result<Option<Ref
     Ok(Some(Refusal::Taken { object }))
 }
 
+/// Rows or factors are set on a composite.
+pub fn composite(alloc: Global, group: &str) -> Result<Option<Refusal>, AllocError>
+    ensures { IfOk result (λ found. found ≡ Some (Refusal.IsComposite group.now)) }
+{
+    let object = Text::new(alloc, group)?;
+    Ok(Some(Refusal::IsComposite { object }))
+}
+
+/// A path leads back.
+pub fn leading_back(alloc: Global, text: &str) -> Result<Option<Refusal>, AllocError>
+    ensures { IfOk result (λ found. found ≡ Some (Refusal.Circular text.now)) }
+{
+    let object = Text::new(alloc, text)?;
+    Ok(Some(Refusal::Circular { object }))
+}
+
+/// What is to be deleted is in use.
+pub fn in_use(alloc: Global, used: &str) -> Result<Option<Refusal>, AllocError>
+    ensures { IfOk result (λ found. found ≡ Some (Refusal.InUse used.now)) }
+{
+    let used = Text::new(alloc, used)?;
+    Ok(Some(Refusal::InUse { used }))
+}
+
 /// A count would pass its limit.
 pub fn full(alloc: Global, kind: &str, limit: u64) -> Result<Option<Refusal>, AllocError>
     ensures { IfOk result (λ found. found ≡ Some (Refusal.Full kind.now limit)) }
@@ -56,7 +81,7 @@ pub fn full(alloc: Global, kind: &str, limit: u64) -> Result<Option<Refusal>, Al
     Ok(Some(Refusal::Full { kind, limit }))
 }
 
-impl Machine {
+impl<K: Kept> Machine<K> {
     /// Whether an object of this extension stands in the folder.
     pub(crate) fn is_taken(&self, home: Option<FolderId>, extension: &str) -> bool
         ensures { result ≡ is_some (child (the_id home) extension.now (facts self.now.history)) }

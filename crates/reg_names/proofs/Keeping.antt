@@ -1,13 +1,13 @@
 -- Commands that change no object's name.
 use Rattle.std.proofs.Common.{◌≡◌, ℕ, List, Bool, true, false, Option, Some, None, refl}
 use Rattle.reg_facts.specs.declared.command.Command.{Command}
-use Rattle.reg_facts.specs.declared.command.Command.TheVariants.{FolderAdd, FolderRename, FolderMove, FolderDelete, SubjectAdd, GroupAdd, GroupRename, GroupMove, GroupDelete, MemberAdd, MemberRemove}
+use Rattle.reg_facts.specs.declared.command.Command.TheVariants.{FolderAdd, FolderRename, FolderMove, FolderDelete, SubjectAdd, GroupAdd, GroupRename, GroupMove, GroupDelete, MemberAdd, MemberRemove, CompositeSet, CompositeClear}
 use Rattle.reg_facts.specs.declared.kinds.Member.{Member}
 use Rattle.reg_facts.specs.Lists.{Lists}
 use Rattle.reg_facts.specs.Naming.{placed, child, group_id}
 use Rattle.reg_facts.specs.Edits.{edit, row_added, row_removed, member_of, the_id}
 
--- a command that changes persons or memberships
+-- a command that changes persons, memberships or composites
 abbrev pub keeps_names : Command → Bool
 keeps_names (FolderAdd folder display) = false
 keeps_names (FolderRename folder extension) = false
@@ -20,6 +20,8 @@ keeps_names (GroupMove group to) = false
 keeps_names (GroupDelete group) = false
 keeps_names (MemberAdd group member) = true
 keeps_names (MemberRemove group member) = true
+keeps_names (CompositeSet group kind left right) = true
+keeps_names (CompositeClear group) = true
 
 row_added_same : (at g : ℕ) (m : Option Member) (f : Lists) (d : ℕ) (e : List ℕ) → child d e f ≡ child d e (row_added at g m f)
 unfolding placed
@@ -45,3 +47,5 @@ names_kept at (GroupMove group to) f d e h = cc
 names_kept at (GroupDelete group) f d e h = cc
 names_kept at (MemberAdd group member) f d e h = row_added_same at (the_id (group_id group f)) (member_of member f) f d e
 names_kept at (MemberRemove group member) f d e h = row_removed_same (the_id (group_id group f)) (member_of member f) f d e
+names_kept at (CompositeSet group kind left right) f d e h = refl
+names_kept at (CompositeClear group) f d e h = refl

@@ -1,8 +1,10 @@
--- What a query is answered over the facts.
+-- What a query is answered over the facts and a moment.
 use Rattle.std.specs.Prelude.{ℕ, ◌==◌, List, [], ◌∷◌, None, Some, Result, Ok, Err, if◌then◌else◌}
 use Rattle.reg_facts.specs.Climbing.{is_parent}
 use Rattle.reg_facts.specs.Lists.{Lists}
-use Rattle.reg_facts.specs.Members.{member_texts}
+use Rattle.reg_facts.specs.Members.{texts_where}
+use Rattle.reg_effect.specs.Member.{member}
+use Rattle.reg_machine.specs.Live.{live}
 use Rattle.reg_facts.specs.Naming.{folder_id, group_id, name_in}
 use Rattle.reg_facts.specs.declared.refusal.Refusal.{Refusal}
 use Rattle.reg_facts.specs.declared.refusal.Refusal.TheVariants.{NotFound}
@@ -25,9 +27,13 @@ display_of id (row ∷ rows) = if row.id == id then row.display else display_of 
 abbrev pub group_of : List ℕ → Lists → Result Answer Refusal
 group_of group f = elim (group_id group f) [ None ↦ Err (NotFound group) | Some id ↦ Ok (answer.GroupGet (display_of id f.groups) group) ]
 
--- the members of the group of this name
-abbrev pub members_of : List ℕ → Lists → Result Answer Refusal
-members_of group f = elim (group_id group f) [ None ↦ Err (NotFound group) | Some id ↦ Ok (answer.Members (member_texts id f)) ]
+-- the texts of the effective members of a group at a moment, in the order of the subjects
+abbrev pub member_texts : ℕ → ℕ → Lists → List (List ℕ)
+member_texts id at f = texts_where (member (live at f) id) f.subjects
+
+-- the members of the group of this name at a moment
+abbrev pub members_of : List ℕ → ℕ → Lists → Result Answer Refusal
+members_of group at f = elim (group_id group f) [ None ↦ Err (NotFound group) | Some id ↦ Ok (answer.Members (member_texts id at f)) ]
 
 -- the names of the folders directly in a folder of this name
 abbrev pub folder_names : ℕ → List ℕ → List FolderRow → List (List ℕ)
@@ -61,8 +67,8 @@ listing d home f = answer.FolderList
 abbrev pub listing_of : List ℕ → Lists → Result Answer Refusal
 listing_of folder f = elim (folder_id folder f) [ None ↦ Err (NotFound folder) | Some d ↦ Ok (listing d folder f) ]
 
--- the answer to a query, or why it is refused
-abbrev pub answer_of : Query → Lists → Result Answer Refusal
-answer_of (query.GroupGet group) f = group_of group f
-answer_of (query.FolderList folder) f = listing_of folder f
-answer_of (query.Members group) f = members_of group f
+-- the answer to a query at a moment, or why it is refused
+abbrev pub answer_of : Query → ℕ → Lists → Result Answer Refusal
+answer_of (query.GroupGet group) at f = group_of group f
+answer_of (query.FolderList folder) at f = listing_of folder f
+answer_of (query.Members group) at f = members_of group at f

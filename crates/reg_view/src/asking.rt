@@ -6,6 +6,7 @@ ghost use Rattle.reg_view.specs.Answers.{answer_of, display_of, group_of, listin
 use crate::listing::listing;
 use crate::{Answer, Query};
 use reg_base::{Entity, GroupId, Name, Text};
+use reg_effect::Kept;
 use reg_facts::{Facts, Refusal};
 use reg_machine::Machine;
 use std::alloc::{AllocError, Global};
@@ -43,17 +44,22 @@ fn group_of(
     Ok(Ok(Answer::GroupGet { display, name }))
 }
 
-fn members_of(
+/// The members of a group, whose ids come from the effective memberships. It costs what they are,
+/// and not what all subjects are.
+#[tactic(auto, using(crate::proofs::Members::texts_same))]
+fn members_of<K: Kept>(
     alloc: Global,
-    facts: &Facts,
+    machine: &Machine<K>,
     group: &Name,
 ) -> Result<Result<Answer, Refusal>, AllocError>
-    ensures { IfOk result (λ r. r ≡ members_of group.now facts.now) }
+    ensures { IfOk result (λ r. r ≡ members_of group.now machine.now.clock (facts machine.now.history)) }
 {
+    let facts = machine.facts();
     let Some(id) = facts.group_id(group.as_str()) else {
         return not_found(alloc, group.as_str());
     };
-    let members = facts.member_texts(alloc, id)?;
+    let ids = machine.kept().members(id)?;
+    let members = facts.texts_of(alloc, &ids)?;
     Ok(Ok(Answer::Members { members }))
 }
 
@@ -73,17 +79,17 @@ fn listing_of(
 
 /// The answer to a query at the machine's clock, or why it is refused: NotFound exactly where the
 /// group or folder doesn't stand.
-pub fn ask(
+pub fn ask<K: Kept>(
     alloc: Global,
-    machine: &Machine,
+    machine: &Machine<K>,
     _by: &Entity,
     query: &Query,
 ) -> Result<Result<Answer, Refusal>, AllocError>
-    ensures { IfOk result (λ r. r ≡ answer_of query.now (facts machine.now.history)) }
+    ensures { IfOk result (λ r. r ≡ answer_of query.now machine.now.clock (facts machine.now.history)) }
 {
     match query {
         Query::GroupGet { group } => group_of(alloc, machine.facts(), group),
         Query::FolderList { folder } => listing_of(alloc, machine.facts(), folder),
-        Query::Members { group } => members_of(alloc, machine.facts(), group),
+        Query::Members { group } => members_of(alloc, machine, group),
     }
 }

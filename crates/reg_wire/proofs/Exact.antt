@@ -7,9 +7,11 @@ use Rattle.std.proofs.lemmas.Bool.Decides.{nat_tests}
 use Rattle.std.proofs.lemmas.List.{take_at, drop_at, take-append-drop, length-append, length-take}
 use Rattle.std.proofs.lemmas.Nat.{le_bytes_2, le_bytes_8, from_le_bytes-to_le_bytes_2, from_le_bytes-to_le_bytes_8}
 use Rattle.std.proofs.lemmas.Option.{cond_some, same_Some}
+use Rattle.reg_facts.specs.declared.kinds.SetOp.{SetOp}
+use Rattle.reg_facts.specs.declared.kinds.SetOp.TheVariants.{Intersection, Complement}
 use Rattle.reg_wire.specs.Steps.{◌>>=◌}
-use Rattle.reg_wire.specs.Fields.{is_moment, is_optional_moment, text_bytes, moment_bytes, optional_moment_bytes}
-use Rattle.reg_wire.specs.Reading.{is_byte, number_at, text_at, tested_at, moment_at, optional_moment_at, if_absent, no_moment_at}
+use Rattle.reg_wire.specs.Fields.{is_moment, is_optional_moment, text_bytes, moment_bytes, optional_moment_bytes, kind_bytes}
+use Rattle.reg_wire.specs.Reading.{is_byte, number_at, text_at, tested_at, moment_at, optional_moment_at, if_absent, no_moment_at, kind_at}
 
 -- a reading takes exactly what is written
 pub record IsExact {A : Type 0} (write : A → List ℕ) (fits : A → Bool) (read : List ℕ → Option (A × List ℕ)) : Type 0 where
@@ -160,7 +162,8 @@ optional_exact = record { takes = optional_takes; again = optional_again }
 abbrev pub no_moment_bytes : Unit {0} → List ℕ
 no_moment_bytes _ = 0 ∷ []
 
-abbrev pub always : Unit {0} → Bool
+-- whatever it is
+abbrev pub always : {A : Type 0} → A → Bool
 always _ = true
 
 absent_takes : (bytes : List ℕ) (moment : Option ℕ × List ℕ) (x : Unit {0} × List ℕ) → bytes ≡ optional_moment_bytes moment.0 ++ moment.1 → if_absent moment ≡ Some x → bytes ≡ 0 ∷ x.1
@@ -175,3 +178,24 @@ no_moment_exact = record {
       (absent_takes bytes b.0 x (optional_exact.takes bytes b.0 b.1).0 b.2, refl);
   again = λ nothing rest good. rw (optional_exact.again None rest refl) refl;
 }
+
+-- ---- kinds of composites
+
+abbrev IsKindRead : List ℕ → SetOp × List ℕ → Type 0
+IsKindRead bytes x = (bytes ≡ kind_bytes x.0 ++ x.1) × (always x.0 ≡ true)
+
+kind_takes : (bytes : List ℕ) (x : SetOp × List ℕ) → kind_at bytes ≡ Some x → IsKindRead bytes x
+unfolding kind_at
+kind_takes [] x e = absurd cc
+kind_takes (zero ∷ rest) x e = absurd cc
+kind_takes (suc zero ∷ rest) x e = subst (IsKindRead (1 ∷ rest)) (same_Some (Intersection, rest) x e) (refl, refl)
+kind_takes (suc (suc zero) ∷ rest) x e = subst (IsKindRead (2 ∷ rest)) (same_Some (Complement, rest) x e) (refl, refl)
+kind_takes (suc (suc (suc b)) ∷ rest) x e = absurd cc
+
+kind_again : (kind : SetOp) (rest : List ℕ) → always kind ≡ true → kind_at (kind_bytes kind ++ rest) ≡ Some (kind, rest)
+unfolding kind_at
+kind_again Intersection rest good = refl
+kind_again Complement rest good = refl
+
+pub kind_exact : IsExact kind_bytes always kind_at
+kind_exact = record { takes = kind_takes; again = kind_again }

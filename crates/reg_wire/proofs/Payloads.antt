@@ -5,8 +5,10 @@ use Rattle.std.proofs.lemmas.Bool.{and_parts, and_from, eqb-true}
 use Rattle.std.proofs.lemmas.List.{nil_from_length, length-append}
 use Rattle.std.proofs.lemmas.Option.{cond_some, same_Some}
 use Rattle.reg_facts.specs.declared.command.Command.{Command}
-use Rattle.reg_facts.specs.declared.command.Command.TheVariants.{FolderAdd, FolderRename, FolderMove, FolderDelete, SubjectAdd, GroupAdd, GroupRename, GroupMove, GroupDelete, MemberAdd, MemberRemove}
+use Rattle.reg_facts.specs.declared.command.Command.TheVariants.{FolderAdd, FolderRename, FolderMove, FolderDelete, SubjectAdd, GroupAdd, GroupRename, GroupMove, GroupDelete, MemberAdd, MemberRemove, CompositeSet, CompositeClear}
 use Rattle.reg_facts.specs.declared.command.Stamped.{Stamped}
+use Rattle.reg_facts.specs.declared.kinds.SetOp.{SetOp}
+use Rattle.reg_facts.specs.declared.kinds.SetOp.TheVariants.{Intersection, Complement}
 use Rattle.reg_wire.specs.Steps.{◌>>=◌}
 use Rattle.reg_wire.specs.Fields as field
 use Rattle.reg_wire.specs.Fields.{Field, is_field, is_moment, is_entity, entity_text, text_bytes, moment_bytes, field_bytes}
@@ -95,6 +97,10 @@ moment_short : (moment : Option ℕ) → length (field_bytes (field.OptionalMome
 moment_short None = lit≤ tt
 moment_short (Some moment) = lit≤ tt
 
+kind_short : (kind : SetOp) → length (field_bytes (field.Kind kind)) ≤ 1008
+kind_short Intersection = lit≤ tt
+kind_short Complement = lit≤ tt
+
 field_short : (f : Field) → is_field f ≡ true → length (field_bytes f) ≤ 1008
 field_short (field.Name text) h = omega (arith, name_short text h)
 field_short (field.Folder text) h = omega (arith, folder_short text h)
@@ -102,6 +108,7 @@ field_short (field.Extension text) h = omega (arith, extension_short text h)
 field_short (field.Display text) h = omega (arith, display_short text h)
 field_short (field.Who entity) h = omega (arith, entity_short entity h)
 field_short (field.OptionalMoment moment) h = moment_short moment
+field_short (field.Kind kind) h = kind_short kind
 
 fields_short : (fs : List Field) → list_all is_field fs ≡ true → length (flat_map field_bytes fs) ≤ 1008 * length fs
 fields_short [] h = lit≤ tt
@@ -121,6 +128,8 @@ few_fields (GroupMove a b) = lit≤ tt
 few_fields (GroupDelete a) = lit≤ tt
 few_fields (MemberAdd a b) = lit≤ tt
 few_fields (MemberRemove a b) = lit≤ tt
+few_fields (CompositeSet a b c d) = lit≤ tt
+few_fields (CompositeClear a) = lit≤ tt
 
 -- a payload has fewer than 2 ^ 32 bytes
 pub payload_short : (stamped : Stamped) → IsWritable stamped → length (payload stamped) < 2 ^ 32

@@ -6,13 +6,14 @@ use Rattle.std.proofs.lemmas.Option.{same_Some}
 use Rattle.reg_base.specs.Names.{is_extension, is_name}
 use Rattle.reg_base.specs.declared.entity.Entity.{Entity}
 use Rattle.reg_facts.specs.declared.command.Command.{Command}
-use Rattle.reg_facts.specs.declared.command.Command.TheVariants.{FolderAdd, FolderRename, FolderMove, FolderDelete, SubjectAdd, GroupAdd, GroupRename, GroupMove, GroupDelete, MemberAdd, MemberRemove}
+use Rattle.reg_facts.specs.declared.command.Command.TheVariants.{FolderAdd, FolderRename, FolderMove, FolderDelete, SubjectAdd, GroupAdd, GroupRename, GroupMove, GroupDelete, MemberAdd, MemberRemove, CompositeSet, CompositeClear}
+use Rattle.reg_facts.specs.declared.kinds.SetOp.{SetOp}
 use Rattle.reg_wire.specs.Steps.{◌>>=◌}
-use Rattle.reg_wire.specs.Fields.{is_folder, is_display, is_entity, is_field, field_bytes, text_bytes}
-use Rattle.reg_wire.specs.Reading.{name_at, folder_at, extension_at, display_at, entity_at, no_moment_at}
+use Rattle.reg_wire.specs.Fields.{is_folder, is_display, is_entity, is_field, field_bytes, kind_bytes, text_bytes}
+use Rattle.reg_wire.specs.Reading.{name_at, folder_at, extension_at, display_at, entity_at, no_moment_at, kind_at}
 use Rattle.reg_wire.specs.Payload.{code_of, fields_of, one, two, four, readers, read_by, command_at}
 use Rattle.reg_wire.proofs.Texts.{name_short, folder_short, extension_short, display_short}
-use Rattle.reg_wire.proofs.Exact.{IsExact, bind_some, tested_exact, no_moment_bytes, always, no_moment_exact}
+use Rattle.reg_wire.proofs.Exact.{IsExact, bind_some, tested_exact, no_moment_bytes, always, no_moment_exact, kind_exact}
 use Rattle.reg_wire.proofs.Entities.{chosen, entity_bytes, entity_exact}
 
 -- how a kind of field is written and read
@@ -39,6 +40,9 @@ entity = record { write = entity_bytes; fits = is_entity; read = entity_at; exac
 
 abbrev no_moment : Format (Unit {0})
 no_moment = record { write = no_moment_bytes; fits = always; read = no_moment_at; exact = no_moment_exact }
+
+abbrev kind : Format SetOp
+kind = record { write = kind_bytes; fits = always; read = kind_at; exact = kind_exact }
 
 -- what was read is a command of this code, as it is written
 pub record Takes (code : ℕ) (bytes : List ℕ) (x : Command × List ℕ) : Type 0 where
@@ -174,7 +178,13 @@ readers_read = (
                     four_reads name entity no_moment no_moment 10 _ (λ a b c d. plain (MemberAdd a b)),
                     (
                       two_reads name entity 11 _ (λ a b. plain (MemberRemove a b)),
-                      tt,
+                      (
+                        four_reads name kind name name 13 _ (λ a b c d. plain (CompositeSet a b c d)),
+                        (
+                          one_reads name 14 _ (λ a. plain (CompositeClear a)),
+                          tt,
+                        ),
+                      ),
                     ),
                   ),
                 ),
@@ -206,3 +216,5 @@ command_again (GroupMove a b) rest h = two_again name folder (λ x y. GroupMove 
 command_again (GroupDelete a) rest h = one_again name (λ x. GroupDelete x) a rest h
 command_again (MemberAdd a b) rest h = four_again name entity no_moment no_moment (λ x y from until. MemberAdd x y) a b tt tt rest h
 command_again (MemberRemove a b) rest h = two_again name entity (λ x y. MemberRemove x y) a b rest h
+command_again (CompositeSet a b c d) rest h = four_again name kind name name (λ x y z w. CompositeSet x y z w) a b c d rest h
+command_again (CompositeClear a) rest h = one_again name (λ x. CompositeClear x) a rest h

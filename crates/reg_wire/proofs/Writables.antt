@@ -1,5 +1,5 @@
 -- A command whose fields have their forms and whose display texts are UTF-8 can be written, and what can be written has these forms.
-use Rattle.std.proofs.Common.{◌≡◌, ◌&&◌, ◌||◌, ℕ, List, [], ◌∷◌, Bool, true, false, refl, codes}
+use Rattle.std.proofs.Common.{◌≡◌, ◌&&◌, ◌||◌, ℕ, List, Bool, true, false, refl, codes}
 use Rattle.std.specs.Prelude.{nat_le, length}
 use Rattle.std.specs.Str.{bytes_eq, is_utf8}
 use Rattle.std.proofs.lemmas.Bool.{and_parts, and_from}
@@ -7,7 +7,7 @@ use Rattle.reg_base.specs.Names.{is_name, is_extension}
 use Rattle.reg_base.specs.declared.entity.Entity.{Entity}
 use Rattle.reg_base.specs.declared.entity.Entity.TheVariants as entity
 use Rattle.reg_facts.specs.declared.command.Command.{Command}
-use Rattle.reg_facts.specs.declared.command.Command.TheVariants.{FolderAdd, FolderRename, FolderMove, FolderDelete, SubjectAdd, GroupAdd, GroupRename, GroupMove, GroupDelete, MemberAdd, MemberRemove}
+use Rattle.reg_facts.specs.declared.command.Command.TheVariants.{FolderAdd, FolderRename, FolderMove, FolderDelete, SubjectAdd, GroupAdd, GroupRename, GroupMove, GroupDelete, MemberAdd, MemberRemove, CompositeSet, CompositeClear}
 use Rattle.reg_facts.specs.declared.command.Stamped.{Stamped}
 use Rattle.reg_facts.specs.Suiting as forms
 use Rattle.reg_facts.specs.Suiting.{has_form, is_folder_text}
@@ -42,6 +42,12 @@ entity_from entity.Everyone h = h
 two_to : (a b : Bool) → a ≡ true → b ≡ true → (a && (b && true)) ≡ true
 two_to a b h k = and_from _ _ h (and_from _ _ k refl)
 
+three_to : (a b c : Bool) → ((a && b) && c) ≡ true → (a && (b && (c && true))) ≡ true
+three_to true true true h = refl
+three_to true true false h = h
+three_to true false c h = h
+three_to false b c h = h
+
 command_to : (c : Command) → has_form c ≡ true → AreUtf8 c → is_writable_command c ≡ true
 unfolding is_writable_command
 command_to (FolderAdd folder display) h u = let p = and_parts _ _ h in two_to _ _ p.0 (and_from _ _ p.1 u)
@@ -55,6 +61,8 @@ command_to (GroupMove group to) h u = let p = and_parts _ _ h in two_to _ _ p.0 
 command_to (GroupDelete group) h u = and_from _ _ h refl
 command_to (MemberAdd group member) h u = let p = and_parts _ _ h in and_from _ _ p.0 (two_to _ _ (entity_to member p.1) refl)
 command_to (MemberRemove group member) h u = let p = and_parts _ _ h in two_to _ _ p.0 (entity_to member p.1)
+command_to (CompositeSet group kind left right) h u = three_to (is_name group) (is_name left) (is_name right) h
+command_to (CompositeClear group) h u = and_from _ _ h refl
 
 two_from : (a b : Bool) → (a && (b && true)) ≡ true → (a ≡ true) × (b ≡ true)
 two_from true true h = (refl, refl)
@@ -65,6 +73,12 @@ member_from : (a b : Bool) → (a && (b && (true && (true && true)))) ≡ true �
 member_from true true h = (refl, refl)
 member_from true false h = cc
 member_from false b h = cc
+
+three_from : (a b c : Bool) → (a && (b && (c && true))) ≡ true → ((a && b) && c) ≡ true
+three_from true true true h = refl
+three_from true true false h = h
+three_from true false c h = h
+three_from false b c h = h
 
 left_of : (a b : Bool) → (a && b) ≡ true → a ≡ true
 left_of true b h = refl
@@ -93,6 +107,8 @@ command_from (GroupMove group to) h = let p : _ = two_from (is_name group) (is_f
 command_from (GroupDelete group) h = left_of (is_name group) true h
 command_from (MemberAdd group member) h = let p : _ = member_from (is_name group) (is_entity member) h in both (is_name group) (forms.is_entity member) p.0 (entity_from member p.1)
 command_from (MemberRemove group member) h = let p : _ = two_from (is_name group) (is_entity member) h in both (is_name group) (forms.is_entity member) p.0 (entity_from member p.1)
+command_from (CompositeSet group kind left right) h = three_from (is_name group) (is_name left) (is_name right) h
+command_from (CompositeClear group) h = left_of (is_name group) true h
 
 -- a stamped command that can be written
 pub formed_writable : (s : Stamped) → is_moment s.at ≡ true → is_entity s.by ≡ true → has_form s.command ≡ true → AreUtf8 s.command → IsWritable s

@@ -5,8 +5,10 @@ use Rattle.std.specs.Str.{bytes_eq, is_utf8}
 use Rattle.reg_base.specs.Names.{is_extension, is_name, is_person}
 use Rattle.reg_base.specs.declared.entity.Entity.{Entity}
 use Rattle.reg_base.specs.declared.entity.Entity.TheVariants.{Person, Group, System, Everyone}
+use Rattle.reg_facts.specs.declared.kinds.SetOp.{SetOp}
+use Rattle.reg_facts.specs.declared.kinds.SetOp.TheVariants.{Intersection, Complement}
 
--- a field of a command: an object's name, a folder's name or `:`, an extension, a display text, an entity, or a moment that may be left out
+-- a field of a command: an object's name, a folder's name or `:`, an extension, a display text, an entity, a moment that may be left out, or the kind of a composite
 pub data Field : Type 0 where
   Name : List ℕ → Field
   Folder : List ℕ → Field
@@ -14,6 +16,7 @@ pub data Field : Type 0 where
   Display : List ℕ → Field
   Who : Entity → Field
   OptionalMoment : Option ℕ → Field
+  Kind : SetOp → Field
 
 -- the name of a folder, or `:` for the root
 abbrev pub is_folder : List ℕ → Bool
@@ -54,6 +57,7 @@ is_field (Extension text) = is_extension text
 is_field (Display text) = is_display text
 is_field (Who entity) = is_entity entity
 is_field (OptionalMoment moment) = is_optional_moment moment
+is_field (Kind kind) = true
 
 -- two bytes of length, the least first, and that many bytes
 abbrev pub text_bytes : List ℕ → List ℕ
@@ -68,6 +72,11 @@ abbrev pub optional_moment_bytes : Option ℕ → List ℕ
 optional_moment_bytes None = 0 ∷ []
 optional_moment_bytes (Some moment) = 1 ∷ moment_bytes moment
 
+-- 1 for an intersection, 2 for a complement
+abbrev pub kind_bytes : SetOp → List ℕ
+kind_bytes Intersection = 1 ∷ []
+kind_bytes Complement = 2 ∷ []
+
 -- the bytes of a field
 abbrev pub field_bytes : Field → List ℕ
 field_bytes (Name text) = text_bytes text
@@ -76,3 +85,4 @@ field_bytes (Extension text) = text_bytes text
 field_bytes (Display text) = text_bytes text
 field_bytes (Who entity) = text_bytes (entity_text entity)
 field_bytes (OptionalMoment moment) = optional_moment_bytes moment
+field_bytes (Kind kind) = kind_bytes kind

@@ -5,6 +5,8 @@ use Rattle.std.specs.Int.{Width, w16, w64, byte_len, from_le_bytes}
 use Rattle.reg_base.specs.Names.{is_extension, is_name}
 use Rattle.reg_base.specs.Entities.{entity_of}
 use Rattle.reg_base.specs.declared.entity.Entity.{Entity}
+use Rattle.reg_facts.specs.declared.kinds.SetOp.{SetOp}
+use Rattle.reg_facts.specs.declared.kinds.SetOp.TheVariants.{Intersection, Complement}
 use Rattle.reg_wire.specs.Steps.{◌>>=◌}
 use Rattle.reg_wire.specs.Fields.{is_folder, is_display, is_moment}
 
@@ -83,3 +85,11 @@ unfoldable pub no_moment_at : List ℕ → Option (Unit {0} × List ℕ)
 no_moment_at bytes = do
   moment ← optional_moment_at bytes
   if_absent moment
+
+-- the kind of a composite: 1 for an intersection, 2 for a complement
+unfoldable pub kind_at : List ℕ → Option (SetOp × List ℕ)
+kind_at [] = None
+kind_at (zero ∷ rest) = None
+kind_at (suc zero ∷ rest) = Some (Intersection, rest)
+kind_at (suc (suc zero) ∷ rest) = Some (Complement, rest)
+kind_at (suc (suc (suc b)) ∷ rest) = None

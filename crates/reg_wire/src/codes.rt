@@ -26,6 +26,16 @@ pub const MEMBER_ADD: u8 = 10;
 
 pub const MEMBER_REMOVE: u8 = 11;
 
+pub const COMPOSITE_SET: u8 = 13;
+
+pub const COMPOSITE_CLEAR: u8 = 14;
+
+// the kinds of composites, one byte each
+
+pub const INTERSECTION: u8 = 1;
+
+pub const COMPLEMENT: u8 = 2;
+
 /// The code of a command's op.
 pub fn code_of(command: &Command) -> u8
     ensures { result ≡ code_of command.now }
@@ -42,5 +52,7 @@ pub fn code_of(command: &Command) -> u8
         Command::GroupDelete { .. } => GROUP_DELETE,
         Command::MemberAdd { .. } => MEMBER_ADD,
         Command::MemberRemove { .. } => MEMBER_REMOVE,
+        Command::CompositeSet { .. } => COMPOSITE_SET,
+        Command::CompositeClear { .. } => COMPOSITE_CLEAR,
     }
 }

@@ -1,12 +1,14 @@
 // Reading commands.
 ghost use Rattle.reg_wire.specs.Steps.{Gives};
-ghost use Rattle.reg_wire.specs.Reading.{name_at, folder_at, extension_at, display_at, entity_at, no_moment_at};
+ghost use Rattle.reg_wire.specs.Reading.{name_at, folder_at, extension_at, display_at, entity_at, no_moment_at, kind_at};
 ghost use Rattle.reg_wire.specs.Payload.{one, two, four, command_at};
-ghost use Rattle.reg_facts.specs.declared.command.Command.TheVariants.{FolderAdd, FolderRename, FolderMove, FolderDelete, SubjectAdd, GroupAdd, GroupRename, GroupMove, GroupDelete, MemberAdd, MemberRemove};
+ghost use Rattle.reg_facts.specs.declared.command.Command.TheVariants.{FolderAdd, FolderRename, FolderMove, FolderDelete, SubjectAdd, GroupAdd, GroupRename, GroupMove, GroupDelete, MemberAdd, MemberRemove, CompositeSet, CompositeClear};
 
 use crate::codes;
 use crate::fault::ReadFault;
-use crate::fields::{display_at, entity_at, extension_at, folder_at, name_at, no_moment_at};
+use crate::fields::{
+    display_at, entity_at, extension_at, folder_at, kind_at, name_at, no_moment_at,
+};
 use reg_facts::Command;
 use std::alloc::Global;
 
@@ -109,6 +111,31 @@ fn member_remove(alloc: Global, bytes: &[u8]) -> Result<(Command, &[u8]), ReadFa
     Ok((Command::MemberRemove { group, member }, rest))
 }
 
+#[tactic(auto, unfolding(crate::specs::Payload::four))]
+fn composite_set(alloc: Global, bytes: &[u8]) -> Result<(Command, &[u8]), ReadFault>
+    ensures { Gives (λ x. (x.0, x.1.now)) result (four name_at kind_at name_at name_at (λ group kind left right. CompositeSet group kind left right) bytes.now) }
+{
+    let (group, rest) = name_at(alloc, bytes)?;
+    let (kind, rest) = kind_at(rest)?;
+    let (left, rest) = name_at(alloc, rest)?;
+    let (right, rest) = name_at(alloc, rest)?;
+    let command = Command::CompositeSet {
+        group,
+        kind,
+        left,
+        right,
+    };
+    Ok((command, rest))
+}
+
+#[tactic(auto, unfolding(crate::specs::Payload::one))]
+fn composite_clear(alloc: Global, bytes: &[u8]) -> Result<(Command, &[u8]), ReadFault>
+    ensures { Gives (λ x. (x.0, x.1.now)) result (one name_at (λ group. CompositeClear group) bytes.now) }
+{
+    let (group, rest) = name_at(alloc, bytes)?;
+    Ok((Command::CompositeClear { group }, rest))
+}
+
 /// The command of a code and the fields behind it.
 #[tactic(auto, unfolding(crate::specs::Payload::command_at))]
 pub fn command_at(alloc: Global, code: u8, bytes: &[u8]) -> Result<(Command, &[u8]), ReadFault>
@@ -126,6 +153,8 @@ pub fn command_at(alloc: Global, code: u8, bytes: &[u8]) -> Result<(Command, &[u
         codes::GROUP_DELETE => group_delete(alloc, bytes),
         codes::MEMBER_ADD => member_add(alloc, bytes),
         codes::MEMBER_REMOVE => member_remove(alloc, bytes),
+        codes::COMPOSITE_SET => composite_set(alloc, bytes),
+        codes::COMPOSITE_CLEAR => composite_clear(alloc, bytes),
         _ => Err(ReadFault::Malformed),
     }
 }

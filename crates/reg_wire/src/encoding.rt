@@ -2,12 +2,12 @@
 ghost use Rattle.std.specs.Prelude.{◌≡◌, ◌++◌, ◌<◌, ◌^◌, true, codes, length, IfOk, OnOk};
 ghost use Rattle.std.specs.List.{flat_map};
 ghost use Rattle.reg_base.specs.Names.{is_extension};
-ghost use Rattle.reg_wire.specs.Fields.{is_display, is_entity, is_folder, entity_text, field_bytes, text_bytes, moment_bytes, optional_moment_bytes};
+ghost use Rattle.reg_wire.specs.Fields.{is_display, is_entity, is_folder, entity_text, field_bytes, text_bytes, moment_bytes, optional_moment_bytes, kind_bytes};
 ghost use Rattle.reg_wire.specs.Payload.{fields_of, is_writable_command, payload, IsWritable};
 
-use crate::codes::code_of;
+use crate::codes::{COMPLEMENT, INTERSECTION, code_of};
 use reg_base::{Entity, Moment, Name, Text};
-use reg_facts::{Command, Stamped};
+use reg_facts::{Command, SetOp, Stamped};
 use std::alloc::{AllocError, Global};
 
 fn put_text(out: &mut Vec<u8>, text: &[u8]) -> Result<(), AllocError>
@@ -93,16 +93,54 @@ fn put_display(out: &mut Vec<u8>, display: &Text) -> Result<(), AllocError>
     put_text(out, display.bytes())
 }
 
+fn put_kind(out: &mut Vec<u8>, kind: SetOp) -> Result<(), AllocError>
+    ensures { OnOk result (out.new.items ≡ out.old.items ++ kind_bytes kind) }
+{
+    out.push(match kind {
+        SetOp::Intersection => INTERSECTION,
+        SetOp::Complement => COMPLEMENT,
+    })?;
+    Ok(())
+}
+
+fn put_named(out: &mut Vec<u8>, name: &Name, display: &Text) -> Result<(), AllocError>
+    requires { is_display display.now ≡ true }
+    ensures { OnOk result (out.new.items ≡ out.old.items ++ (text_bytes name.now ++ text_bytes display.now)) }
+{
+    put_name(out, name)?;
+    put_display(out, display)
+}
+
+fn put_member(out: &mut Vec<u8>, group: &Name, member: &Entity) -> Result<(), AllocError>
+    requires { is_entity member.now ≡ true }
+    ensures { OnOk result (out.new.items ≡ out.old.items ++ (text_bytes group.now ++ text_bytes (entity_text member.now))) }
+{
+    put_name(out, group)?;
+    put_entity(out, member)
+}
+
+fn put_composite(
+    out: &mut Vec<u8>,
+    group: &Name,
+    kind: SetOp,
+    left: &Name,
+    right: &Name,
+) -> Result<(), AllocError>
+    ensures { OnOk result (out.new.items ≡ out.old.items ++ (text_bytes group.now ++ (kind_bytes kind ++ (text_bytes left.now ++ text_bytes right.now)))) }
+{
+    put_name(out, group)?;
+    put_kind(out, kind)?;
+    put_name(out, left)?;
+    put_name(out, right)
+}
+
 #[tactic(auto, unfolding(crate::specs::Payload::is_writable_command))]
 fn put_fields(out: &mut Vec<u8>, command: &Command) -> Result<(), AllocError>
     requires { is_writable_command command.now ≡ true }
     ensures { OnOk result (out.new.items ≡ out.old.items ++ flat_map field_bytes (fields_of command.now)) }
 {
     match command {
-        Command::FolderAdd { folder, display } => {
-            put_name(out, folder)?;
-            put_display(out, display)
-        }
+        Command::FolderAdd { folder, display } => put_named(out, folder, display),
         Command::FolderRename { folder, extension } => {
             put_folder(out, folder)?;
             put_extension(out, extension)
@@ -116,10 +154,7 @@ fn put_fields(out: &mut Vec<u8>, command: &Command) -> Result<(), AllocError>
             put_entity(out, subject)?;
             put_display(out, display)
         }
-        Command::GroupAdd { group, display } => {
-            put_name(out, group)?;
-            put_display(out, display)
-        }
+        Command::GroupAdd { group, display } => put_named(out, group, display),
         Command::GroupRename { group, extension } => {
             put_name(out, group)?;
             put_extension(out, extension)
@@ -128,17 +163,19 @@ fn put_fields(out: &mut Vec<u8>, command: &Command) -> Result<(), AllocError>
             put_name(out, group)?;
             put_folder(out, to)
         }
-        Command::GroupDelete { group } => put_name(out, group),
+        Command::GroupDelete { group } | Command::CompositeClear { group } => put_name(out, group),
         Command::MemberAdd { group, member } => {
-            put_name(out, group)?;
-            put_entity(out, member)?;
+            put_member(out, group, member)?;
             put_optional_moment(out, None)?;
             put_optional_moment(out, None)
         }
-        Command::MemberRemove { group, member } => {
-            put_name(out, group)?;
-            put_entity(out, member)
-        }
+        Command::MemberRemove { group, member } => put_member(out, group, member),
+        Command::CompositeSet {
+            group,
+            kind,
+            left,
+            right,
+        } => put_composite(out, group, *kind, left, right),
     }
 }
 

@@ -3,10 +3,12 @@ ghost use Rattle.std.specs.Prelude.{◌≡◌, ◌||◌};
 ghost use Rattle.std.specs.Int.{w16, w64};
 ghost use Rattle.reg_wire.specs.Steps.{Gives};
 ghost use Rattle.reg_wire.specs.Fields.{is_folder};
-ghost use Rattle.reg_wire.specs.Reading.{byte_at, number_at, text_at, name_at, folder_at, extension_at, display_at, entity_at, moment_at, optional_moment_at, no_moment_at};
+ghost use Rattle.reg_wire.specs.Reading.{byte_at, number_at, text_at, name_at, folder_at, extension_at, display_at, entity_at, moment_at, optional_moment_at, no_moment_at, kind_at};
 
+use crate::codes::{COMPLEMENT, INTERSECTION};
 use crate::fault::ReadFault;
 use reg_base::{Entity, Moment, Name, Text, is_extension, is_name};
+use reg_facts::SetOp;
 use std::alloc::Global;
 
 /// One byte.
@@ -171,5 +173,17 @@ pub fn no_moment_at(bytes: &[u8]) -> Result<&[u8], ReadFault>
         Ok((None, rest)) => Ok(rest),
         Ok((Some(_), _)) => Err(ReadFault::Malformed),
         Err(fault) => Err(fault),
+    }
+}
+
+/// The kind of a composite.
+#[tactic(auto, unfolding(crate::specs::Reading::kind_at))]
+pub fn kind_at(bytes: &[u8]) -> Result<(SetOp, &[u8]), ReadFault>
+    ensures { Gives (λ x. (x.0, x.1.now)) result (kind_at bytes.now) }
+{
+    match bytes {
+        [INTERSECTION, rest @ ..] => Ok((SetOp::Intersection, rest)),
+        [COMPLEMENT, rest @ ..] => Ok((SetOp::Complement, rest)),
+        _ => Err(ReadFault::Malformed),
     }
 }

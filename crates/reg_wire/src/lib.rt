@@ -1,7 +1,8 @@
 //! Stamped commands as bytes, the payloads of the journal. Each command that `is_writable` has one payload, and each
 //! payload is of one command. A payload has the moment (eight bytes, the least first), the text of who gave the
 //! command, the code of its op (one byte) and the op's fields in order, and nothing else. A text is its length (two
-//! bytes, the least first) and its bytes. A moment that may be left out is 0, or 1 and the moment.
+//! bytes, the least first) and its bytes. A moment that may be left out is 0, or 1 and the moment. The kind of a
+//! composite is 1 for an intersection and 2 for a complement.
 #![tactic(auto)]
 
 mod codes;

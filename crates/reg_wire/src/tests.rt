@@ -1,7 +1,7 @@
 // Payloads byte by byte.
 use super::{decode, encode, is_writable};
 use reg_base::{Entity, Moment, Text};
-use reg_facts::{Command, Stamped};
+use reg_facts::{Command, SetOp, Stamped};
 use std::alloc::Global;
 use std::test::Fail;
 
@@ -44,6 +44,34 @@ fn a_payload_has_these_44_bytes(rt: HostRuntime) -> Result<(), Fail> {
     Ok(())
 }
 
+const COMPLEMENT: [u8; 46] = [
+    0x00, 0x80, 0x7c, 0x0d, 0xb2, 0x3d, 0x06, 0x00, 0x13, 0x00, 0x67, 0x3a, 0x69, 0x73, 0x61, 0x2f,
+    0x47, 0x72, 0x6f, 0x75, 0x70, 0x65, 0x72, 0x53, 0x79, 0x73, 0x74, 0x65, 0x6d, 0x0d, 0x03, 0x00,
+    0x61, 0x3a, 0x63, 0x02, 0x03, 0x00, 0x61, 0x3a, 0x6c, 0x03, 0x00, 0x61, 0x3a, 0x72,
+];
+
+fn is_complement(command: &Command, names: [&str; 3]) -> bool {
+    match command {
+        Command::CompositeSet {
+            group,
+            kind: SetOp::Complement,
+            left,
+            right,
+        } => [group.as_str(), left.as_str(), right.as_str()] == names,
+        _ => false,
+    }
+}
+
+#[test]
+fn a_composite_has_these_46_bytes(rt: HostRuntime) -> Result<(), Fail> {
+    let read = decode(rt.alloc(), &COMPLEMENT)?.ok_or("a payload")?;
+    assert!(rt; is_complement(&read.command, ["a:c", "a:l", "a:r"]));
+    assert!(rt; is_writable(&read));
+    let bytes = encode(rt.alloc(), &read)?;
+    assert_eq!(rt; bytes.as_slice(), COMPLEMENT.as_slice());
+    Ok(())
+}
+
 // the op of a payload, or `none`
 fn op_of(alloc: Global, bytes: &[u8]) -> Result<&'static str, Fail> {
     let Some(stamped) = decode(alloc, bytes)? else {
@@ -61,10 +89,12 @@ fn op_of(alloc: Global, bytes: &[u8]) -> Result<&'static str, Fail> {
         Command::GroupDelete { .. } => "group.delete",
         Command::MemberAdd { .. } => "member.add",
         Command::MemberRemove { .. } => "member.remove",
+        Command::CompositeSet { .. } => "composite.set",
+        Command::CompositeClear { .. } => "composite.clear",
     })
 }
 
-const READ: [(&str, &str); 16] = [
+const READ: [(&str, &str); 20] = [
     (
         "\x01\0\0\0\0\0\0\0\x07\0uni/ann\x01\x03\0a:b\0\0",
         "folder.add",
@@ -105,12 +135,28 @@ const READ: [(&str, &str); 16] = [
         "\x01\0\0\0\0\0\0\0\x07\0g:gsa/h\x0b\x01\0g\x07\0uni/ann",
         "member.remove",
     ),
+    (
+        "\x01\0\0\0\0\0\0\0\x07\0uni/ann\x0d\x01\0g\x01\x01\0l\x01\0r",
+        "composite.set",
+    ),
+    (
+        "\x01\0\0\0\0\0\0\0\x07\0uni/ann\x0e\x01\0g",
+        "composite.clear",
+    ),
     ("", "none"),
     ("\x01\0\0\0\0\0\0\0\x07\0uni/ann\x04\x01\0a\0", "none"),
     ("\x01\0\0\0\0\0\0\0\x07\0uni/ann\x09\x01\0:", "none"),
     ("\x01\0\0\0\0\0\0\x7f\x07\0uni/ann\x04\x01\0a", "none"),
     (
         "\x01\0\0\0\0\0\0\0\x07\0uni/ann\x0a\x01\0g\x07\0g:gsa/h\0\x02",
+        "none",
+    ),
+    (
+        "\x01\0\0\0\0\0\0\0\x07\0uni/ann\x0d\x01\0g\0\x01\0l\x01\0r",
+        "none",
+    ),
+    (
+        "\x01\0\0\0\0\0\0\0\x07\0uni/ann\x0d\x01\0g\x03\x01\0l\x01\0r",
         "none",
     ),
     ("\x01\0\0\0\0\0\0\0\x07\0uni/ann\x7f\x01\0a", "none"),

@@ -58,6 +58,13 @@ fn is_writable_command(command: &Command) -> bool
         Command::GroupDelete { group } => names(group),
         Command::MemberAdd { group, member } => names(group) && is_entity(member),
         Command::MemberRemove { group, member } => names(group) && is_entity(member),
+        Command::CompositeSet {
+            group,
+            left,
+            right,
+            ..
+        } => names(group) && names(left) && names(right),
+        Command::CompositeClear { group } => names(group),
     }
 }
 

@@ -14,8 +14,9 @@ use Rattle.reg_view.specs.declared.reply.Reply.{Reply}
 use Rattle.reg_view.specs.declared.reply.Reply.TheVariants as reply
 use Rattle.reg_json.specs.Reading.{reading_of}
 use Rattle.registry.specs.Lines.{is_skipped}
-use Rattle.registry.specs.Turn.{at_moment, decided, requested, turn, Turns, Follows}
+use Rattle.registry.specs.Turn.{at_moment, decided, requested, turn, Turns, Follows, last_reply}
 use Rattle.registry.specs.Opening.{Served}
+use Rattle.registry.specs.declared.service.Cause.{Cause}
 use Rattle.registry.specs.declared.service.Next.{Next}
 use Rattle.registry.specs.declared.service.Next.TheVariants as next
 use Rattle.registry.specs.Run.{Answers, answers, last_state, line_of, lines_of, MayWrite, is_accepted, WritesReply}
@@ -41,7 +42,7 @@ turns_no_memory s after m reading given (inl e) h =
     inr (record { fault = refl; history = ap (λ (t : State). t.history) kept; clock = inr (ap (λ (t : State). t.clock) kept) })
 turns_no_memory s after m reading given (inr wants) h = inr (record { fault = refl; history = wants.history; clock = wants.clock })
 
-turns_told : (s after : State) (m : ℕ) (reading : Result Request Refusal) (given told : Reply) → Turns s m reading given after
+pub turns_told : (s after : State) (m : ℕ) (reading : Result Request Refusal) (given told : Reply) → Turns s m reading given after
     → (told ≡ given) ⊎ ((told ≡ reply.NoMemory) × (is_accepted given ≡ false)) → Turns s m reading told after
 turns_told s after m reading given told t (inl e) = rw e t
 turns_told s after m reading given told t (inr e) = rw e.0 (turns_no_memory s after m reading given t e.1)
@@ -49,6 +50,10 @@ turns_told s after m reading given told t (inr e) = rw e.0 (turns_no_memory s af
 -- where the service goes on, the reply is one that may be given
 pub follows_go : {K : Type 0} (s : State) (after : Served K) (m : ℕ) (reading : Result Request Refusal) (r : Reply × Next K) → Follows s m reading r → r.1 ≡ next.Go after → Turns s m reading r.0 after.state
 follows_go s after m reading (told, following) f e = rw e at f
+
+-- where it stops, the reply is its cause's
+pub follows_stop : {K : Type 0} (s : State) (m : ℕ) (reading : Result Request Refusal) (r : Reply × Next K) (why : Cause) (k : K) → Follows s m reading r → r.1 ≡ next.Stop why k → r.0 ≡ last_reply why
+follows_stop s m reading (told, following) why k f e = rw e at f
 
 one_more : (w moments : List ℕ) (s after : State) (line : List ℕ) (told : Reply) (more : List (List ℕ)) (all : Option (List ℕ)) (last : State) → is_skipped line ≡ false
     → Turns s (first_moment moments) (reading_of line) told after → MayWrite (Some (w ++ line_of told)) (Some (later_moments moments)) after more all last → MayWrite (Some w) (Some moments) s (line ∷ more) all last

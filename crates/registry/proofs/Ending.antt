@@ -1,5 +1,5 @@
 -- How a run ends, from how its parts did.
-use Rattle.std.proofs.Common.{◌≡◌, ◌≤◌, ◌^◌, List, ℕ, Bool, Option, Some, None, Result, Ok, Err, true, false, refl, ap, ◌∙◌, arith, ◌⊎◌, inl, inr}
+use Rattle.std.proofs.Common.{◌≡◌, ◌≤◌, ◌^◌, List, ℕ, Bool, Option, Some, None, Result, Ok, Err, true, false, refl, ap, ◌∙◌, arith, max, ◌⊎◌, inl, inr}
 use Rattle.std.specs.Prelude.{IfSome}
 use Rattle.std.specs.Io.KnownBytes.{append_known}
 use Rattle.reg_outside.specs.Faults.{Rose}
@@ -18,7 +18,7 @@ use Rattle.registry.specs.Kept.{RoseAt}
 use Rattle.registry.specs.Stops.{stop_of}
 use Rattle.registry.specs.declared.service.Cause.{Cause}
 use Rattle.registry.specs.declared.service.Cause.TheVariants as cause
-use Rattle.registry.specs.Status.{check_line}
+use Rattle.registry.specs.Status.{check_line, status_of}
 use Rattle.registry.specs.Ends.{Asked, StopCaused, World, IsOpen, IsFlushed, Caused, OpenCaused, Printed, name_reading, end_of_reply, end_of_stop, is_refused}
 use Rattle.registry.specs.declared.session.Stop.{Stop}
 use Rattle.registry.specs.declared.session.Stop.TheVariants as stop
@@ -85,7 +85,7 @@ told_query s m (Err r) = inr (refl, refl)
 
 told_name : (s : State) (m : ℕ) (name : List ℕ) (b : Bool) → is_name name ≡ b
     → (end_of_reply (turn s m (name_reading name)).0 ≡ the_end.Done) × (is_refused (turn s m (name_reading name)).0 ≡ false) ⊎ (end_of_reply (turn s m (name_reading name)).0 ≡ the_end.Refused) × (is_refused (turn s m (name_reading name)).0 ≡ true)
-told_name s m name true e = rw e (told_query s m (answer_of (query.Members name) (facts s.history)))
+told_name s m name true e = rw e (told_query s m (answer_of (query.Members name) (max s.clock m) (facts s.history)))
 told_name s m name false e = rw e (inr (refl, refl))
 
 replied_file : (held moments : Option (List ℕ)) (s : State) (m : ℕ) (name : List ℕ) (b : Bool) (w w2 : Option (List ℕ)) → IfSome held (λ file. opens file ≡ Ok s)
@@ -136,3 +136,39 @@ ask_stopped name end before after k k2 le same (inr p) = rw (p.0, same) (rose_fr
 pub stop_caused : (why : Cause) (before after : ℕ) → RoseAt why before after → StopCaused (end_of_stop (stop_of why)) before after
 stop_caused cause.Memory before after rose = inl refl
 stop_caused cause.Disk before after rose = inr (refl, rose)
+
+-- such ends have no status 0
+pub unopened_status : (end : End) (held : Option (List ℕ)) (before after : ℕ) → OpenCaused end held before after → status_of end ≡ 0 → ⊥
+unopened_status the_end.Done held before after h e = h
+unopened_status the_end.Usage held before after h e = h
+unopened_status the_end.Memory held before after h e = absurd (omega arith)
+unopened_status the_end.Disk held before after h e = absurd (omega arith)
+unopened_status the_end.Input held before after h e = h
+unopened_status the_end.Output held before after h e = h
+unopened_status (the_end.Damaged at) held before after h e = absurd (omega arith)
+unopened_status the_end.TooMuch held before after h e = h
+unopened_status the_end.Exists held before after h e = h
+unopened_status the_end.Refused held before after h e = h
+
+pub stop_status : (s : Stop) → status_of (end_of_stop s) ≡ 0 → ⊥
+stop_status stop.Memory e = absurd (omega arith)
+stop_status stop.Disk e = absurd (omega arith)
+stop_status stop.Input e = absurd (omega arith)
+stop_status stop.Output e = absurd (omega arith)
+stop_status stop.TooMuch e = absurd (omega arith)
+
+pub caused_status : (end : End) (before after : ℕ) → StopCaused end before after → status_of end ≡ 0 → ⊥
+caused_status end before after (inl is) e = let three : status_of end ≡ 3 = ap status_of is in absurd (omega (arith, three, e))
+caused_status end before after (inr is) e = let four : status_of end ≡ 4 = ap status_of is.0 in absurd (omega (arith, four, e))
+
+-- the name of a group asks for a query, which adds nothing
+pub name_keeps : (s : State) (m : ℕ) (name : List ℕ) → (turn s m (name_reading name)).1.history ≡ s.history
+name_keeps s m name = by_name (is_name name) refl
+  where
+    by_name : (b : Bool) → is_name name ≡ b → (turn s m (name_reading name)).1.history ≡ s.history
+    by_name true e = rw e refl
+    by_name false e = rw e refl
+
+pub name_turns : (s last : State) (m : ℕ) (name : List ℕ) (told : Reply) → Turns s m (name_reading name) told last → last.history ≡ s.history
+name_turns s last m name told (inl e) = ap (λ (p : Reply × State). p.1.history) e ∙ name_keeps s m name
+name_turns s last m name told (inr w) = w.history

@@ -49,6 +49,14 @@ feeds_line p q a b c bytes n h lacks there extended answered held =
 pub feeds_from : (p q r : Point) (a b c : PendingLine) (piece : List ℕ) (i n : ℕ) → Feeds p a (take i piece) q b → Feeds q b (take n (drop i piece)) r c → Feeds p a (take (i + n) piece) r c
 feeds_from p q r a b c piece i n f g = rw (take-add i n piece) (feeds_more p q r a b c (take i piece) (take n (drop i piece)) f g)
 
+-- nothing was taken
+pub taken_none : (left : Option (List ℕ)) (p : Point) (pending : PendingLine) → HasTaken left left p p pending pending 0
+taken_none left p pending = record { taken = []; input = same left; fed = feeds_none p pending; counted = refl }
+  where
+    same : (o : Option (List ℕ)) → o ≡ prepend_known [] o
+    same None = refl
+    same (Some bytes) = refl
+
 -- a piece more was taken
 pub taken_more : (left mid now : Option (List ℕ)) (p q r : Point) (a b c : PendingLine) (count n : ℕ) (piece : List ℕ) → HasTaken left mid p q a b count
     → mid ≡ prepend_known piece now → length piece ≡ n → Feeds q b piece r c → HasTaken left now p r a c (count + n)

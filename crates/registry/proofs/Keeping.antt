@@ -12,16 +12,27 @@ use Rattle.reg_wire.specs.Payload.{payload, IsWritable}
 use Rattle.reg_wire.proofs.Payloads.{payload_short}
 use Rattle.reg_keep.specs.declared.keeper.Keeper.{Ghosts}
 use Rattle.reg_keep.specs.Keeping.{IsOneOf, AreOneOf}
-use Rattle.registry.specs.Opening.{payloads_of, IsServed, Served}
-use Rattle.registry.specs.Kept.{KeptOn, IsBetween, IsLastOrOneLess, Stopped, Halted, KeepsNext, RoseAt}
+use Rattle.registry.specs.Opening.{payloads_of, IsServed, Served, Reopens}
+use Rattle.registry.specs.Kept.{KeptOn, IsBetween, IsOneMore, Stopped, Halted, KeepsNext, Began, RoseAt}
 use Rattle.registry.specs.Stops.{stop_of}
+use Rattle.registry.specs.Turn.{requested, decided, turn, at_moment}
+use Rattle.reg_view.specs.declared.request.Request.{Request}
+use Rattle.reg_view.specs.declared.request.Op.{Op}
+use Rattle.reg_view.specs.declared.request.Op.TheVariants as op
+use Rattle.reg_base.specs.declared.entity.Entity.{Entity}
+use Rattle.reg_facts.specs.declared.command.Command.{Command}
+use Rattle.reg_facts.specs.declared.refusal.Refusal.{Refusal}
+use Rattle.reg_facts.specs.declared.refusal.Refusal.TheVariants.{BadWindow}
+use Rattle.registry.specs.Pending.{Tells}
+use Rattle.registry.specs.declared.pending.LineReading.{LineReading}
+use Rattle.registry.specs.declared.pending.LineReading.TheVariants as read
 use Rattle.registry.specs.declared.service.Next.{Next}
 use Rattle.registry.specs.declared.service.Next.TheVariants as next
 use Rattle.registry.specs.declared.service.Cause.{Cause}
 use Rattle.registry.specs.declared.service.Cause.TheVariants as cause
 use Rattle.registry.specs.declared.session.Stop.{Stop}
 use Rattle.registry.specs.declared.session.Stop.TheVariants as stop
-use Rattle.registry.proofs.Opens.{payloads_more, served_more}
+use Rattle.registry.proofs.Opens.{payloads_more, served_more, opens_more}
 
 between_same : (h : List Stamped) (r : Result (List (List ℕ)) ℕ) → r ≡ Ok (payloads_of h) → IsBetween h h r
 between_same h r e = (length h, omega arith, omega arith, e ∙ ap (λ (l : List Stamped). Ok (payloads_of l)) (sym (take_all (length h) h (omega arith))))
@@ -99,18 +110,19 @@ told_failed (Some ps) new p (inl e) = rw e refl
 told_failed (Some ps) new p (inr e) = rw e refl
 
 -- after an append that failed a stop leaves the history with the command or without it
-pub stopped_one : {K : Type 0} (g : Ghosts K) (s : State) (st : Stamped) (old new : K) → IsServed s (g.payloads old) (g.has_failed old)
+pub stopped_one : {K : Type 0} (g : Ghosts K) (s : State) (st : Stamped) (old new : K) → IsServed s (g.payloads old) (g.has_failed old) → st.at ≡ s.clock
+    → refusal s.history st.command ≡ None → IsWritable st
     → ((r : Result (List (List ℕ)) ℕ) → g.keep_moment old ≤ g.keep_moment new → g.stop_leaves new r → g.stopped_since new (g.keep_moment old) r)
-    → IfSome (g.payloads old) (λ ps. Leaves g.keep_moment g.stopped_since (IsOneOf ps (payload st)) old new) → IfSome (g.payloads old) (λ ps. Stopped g (s.history ++ st ∷ []) new)
-stopped_one g s st old new served counts leaves = stopped (g.payloads old) served.payloads leaves
+    → IfSome (g.payloads old) (λ ps. Leaves g.keep_moment g.stopped_since (IsOneOf ps (payload st)) old new) → IfSome (g.payloads old) (λ ps. Stopped g s.history (s.history ++ st ∷ []) new)
+stopped_one g s st old new served at sure w counts leaves = stopped (g.payloads old) served.payloads leaves
   where
-    less : (ps : List (List ℕ)) (r : Result (List (List ℕ)) ℕ) → ps ≡ payloads_of s.history → IsOneOf ps (payload st) r → IsLastOrOneLess (s.history ++ st ∷ []) r
-    less ps r is (inl e) = inr (s.history, st, refl, e ∙ ap (λ (l : List (List ℕ)). Ok l) is)
-    less ps r is (inr e) = inl (e ∙ (ap (λ (l : List (List ℕ)). Ok (l ++ payload st ∷ [])) is ∙ ap (λ (l : List (List ℕ)). Ok l) (sym (payloads_more s.history st))))
+    again : Reopens (s.history ++ st ∷ [])
+    again = opens_more s.history st (omega (arith, served.last)) sure w served.opens
 
-    stopped : (o : Option (List (List ℕ))) → IfSome o (λ ps. ps ≡ payloads_of s.history) → IfSome o (λ ps. Leaves g.keep_moment g.stopped_since (IsOneOf ps (payload st)) old new) → IfSome o (λ ps. Stopped g (s.history ++ st ∷ []) new)
+    stopped : (o : Option (List (List ℕ))) → IfSome o (λ ps. ps ≡ payloads_of s.history) → IfSome o (λ ps. Leaves g.keep_moment g.stopped_since (IsOneOf ps (payload st)) old new)
+        → IfSome o (λ ps. Stopped g s.history (s.history ++ st ∷ []) new)
     stopped None is l = tt
-    stopped (Some ps) is l = inr (λ r left. less ps r is (l.each r (counts r l.later left)))
+    stopped (Some ps) is l = (again, λ r left. between_one s.history st ps r is (l.each r (counts r l.later left)))
 
 -- the same where the values are told by equations
 pub kept_at : {K : Type 0} (g : Ghosts K) (s : State) (k k0 : K) (h0 h1 : List Stamped) → IsServed s (g.payloads k) (g.has_failed k)
@@ -120,16 +132,29 @@ pub kept_at : {K : Type 0} (g : Ghosts K) (s : State) (k k0 : K) (h0 h1 : List S
 kept_at g s k k0 h0 h1 served now only a b c =
     subst (λ (h : List Stamped). KeptOn g h k0 h1 k) a (subst (λ (x : _). KeptOn g s.history x h1 k) b (subst (λ (h : List Stamped). KeptOn g s.history k h k) c (kept_same g s k served now only)))
 
+-- a stop leaves the history of a service that goes on
+pub leaves_history : {K : Type 0} (g : Ghosts K) (s : State) (k : K) → IsServed s (g.payloads k) (g.has_failed k)
+    → ((r : Result (List (List ℕ)) ℕ) → g.has_failed k ≡ false → g.stop_leaves k r → (ps : List (List ℕ)) × (g.payloads k ≡ Some ps) × (r ≡ Ok ps))
+    → (r : Result (List (List ℕ)) ℕ) → g.stop_leaves k r → r ≡ Ok (payloads_of s.history)
+leaves_history g s k served now r left =
+    let found = now r served.going left in
+    let is : found.0 ≡ payloads_of s.history = subst (λ (o : Option (List (List ℕ))). IfSome o (λ ps. ps ≡ payloads_of s.history)) found.1 served.payloads in
+    found.2 ∙ ap (λ (l : List (List ℕ)). Ok l) is
+
+-- a keeper that each stop leaves with this history
+pub stopped_whole : {K : Type 0} (g : Ghosts K) (s : State) (h : List Stamped) (k : K) (o told : Option (List (List ℕ))) (failed : Bool) → IsServed s told failed → s.history ≡ h
+    → ((r : Result (List (List ℕ)) ℕ) → g.stop_leaves k r → r ≡ Ok (payloads_of s.history)) → IfSome o (λ ps. Stopped g h h k)
+stopped_whole g s h k None told failed served is left = tt
+stopped_whole g s h k (Some ps) told failed served is left =
+    subst (λ (l : List Stamped). Stopped g l l k) is (served.opens, λ r here. between_same s.history r (left r here))
+
 -- a service that stopped for want of memory has its history
 pub stopped_at : {K : Type 0} (g : Ghosts K) (s : State) (k k0 : K) (h0 : List Stamped) → IsServed s (g.payloads k) (g.has_failed k)
     → ((r : Result (List (List ℕ)) ℕ) → g.has_failed k ≡ false → g.stop_leaves k r → (ps : List (List ℕ)) × (g.payloads k ≡ Some ps) × (r ≡ Ok ps))
     → ((r : Result (List (List ℕ)) ℕ) → g.stopped_since k (g.keep_moment k) r → g.stop_leaves k r)
-    → s.history ≡ h0 → k ≡ k0 → (x : List Stamped) × KeptOn g h0 k0 x k × IfSome (g.payloads k0) (λ ps. Stopped g x k) × Unit {0}
-stopped_at g s k k0 h0 served now only a b = (s.history, kept_at g s k k0 h0 s.history served now only a b refl, stopped (g.payloads k0), tt)
-  where
-    stopped : (o : Option (List (List ℕ))) → IfSome o (λ ps. Stopped g s.history k)
-    stopped None = tt
-    stopped (Some ps) = inl (s, refl, served)
+    → s.history ≡ h0 → k ≡ k0 → (x : List Stamped) × (x ≡ h0) × KeptOn g h0 k0 x k × IfSome (g.payloads k0) (λ ps. Stopped g h0 x k) × Unit {0}
+stopped_at g s k k0 h0 served now only a b =
+    (h0, refl, kept_at g s k k0 h0 h0 served now only a b a, stopped_whole g s h0 k (g.payloads k0) (g.payloads k) (g.has_failed k) served a (leaves_history g s k served now), tt)
 
 -- an accepted command that is kept is served
 pub served_one : (s m : State) (st : Stamped) (bytes : List ℕ) (told told2 : Option (List (List ℕ))) (failed failed2 : Bool) → IsServed s told failed → st.at ≡ s.clock
@@ -153,18 +178,24 @@ kept_ok g s m st bytes old new served at is same object later kept leaves =
     rw history (kept_one g s st old new served object later (told_kept (g.payloads old) (g.payloads new) (λ ps. ps ++ bytes ∷ []) kept) (with_payload g st bytes old new same leaves))
 
 -- an append that failed
-pub kept_err : {K : Type 0} (g : Ghosts K) (s : State) (st : Stamped) (bytes : List ℕ) (old new : K) → IsServed s (g.payloads old) (g.has_failed old)
+pub kept_err : {K : Type 0} (g : Ghosts K) (s : State) (st : Stamped) (bytes : List ℕ) (old new : K) (expected : List Stamped) → IsServed s (g.payloads old) (g.has_failed old) → st.at ≡ s.clock
+    → refusal s.history st.command ≡ None → IsWritable st → expected ≡ s.history ++ st ∷ []
     → bytes ≡ payload st → g.keep_name new ≡ g.keep_name old → g.keep_faults old ≤ g.keep_faults new → Rose (g.keep_faults old) (g.keep_faults new) → AreOneOf (g.payloads old) bytes (g.payloads new)
     → ((t : ℕ) (r : Result (List (List ℕ)) ℕ) → t ≤ g.keep_moment new → g.stop_leaves new r → g.stopped_since new t r)
     → IfSome (g.payloads old) (λ ps. Leaves g.keep_moment g.stopped_since (IsOneOf ps bytes) old new)
-    → (x : List Stamped) × KeptOn g s.history old x new × IfSome (g.payloads old) (λ ps. Stopped g x new) × Rose (g.keep_faults old) (g.keep_faults new)
-kept_err g s st bytes old new served same object later rose failed counts leaves =
+    → (x : List Stamped) × ((x ≡ s.history) ⊎ (x ≡ expected)) × KeptOn g s.history old x new × IfSome (g.payloads old) (λ ps. Stopped g s.history x new) × Rose (g.keep_faults old) (g.keep_faults new)
+kept_err g s st bytes old new expected served at sure w would same object later rose failed counts leaves =
     let all = with_payload g st bytes old new same leaves in (
       s.history ++ st ∷ [],
+      inr (sym would),
       kept_one g s st old new served object later (told_failed (g.payloads old) (g.payloads new) bytes failed) all,
-      stopped_one g s st old new served (λ r le left. counts (g.keep_moment old) r le left) all,
+      stopped_one g s st old new served at sure w (λ r le left. counts (g.keep_moment old) r le left) all,
       rose,
     )
+
+-- what an accepted command would lead to
+pub would_keep : (s : State) (st : Stamped) → st.at ≡ s.clock → refusal s.history st.command ≡ None → (requested s st.by (op.Command st.command)).1.history ≡ s.history ++ st ∷ []
+would_keep s st at sure = rw (sure, ← at) refl
 
 between_first : (h0 h1 h2 more : List Stamped) (r : Result (List (List ℕ)) ℕ) → h2 ≡ h1 ++ more → IsBetween h0 h1 r → IsBetween h0 h2 r
 between_first h0 h1 h2 more r grown b =
@@ -216,56 +247,93 @@ kept_then g h0 h1 h2 k0 k1 k2 a b = record {
     crash (Some ps) (Some qs) t x y = both x y
 
 -- and from a second moment to a stop
-pub halted_then : {K : Type 0} (g : Ghosts K) (h0 h1 : List Stamped) (k0 k1 k2 : K) → KeptOn g h0 k0 h1 k1 → Halted g h1 k1 k2 → Halted g h0 k0 k2
-halted_then g h0 h1 k0 k1 k2 a b = (b.0, kept_then g h0 h1 b.0 k0 k1 k2 a b.1, stopped (g.payloads k0) (g.payloads k1) a.told b.2)
+abbrev pub halted_then : {K : Type 0} (g : Ghosts K) (h0 h1 : List Stamped) (k0 k1 k2 : K) → KeptOn g h0 k0 h1 k1 → Halted g h1 k1 k2 → Halted g h0 k0 k2
+halted_then g h0 h1 k0 k1 k2 a b = record {
+  answered = b.answered;
+  after = b.after;
+  first = omega (arith, b.first, ap (λ (l : List Stamped). length l) a.grown, length-append h0 a.more);
+  last = b.last;
+  kept = kept_then g h0 h1 b.after k0 k1 k2 a b.kept;
+  stopped = stopped (g.payloads k0) (g.payloads k1) a.told b.stopped;
+}
   where
-    stopped : (o p : Option (List (List ℕ))) → IfSome o (λ ps. is_some p ≡ true) → IfSome p (λ ps. Stopped g b.0 k2) → IfSome o (λ ps. Stopped g b.0 k2)
+    stopped : (o p : Option (List (List ℕ))) → IfSome o (λ ps. is_some p ≡ true) → IfSome p (λ ps. Stopped g b.answered b.after k2) → IfSome o (λ ps. Stopped g b.answered b.after k2)
     stopped None p t x = tt
     stopped (Some ps) None t x = absurd (cc)
     stopped (Some ps) (Some qs) t x = x
 
--- a stop leaves the history of a service that goes on
-pub leaves_history : {K : Type 0} (g : Ghosts K) (s : State) (k : K) → IsServed s (g.payloads k) (g.has_failed k)
-    → ((r : Result (List (List ℕ)) ℕ) → g.has_failed k ≡ false → g.stop_leaves k r → (ps : List (List ℕ)) × (g.payloads k ≡ Some ps) × (r ≡ Ok ps))
-    → (r : Result (List (List ℕ)) ℕ) → g.stop_leaves k r → r ≡ Ok (payloads_of s.history)
-leaves_history g s k served now r left =
-    let found = now r served.going left in
-    let is : found.0 ≡ payloads_of s.history = subst (λ (o : Option (List (List ℕ))). IfSome o (λ ps. ps ≡ payloads_of s.history)) found.1 served.payloads in
-    found.2 ∙ ap (λ (l : List (List ℕ)). Ok l) is
-
 -- what follows a request, as it goes on
-pub next_kept : {K : Type 0} (g : Ghosts K) (before : List Stamped) (old : K) (n : Next K) (s : Served K) → KeepsNext g before old n → n ≡ next.Go s → KeptOn g before old s.state.history s.keeper
-next_kept g before old n s kept is = subst (KeepsNext g before old) is kept
+pub next_kept : {K : Type 0} (g : Ghosts K) (before expected : List Stamped) (old : K) (n : Next K) (s : Served K) → KeepsNext g before expected old n → n ≡ next.Go s → KeptOn g before old s.state.history s.keeper
+next_kept g before expected old n s kept is = subst (KeepsNext g before expected old) is kept
+
+pub one_more : (why : Cause) (before expected after : List Stamped) → IsOneMore before expected → Began why before expected after → IsOneMore before after
+one_more cause.Memory before expected after more e = inl e
+one_more cause.Disk before expected after more (inl e) = inl e
+one_more cause.Disk before expected after more (inr e) = subst (IsOneMore before) (sym e) more
 
 -- as it stops
-pub next_halted : {K : Type 0} (g : Ghosts K) (before : List Stamped) (old : K) (n : Next K) (why : Cause) (k : K) → KeepsNext g before old n → n ≡ next.Stop why k → Halted g before old k
-next_halted g before old n why k kept is =
-    let all : KeepsNext g before old (next.Stop why k) = subst (KeepsNext g before old) is kept in
-    (all.0, all.1, all.2)
+abbrev pub next_halted : {K : Type 0} (g : Ghosts K) (before expected : List Stamped) (old : K) (n : Next K) (why : Cause) (k : K) → KeepsNext g before expected old n → n ≡ next.Stop why k → IsOneMore before expected → Halted g before old k
+next_halted g before expected old n why k kept is more =
+    let all : KeepsNext g before expected old (next.Stop why k) = subst (KeepsNext g before expected old) is kept in
+    record { answered = before; after = all.0; first = omega arith; last = one_more why before expected all.0 more all.1; kept = all.2; stopped = all.3 }
 
-pub next_cause : {K : Type 0} (g : Ghosts K) (before : List Stamped) (old : K) (n : Next K) (why : Cause) (k : K) → KeepsNext g before old n → n ≡ next.Stop why k → RoseAt why (g.keep_faults old) (g.keep_faults k)
-next_cause g before old n why k kept is =
-    let all : KeepsNext g before old (next.Stop why k) = subst (KeepsNext g before old) is kept in all.3
+-- as it stops where nothing was to be kept
+pub next_same : {K : Type 0} (g : Ghosts K) (before expected : List Stamped) (old : K) (n : Next K) (why : Cause) (k : K) → KeepsNext g before expected old n → n ≡ next.Stop why k → expected ≡ before
+    → (h : Halted g before old k) × (h.after ≡ before)
+next_same g before expected old n why k kept is same =
+    let all : KeepsNext g before expected old (next.Stop why k) = subst (KeepsNext g before expected old) is kept in
+    let after : all.0 ≡ before = unchanged why all.0 all.1 in
+    (record { answered = before; after = all.0; first = omega arith; last = inl after; kept = all.2; stopped = all.3 }, after)
+  where
+    unchanged : (why : Cause) (x : List Stamped) → Began why before expected x → x ≡ before
+    unchanged cause.Memory x e = e
+    unchanged cause.Disk x (inl e) = e
+    unchanged cause.Disk x (inr e) = e ∙ same
+
+pub next_cause : {K : Type 0} (g : Ghosts K) (before expected : List Stamped) (old : K) (n : Next K) (why : Cause) (k : K) → KeepsNext g before expected old n → n ≡ next.Stop why k → RoseAt why (g.keep_faults old) (g.keep_faults k)
+next_cause g before expected old n why k kept is =
+    let all : KeepsNext g before expected old (next.Stop why k) = subst (KeepsNext g before expected old) is kept in all.4
 
 rose_at : (why : Cause) (old new : ℕ) → stop_of why ≡ stop.Disk → RoseAt why old new → Rose old new
 rose_at cause.Memory old new e rose = absurd (cc)
 rose_at cause.Disk old new e rose = rose
 
-pub next_rose : {K : Type 0} (g : Ghosts K) (before : List Stamped) (old : K) (n : Next K) (why : Cause) (k : K) (s : Stop) → KeepsNext g before old n → n ≡ next.Stop why k → s ≡ stop_of why → s ≡ stop.Disk
+pub next_rose : {K : Type 0} (g : Ghosts K) (before expected : List Stamped) (old : K) (n : Next K) (why : Cause) (k : K) (s : Stop) → KeepsNext g before expected old n → n ≡ next.Stop why k → s ≡ stop_of why → s ≡ stop.Disk
     → Rose (g.keep_faults old) (g.keep_faults k)
-next_rose g before old n why k s kept is of disk =
-    let all : KeepsNext g before old (next.Stop why k) = subst (KeepsNext g before old) is kept in
-    rose_at why (g.keep_faults old) (g.keep_faults k) (sym of ∙ disk) all.3
+next_rose g before expected old n why k s kept is of disk = rose_at why (g.keep_faults old) (g.keep_faults k) (sym of ∙ disk) (next_cause g before expected old n why k kept is)
 
--- and as it goes on to a reply that isn't written
-pub go_halted : {K : Type 0} (g : Ghosts K) (before : List Stamped) (old : K) (s : Served K) (k : K) → KeptOn g before old s.state.history s.keeper → k ≡ s.keeper → IsServed s.state (g.payloads k) (g.has_failed k) → Halted g before old k
-go_halted g before old s k kept is served = (s.state.history, subst (λ (x : _). KeptOn g before old s.state.history x) (sym is) kept, stopped (g.payloads old))
-  where
-    stopped : (o : Option (List (List ℕ))) → IfSome o (λ ps. Stopped g s.state.history k)
-    stopped None = tt
-    stopped (Some ps) = inl (s.state, refl, served)
+-- and as it goes on to a reply that isn't written, or gives its keeper back
+abbrev pub go_halted : {K : Type 0} (g : Ghosts K) (before : List Stamped) (old : K) (s : Served K) (k : K) → KeptOn g before old s.state.history s.keeper → k ≡ s.keeper → IsServed s.state (g.payloads k) (g.has_failed k)
+    → ((r : Result (List (List ℕ)) ℕ) → g.stop_leaves k r → r ≡ Ok (payloads_of s.state.history)) → Halted g before old k
+go_halted g before old s k kept is served left = record {
+  answered = s.state.history;
+  after = s.state.history;
+  first = omega (arith, ap (λ (l : List Stamped). length l) kept.grown, length-append before kept.more);
+  last = inl refl;
+  kept = subst (λ (x : _). KeptOn g before old s.state.history x) (sym is) kept;
+  stopped = stopped_whole g s.state s.state.history k (g.payloads old) (g.payloads k) (g.has_failed k) served refl left;
+}
 
 -- what holds of an error that is passed on
 pub err_by : {T E : Type 0} (P : E → Type 0) (r : Result T E) (e : E) → IsErrAnd r (λ y. y ≡ e) → P e → IfErr r P
 err_by P (Ok x) e is p = tt
 err_by P (Err y) e is p = subst P (sym is) p
+
+decided_one : (s : State) (by : Entity) (command : Command) (r : Option Refusal) → IsOneMore s.history (decided s by command r).1.history
+decided_one s by command None = inr (record { at = s.clock; by = by; command = command }, refl)
+decided_one s by command (Some r) = inl refl
+
+requested_one : (s : State) (by : Entity) (asked : Op) → IsOneMore s.history (requested s by asked).1.history
+requested_one s by (op.Command command) = decided_one s by command (refusal s.history command)
+requested_one s by (op.Query query) = inl refl
+
+-- a turn leads to the history, or to one command more
+pub turn_one : (s : State) (m : ℕ) (reading : Result Request Refusal) → IsOneMore s.history (turn s m reading).1.history
+turn_one s m (Ok request) = requested_one (at_moment s m) request.by request.op
+turn_one s m (Err r) = inl refl
+
+-- something is told by each reading
+pub told_of : (reading : LineReading) → (told : Result Request Refusal) × Tells reading told
+told_of (read.Asked request) = (Ok request, refl)
+told_of (read.Refused refusal) = (Err refusal, refl)
+told_of read.NoMemory = (Err BadWindow, tt)

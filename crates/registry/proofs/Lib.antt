@@ -5,6 +5,7 @@ pub mod Ending
 pub mod Feeding
 pub mod Keeping
 pub mod Long
+pub mod Numbering
 pub mod Opened
 pub mod Opens
 pub mod Writable

@@ -37,7 +37,8 @@ start_caused (fault.Damaged at) held records before after opens damaged never = 
 start_caused fault.Fault held records before after opens damaged never = absurd (never refl)
 start_caused fault.NoMemory held records before after opens damaged never = tt
 
-opens_by : (c : List ℕ) (h : List Stamped) (r : Result Records ℕ) → opened c ≡ r → only_payloads r ≡ Ok (payloads_of h)
+-- a file with the payloads of what opens again
+pub opens_by : (c : List ℕ) (h : List Stamped) (r : Result Records ℕ) → opened c ≡ r → only_payloads r ≡ Ok (payloads_of h)
     → ((records : Records) → texts records ≡ payloads_of h → judged start records ≡ Ok (at_last h)) → opens c ≡ Ok (at_last h)
 opens_by c h (Ok records) is e opens = let same : texts records ≡ payloads_of h = cc in judged_of (opened c) (Ok records) is ∙ opens records same
 opens_by c h (Err place) is e opens = absurd (cc)

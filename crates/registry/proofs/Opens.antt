@@ -1,13 +1,14 @@
 -- What records open to, and that a history with one more accepted command opens again.
-use Rattle.std.proofs.Common.{◌≡◌, ◌≤◌, ◌++◌, ◌∷◌, [], List, ℕ, Bool, Option, Some, None, Result, Ok, Err, true, false, refl, ap, sym, ◌∙◌, append_assoc, append-nil, subst, map, arith, option_map}
+use Rattle.std.proofs.Common.{◌≡◌, ◌≤◌, ◌++◌, ◌∷◌, [], List, ℕ, Bool, Option, Some, None, Result, Ok, Err, true, false, refl, ap, sym, ◌∙◌, append_assoc, append-nil, subst, map, arith, option_map, suc, length, take, drop}
 use Rattle.std.specs.Prelude.{IfSome, nat_lt, if◌then◌else◌}
 use Rattle.std.proofs.lemmas.Bool.Decides.{nat_tests}
+use Rattle.std.proofs.lemmas.List.{take-append-drop, map-append, length-take-le, take_at}
 use Rattle.reg_facts.specs.declared.command.Stamped.{Stamped}
 use Rattle.reg_facts.specs.declared.refusal.Refusal.{Refusal}
 use Rattle.reg_machine.specs.History.{State, start, refusal, appended}
 use Rattle.reg_wire.specs.Payload.{payload, stamped_of, IsWritable}
 use Rattle.reg_wire.proofs.Payloads.{reads_back, one_payload}
-use Rattle.registry.specs.Opening.{payloads_of, last_from, at_last, accepted, after_stamped, after_payload, or_place, and_then, judged, IsServed}
+use Rattle.registry.specs.Opening.{payloads_of, last_from, at_last, accepted, after_stamped, after_payload, or_place, and_then, judged, IsServed, Reopens}
 
 abbrev pub Records : Type 0
 Records = List (ℕ × List ℕ)
@@ -48,6 +49,8 @@ last_more m (x ∷ xs) s = last_more x.at xs s
 -- a stamped command that was accepted is at the end of the history, at the clock
 pub record IsAfter (s : State) (bytes : List ℕ) (t : State) : Type 0 where
   pub history : payloads_of t.history ≡ payloads_of s.history ++ bytes ∷ []
+  pub one : Stamped
+  pub grown : t.history ≡ s.history ++ one ∷ []
   pub clock : t.clock ≡ last_from 0 t.history
 
 accepted_after : (s t : State) (bytes : List ℕ) (stamped : Stamped) (r : Option Refusal) → payload stamped ≡ bytes → accepted s stamped r ≡ Some t → IsAfter s bytes t
@@ -56,6 +59,8 @@ accepted_after s t bytes stamped None p e =
     let is : appended (record { history = s.history; clock = stamped.at }) stamped.by stamped.command ≡ t = cc in
     subst (λ (x : State). IsAfter s bytes x) is (record {
       history = payloads_more s.history stamped ∙ ap (λ (b : List ℕ). payloads_of s.history ++ b ∷ []) p;
+      one = stamped;
+      grown = refl;
       clock = sym (last_more 0 s.history stamped);
     })
 
@@ -74,6 +79,9 @@ payload_after s t bytes e = stamped_after s t bytes (stamped_of bytes) refl e
 
 pub record IsJudged (s : State) (records : Records) (t : State) : Type 0 where
   pub history : payloads_of t.history ≡ payloads_of s.history ++ texts records
+  pub more : List Stamped
+  pub grown : t.history ≡ s.history ++ more
+  pub count : length more ≡ length records
   pub clock : t.clock ≡ last_from 0 t.history
 
 judged_first : (s t : State) (r : ℕ × List ℕ) (rs : Records) (o : Option State) → after_payload s r.1 ≡ o
@@ -82,12 +90,18 @@ judged_first s t r rs None is more e = absurd (cc)
 judged_first s t r rs (Some a) is more e =
     let one = payload_after s a r.1 is in
     let rest = more a e one.clock in
-    record { history = rest.history ∙ (ap (λ (l : List (List ℕ)). l ++ texts rs) one.history ∙ append_assoc (payloads_of s.history) (r.1 ∷ []) (texts rs)); clock = rest.clock }
+    record {
+      history = rest.history ∙ (ap (λ (l : List (List ℕ)). l ++ texts rs) one.history ∙ append_assoc (payloads_of s.history) (r.1 ∷ []) (texts rs));
+      more = one.one ∷ rest.more;
+      grown = rest.grown ∙ (ap (λ (l : List Stamped). l ++ rest.more) one.grown ∙ append_assoc s.history (one.one ∷ []) rest.more);
+      count = ap suc rest.count;
+      clock = rest.clock;
+    }
 
 pub is_judged : (s t : State) (records : Records) → judged s records ≡ Ok t → s.clock ≡ last_from 0 s.history → IsJudged s records t
 is_judged s t [] e at =
     let is : s ≡ t = cc in
-    subst (λ (x : State). IsJudged s [] x) is (record { history = sym (append-nil (payloads_of s.history)); clock = at })
+    subst (λ (x : State). IsJudged s [] x) is (record { history = sym (append-nil (payloads_of s.history)); more = []; grown = sym (append-nil s.history); count = refl; clock = at })
 is_judged s t (r ∷ rs) e at = judged_first s t r rs (after_payload s r.1) refl (λ a. is_judged a t rs) e
 
 -- what records open to can be served
@@ -136,7 +150,7 @@ after_written history stamped later sure w =
     let clock : stamped.at ≡ last_from 0 (history ++ stamped ∷ []) = sym (last_more 0 history stamped) in
     rw (reads_back stamped w, in_time, sure) (ap (λ (n : ℕ). Some (record { history = history ++ stamped ∷ []; clock = n })) clock)
 
-opens_more : (history : List Stamped) (stamped : Stamped) → last_from 0 history ≤ stamped.at → refusal history stamped.command ≡ None → IsWritable stamped
+pub opens_more : (history : List Stamped) (stamped : Stamped) → last_from 0 history ≤ stamped.at → refusal history stamped.command ≡ None → IsWritable stamped
     → ((records : Records) → texts records ≡ payloads_of history → judged start records ≡ Ok (at_last history))
     → (records : Records) → texts records ≡ payloads_of (history ++ stamped ∷ []) → judged start records ≡ Ok (at_last (history ++ stamped ∷ []))
 opens_more history stamped later sure w opens records is =
@@ -161,3 +175,46 @@ served_more s stamped told told2 failed failed2 served at sure w kept going =
         → IfSome told2 (λ ps. ps ≡ payloads_of (s.history ++ stamped ∷ []))
     with_one None h e = rw e tt
     with_one (Some ps) h e = rw e (ap (λ (l : List (List ℕ)). l ++ payload stamped ∷ []) h ∙ sym (payloads_more s.history stamped))
+
+texts_front : (xs ys : Records) → texts (xs ++ ys) ≡ texts xs ++ texts ys
+texts_front [] ys = refl
+texts_front (x ∷ xs) ys = ap (λ (l : List (List ℕ)). x.1 ∷ l) (texts_front xs ys)
+
+-- records with a history's payloads
+some_records : List Stamped → Records
+some_records [] = []
+some_records (s ∷ ss) = (0, payload s) ∷ some_records ss
+
+their_texts : (ss : List Stamped) → texts (some_records ss) ≡ payloads_of ss
+unfolding some_records
+their_texts [] = refl
+their_texts (s ∷ ss) = ap (λ (l : List (List ℕ)). payload s ∷ l) (their_texts ss)
+
+cut_payloads : (n : ℕ) (ss : List Stamped) → payloads_of (take n ss) ++ payloads_of (drop n ss) ≡ payloads_of ss
+cut_payloads n ss = sym (map-append payload (take n ss) (drop n ss)) ∙ ap payloads_of (take-append-drop n ss)
+
+as_many : (records : Records) (ss : List Stamped) → texts records ≡ payloads_of ss → length records ≡ length ss
+as_many [] [] e = refl
+as_many [] (s ∷ ss) e = absurd (cc)
+as_many (r ∷ rs) [] e = absurd (cc)
+as_many (r ∷ rs) (s ∷ ss) e = let rest : texts rs ≡ payloads_of ss = cc in ap suc (as_many rs ss rest)
+
+front_opens : (h : List Stamped) (n : ℕ) (xs ys : Records) (o : Result State ℕ) → judged start xs ≡ o → length xs ≡ n → and_then o (λ t. judged t ys) ≡ Ok (at_last h) → o ≡ Ok (at_last (take n h))
+front_opens h n xs ys (Err place) is many e = absurd (cc)
+front_opens h n xs ys (Ok a) is many e =
+    let one = is_judged start a xs is refl in
+    let two = is_judged a (at_last h) ys e one.clock in
+    let count : length a.history ≡ n = ap (λ (l : List Stamped). length l) one.grown ∙ (one.count ∙ many) in
+    let same : a.history ≡ take n h = sym (ap (λ (l : List Stamped). take n l) two.grown ∙ take_at a.history two.more n count) in
+    let last : a ≡ at_last a.history = ap (λ (k : ℕ). record { history = a.history; clock = k }) one.clock in
+    ap (λ (x : State). Ok x) (last ∙ ap at_last same)
+
+-- each front of a history that opens again opens again
+pub front_reopens : (h : List Stamped) (n : ℕ) → n ≤ length h → Reopens h → Reopens (take n h)
+front_reopens h n le opens records is =
+    let ys : Records = some_records (drop n h) in
+    let all : texts (records ++ ys) ≡ payloads_of h = texts_front records ys ∙ (cc_two (texts records) (texts ys) is (their_texts (drop n h)) ∙ cut_payloads n h) in
+    front_opens h n records ys (judged start records) refl (as_many records (take n h) is ∙ length-take-le n h le) (sym (judged_append start records ys) ∙ opens (records ++ ys) all)
+  where
+    cc_two : (a b : List (List ℕ)) {c d : List (List ℕ)} → a ≡ c → b ≡ d → a ++ b ≡ c ++ d
+    cc_two a b e f = rw (e, f) refl

@@ -1,5 +1,5 @@
 -- What a line asks can be kept.
-use Rattle.std.proofs.Common.{◌≡◌, ◌≤◌, List, ℕ, Bool, true, Ok, refl, sym, ◌∙◌, arith, nat_le}
+use Rattle.std.proofs.Common.{◌≡◌, ◌≤◌, List, ℕ, true, Ok, refl, arith}
 use Rattle.std.proofs.lemmas.Bool.Decides.{nat_tests}
 use Rattle.reg_base.specs.declared.entity.Entity.{Entity}
 use Rattle.reg_base.specs.declared.entity.Entity.TheVariants.{System}

@@ -1,22 +1,87 @@
--- What a crash at any moment of a run leaves of the disk.
-use Rattle.std.specs.Prelude.{◌≡◌, ◌⊎◌, ℕ, List, ◌++◌, Ok, IfSome}
+-- What a crash leaves of the disk: at any moment of a run, and after it.
+use Rattle.std.specs.Prelude.{◌≡◌, ◌⊎◌, ◌≤◌, ◌+◌, ℕ, List, [], ◌∷◌, ◌++◌, length, take, Option, Some, None, Ok, Err, IfSome}
 use Rattle.reg_facts.specs.declared.command.Stamped.{Stamped}
-use Rattle.reg_machine.specs.History.{State}
+use Rattle.reg_machine.specs.History.{State, start}
 use Rattle.reg_outside.specs.declared.disk.Disk.{Ghosts}
 use Rattle.reg_keep.specs.Frames.{payloads_in}
-use Rattle.registry.specs.Opening.{opens}
-use Rattle.registry.specs.Kept.{IsBetween}
+use Rattle.registry.specs.Opening.{opens, at_last}
+use Rattle.registry.specs.Ends.{World}
+use Rattle.registry.specs.Run.{Written, ToldFront, numbers, places}
+use Rattle.registry.specs.declared.task.Task.{Task}
+use Rattle.registry.specs.declared.task.Task.TheVariants as task
 
--- the file has the payloads, or the damage, that an image of this disk had
-abbrev pub AsBefore : {D : Type 0} → Ghosts D → D → List ℕ → Type 0
-AsBefore g old file = (c : List ℕ) × g.may_leave old c × (payloads_in file ≡ payloads_in c)
+-- the file has the payloads, or the damage, that one of these images had
+abbrev pub AsBefore : (List ℕ → Type 0) → List ℕ → Type 0
+AsBefore was file = (c : List ℕ) × was c × (payloads_in file ≡ payloads_in c)
 
--- Each image since the start has what an image at the start had, or the payloads of the starting history followed by a
--- prefix of the commands accepted since.
-abbrev pub LeavesRun : {D : Type 0} → Ghosts D → List Stamped → D → D → Type 0
-LeavesRun g before old new =
-    (more : List Stamped) × ((c : List ℕ) → g.left_since new (g.moment old) c → AsBefore g old c ⊎ IsBetween before (before ++ more) (payloads_in c))
+-- the file opens to a history followed by at least so many of the commands that were accepted after it
+abbrev pub OpensWith : List Stamped → List Stamped → ℕ → List ℕ → Type 0
+OpensWith before accepted least file = (n : ℕ) × (least ≤ n) × (n ≤ length accepted) × (opens file ≡ Ok (at_last (before ++ take n accepted)))
 
--- the same of a run on a disk that opens
-abbrev pub Crashes : {D : Type 0} → Ghosts D → D → D → Type 0
-Crashes g old new = IfSome (g.contents old) (λ file. (from : State) → opens file ≡ Ok from → LeavesRun g from.history old new)
+-- the other is this history, or lacks its last command, or has one command more
+abbrev pub IsNear : List Stamped → List Stamped → Type 0
+IsNear history other = (other ≡ history) ⊎ (((last : Stamped) × (history ≡ other ++ last ∷ [])) ⊎ ((one : Stamped) × (other ≡ history ++ one ∷ [])))
+
+-- A disk is sound for a history: its bytes open to it, and each image to it, to it without its last command or with one
+-- command more.
+pub record IsSound (held : Option (List ℕ)) (images : List ℕ → Type 0) (history : List Stamped) : Type 0 where
+  pub bytes : IfSome held (λ file. opens file ≡ Ok (at_last history))
+  pub near : (c : List ℕ) → images c → (other : List Stamped) × IsNear history other × (opens c ≡ Ok (at_last other))
+
+-- What a run leaves that began at a history, accepted these commands after it, and answered all of them but perhaps the
+-- last. Its disk held these bytes and might leave these images before, and does those now.
+pub record Survives (before accepted : List Stamped) (answered status : ℕ) (held : Option (List ℕ)) (was : List ℕ → Type 0) (left : Option (List ℕ)) (images since : List ℕ → Type 0) : Type 0 where
+  pub few : (answered ≤ length accepted) × (length accepted ≤ answered + 1)
+  -- at any moment since the start a crash leaves what it might have left before, or a front of the accepted commands
+  pub always : (c : List ℕ) → since c → AsBefore was c ⊎ OpensWith before accepted 0 c
+  -- now it leaves all that were answered
+  pub now : (c : List ℕ) → images c → ((accepted ≡ []) × AsBefore was c) ⊎ OpensWith before accepted answered c
+  -- at status 0 it leaves all that were accepted
+  pub done : status ≡ 0 → (c : List ℕ) → images c → opens c ≡ Ok (at_last (before ++ accepted))
+  -- a sound disk stays sound
+  pub sound : IsSound held was before → (n : ℕ) × (answered ≤ n) × (n ≤ length accepted) × IsSound left images (before ++ take n accepted)
+
+-- What a task's replies tell of the accepted commands. What `apply` wrote is replies, whose numbers are the places of the
+-- first commands of those that are answered, and a front of one more reply, whose number isn't past them. At status 0 it is
+-- the replies to all lines, and their numbers are the places of all accepted commands. Queries add nothing.
+abbrev pub Acknowledges : Task → State → List Stamped → ℕ → ℕ → World → World → Type 0
+Acknowledges task.Init from accepted answered status before after = Unit {0}
+Acknowledges task.Apply from accepted answered status before after = ToldFront from.history before.written (from.history ++ take answered accepted) after.written
+    × (status ≡ 0 → IfSome before.left (λ bytes. IfSome before.moments (λ moments. IfSome before.written (λ written.
+    (to : State) × (to.history ≡ from.history ++ accepted) × ((w : Written from bytes moments written to after.written) × (numbers w.replies ≡ places (length from.history) accepted))))))
+Acknowledges task.Check from accepted answered status before after = accepted ≡ []
+Acknowledges task.Members from accepted answered status before after = accepted ≡ []
+
+-- Of a disk whose file opens to this history: each image since the start is one from before, and where the disk was sound
+-- for the history, it is sound for it again.
+pub record StaysAt (history : List Stamped) (held : Option (List ℕ)) (was : List ℕ → Type 0) (left : Option (List ℕ)) (images since : List ℕ → Type 0) : Type 0 where
+  pub always : (c : List ℕ) → since c → was c
+  pub sound : IsSound held was history → IsSound left images history
+
+-- Each image since the start is one from before, or opens to the empty history, or is damaged. At status 0 each image
+-- now opens to the empty history. At every status `StaysAt` holds of the history that the file opened to, where it did.
+abbrev pub Begins : ℕ → (held : Option (List ℕ)) (was : List ℕ → Type 0) (left : Option (List ℕ)) (images since : List ℕ → Type 0) → Type 0
+Begins status held was left images since = ((c : List ℕ) → since c → was c ⊎ ((opens c ≡ Ok start) ⊎ ((at : ℕ) × (opens c ≡ Err at))))
+    × (status ≡ 0 → (c : List ℕ) → images c → opens c ≡ Ok start)
+    × IfSome held (λ file. (from : State) → opens file ≡ Ok from → StaysAt from.history held was left images since)
+
+-- what a run over a disk that opens leaves of it, from the history that it opens to
+abbrev pub GoesOnFrom : Task → ℕ → World → World → (held : Option (List ℕ)) (was : List ℕ → Type 0) (left : Option (List ℕ)) (images since : List ℕ → Type 0) → Type 0
+GoesOnFrom asked status before after held was left images since = IfSome held (λ file. (from : State) → opens file ≡ Ok from → (accepted : List Stamped) × (answered : ℕ)
+    × Survives from.history accepted answered status held was left images since × Acknowledges asked from accepted answered status before after)
+
+-- what a task leaves
+abbrev pub Leaves : Task → ℕ → World → World → (held : Option (List ℕ)) (was : List ℕ → Type 0) (left : Option (List ℕ)) (images since : List ℕ → Type 0) → Type 0
+Leaves task.Init status before after held was left images since = Begins status held was left images since
+Leaves task.Apply status before after held was left images since = GoesOnFrom task.Apply status before after held was left images since
+Leaves task.Check status before after held was left images since = GoesOnFrom task.Check status before after held was left images since
+Leaves task.Members status before after held was left images since = GoesOnFrom task.Members status before after held was left images since
+
+-- the same of a disk: its bytes and images before and after, and the images since
+abbrev pub Crashes : {D : Type 0} → Ghosts D → Task → ℕ → World → World → D → D → Type 0
+Crashes g asked status before after old new = Leaves asked status before after (g.contents old) (g.may_leave old) (g.contents new) (g.may_leave new) (g.left_since new (g.moment old))
+
+-- what a run of these words leaves; words that ask for nothing leave the disk as it was
+abbrev pub RunCrashes : {D : Type 0} → Ghosts D → Option Task → ℕ → World → World → D → D → Type 0
+RunCrashes g None status before after old new = new ≡ old
+RunCrashes g (Some asked) status before after old new = Crashes g asked status before after old new

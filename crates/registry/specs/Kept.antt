@@ -1,5 +1,5 @@
 -- What a keeper has after requests, and what a stop meanwhile leaves of it.
-use Rattle.std.specs.Prelude.{◌≡◌, ◌⊎◌, ◌≤◌, ℕ, List, [], ◌∷◌, ◌++◌, Result, Ok, IfSome, is_some, true, length, take}
+use Rattle.std.specs.Prelude.{◌≡◌, ◌⊎◌, ◌≤◌, ℕ, List, [], ◌∷◌, ◌++◌, Option, Result, Ok, IfSome, is_some, true, length, take}
 use Rattle.reg_outside.specs.Disk.{Leaves}
 use Rattle.reg_outside.specs.Faults.{Rose}
 use Rattle.reg_facts.specs.declared.command.Stamped.{Stamped}
@@ -8,8 +8,8 @@ use Rattle.registry.specs.declared.service.Next.{Next}
 use Rattle.registry.specs.declared.service.Next.TheVariants as next
 use Rattle.registry.specs.declared.service.Cause.{Cause}
 use Rattle.registry.specs.declared.service.Cause.TheVariants as cause
-use Rattle.registry.specs.Opening.{payloads_of, IsServed}
-use Rattle.reg_machine.specs.History.{State}
+use Rattle.registry.specs.Run.{ToldFront}
+use Rattle.registry.specs.Opening.{payloads_of, Reopens}
 
 -- the payloads of one of the histories from the first to the second, which goes on from it
 abbrev pub IsBetween : List Stamped → List Stamped → Result (List (List ℕ)) ℕ → Type 0
@@ -25,24 +25,41 @@ pub record KeptOn {K : Type 0} (g : Ghosts K) (before : List Stamped) (old : K) 
   pub told : IfSome (g.payloads old) (λ ps. is_some (g.payloads new) ≡ true)
   pub crash : IfSome (g.payloads old) (λ ps. Leaves g.keep_moment g.stopped_since (IsBetween before after) old new)
 
--- a stop now leaves this history, or the one without its last command
-abbrev pub IsLastOrOneLess : List Stamped → Result (List (List ℕ)) ℕ → Type 0
-IsLastOrOneLess after r = (r ≡ Ok (payloads_of after)) ⊎ ((front : List Stamped) × (last : Stamped) × (after ≡ front ++ last ∷ []) × (r ≡ Ok (payloads_of front)))
+-- The keeper of a service that stopped. All up to the first history was answered, and each stop leaves a history from
+-- that one to the second, which opens again.
+abbrev pub Stopped : {K : Type 0} → Ghosts K → List Stamped → List Stamped → K → Type 0
+Stopped g answered after keeper = Reopens after × ((r : Result (List (List ℕ)) ℕ) → g.stop_leaves keeper r → IsBetween answered after r)
 
--- the keeper of a service that stopped: it has this history, or the last command's append failed
-abbrev pub Stopped : {K : Type 0} → Ghosts K → List Stamped → K → Type 0
-Stopped g after keeper = ((s : State) × (s.history ≡ after) × IsServed s (g.payloads keeper) (g.has_failed keeper)) ⊎ ((r : Result (List (List ℕ)) ℕ) → g.stop_leaves keeper r → IsLastOrOneLess after r)
+-- the history with one command more, or as it was
+abbrev pub IsOneMore : List Stamped → List Stamped → Type 0
+IsOneMore answered after = (after ≡ answered) ⊎ ((one : Stamped) × (after ≡ answered ++ one ∷ []))
 
 -- the count of faults rose where the keeper failed
 abbrev pub RoseAt : Cause → ℕ → ℕ → Type 0
 RoseAt cause.Memory old new = Unit {0}
 RoseAt cause.Disk old new = Rose old new
 
--- what is kept after a request
-abbrev pub KeepsNext : {K : Type 0} (g : Ghosts K) → List Stamped → K → Next K → Type 0
-KeepsNext g before old (next.Go s) = KeptOn g before old s.state.history s.keeper
-KeepsNext g before old (next.Stop why keeper) = (after : List Stamped) × KeptOn g before old after keeper × IfSome (g.payloads old) (λ ps. Stopped g after keeper) × RoseAt why (g.keep_faults old) (g.keep_faults keeper)
+-- what a service that stopped for this cause may have begun to keep: for want of memory nothing
+abbrev pub Began : Cause → List Stamped → List Stamped → List Stamped → Type 0
+Began cause.Memory before expected after = after ≡ before
+Began cause.Disk before expected after = (after ≡ before) ⊎ (after ≡ expected)
 
--- the keeper of a service that stopped on the way from this history on
-abbrev pub Halted : {K : Type 0} → Ghosts K → List Stamped → K → K → Type 0
-Halted g before old keeper = (after : List Stamped) × KeptOn g before old after keeper × IfSome (g.payloads old) (λ ps. Stopped g after keeper)
+-- What is kept after a request that would lead to this history.
+abbrev pub KeepsNext : {K : Type 0} (g : Ghosts K) → List Stamped → List Stamped → K → Next K → Type 0
+KeepsNext g before expected old (next.Go s) = KeptOn g before old s.state.history s.keeper
+KeepsNext g before expected old (next.Stop why keeper) =
+    (after : List Stamped) × Began why before expected after × KeptOn g before old after keeper × IfSome (g.payloads old) (λ ps. Stopped g before after keeper) × RoseAt why (g.keep_faults old) (g.keep_faults keeper)
+
+-- The keeper of a service that stopped on the way from this history on: the history that was answered, and the last,
+-- with a command more whose append failed or without it.
+pub record Halted {K : Type 0} (g : Ghosts K) (before : List Stamped) (old keeper : K) : Type 0 where
+  pub answered : List Stamped
+  pub after : List Stamped
+  pub first : length before ≤ length answered
+  pub last : IsOneMore answered after
+  pub kept : KeptOn g before old after keeper
+  pub stopped : IfSome (g.payloads old) (λ ps. Stopped g answered after keeper)
+
+-- the same, and what was written meanwhile: replies to all that was answered, or a front of the last of them
+abbrev pub HaltedAt : {K : Type 0} → Ghosts K → List Stamped → K → Option (List ℕ) → K → Option (List ℕ) → Type 0
+HaltedAt g before old written keeper now = (h : Halted g before old keeper) × ToldFront before written h.answered now

@@ -57,12 +57,16 @@ judged_all (Err place) = Err place
 abbrev pub opens : List ℕ → Result State ℕ
 opens file = judged_all (opened file)
 
+-- what has this history's payloads opens to it
+abbrev pub Reopens : List Stamped → Type 0
+Reopens history = (records : List (ℕ × List ℕ)) → map (λ r. r.1) records ≡ payloads_of history → judged start records ≡ Ok (at_last history)
+
 -- A service's history and clock, and the payloads that its keeper tells. The payloads are the history's, they open to
 -- it, and no append has failed.
 pub record IsServed (s : State) (told : Option (List (List ℕ))) (failed : Bool) : Type 0 where
   pub payloads : IfSome told (λ ps. ps ≡ payloads_of s.history)
   pub going : failed ≡ false
-  pub opens : (records : List (ℕ × List ℕ)) → map (λ r. r.1) records ≡ payloads_of s.history → judged start records ≡ Ok (at_last s.history)
+  pub opens : Reopens s.history
   pub last : last_from 0 s.history ≤ s.clock
 
 -- what a service is seen as: history and clock, and the keeper

@@ -1,7 +1,8 @@
 -- A whole run: the replies to all lines, and the bytes that they are written as.
-use Rattle.std.specs.Prelude.{◌≡◌, ◌≢◌, ◌⊎◌, ℕ, List, [], ◌∷◌, ◌++◌, All, Option, Some, None, Result, Bool, true, false, length}
+use Rattle.std.specs.Prelude.{◌≡◌, ◌≢◌, ◌⊎◌, ◌≤◌, ℕ, List, [], ◌∷◌, ◌++◌, ◌+◌, All, Option, Some, None, Result, Bool, true, false, length}
 use Rattle.std.specs.Io.KnownBytes.{prepend_known, append_known}
-use Rattle.reg_outside.specs.Streams.{first_moment, later_moments}
+use Rattle.reg_outside.specs.Streams.{first_moment, later_moments, WritesFront}
+use Rattle.reg_facts.specs.declared.command.Stamped.{Stamped}
 use Rattle.reg_facts.specs.declared.refusal.Refusal.{Refusal}
 use Rattle.reg_machine.specs.History.{State}
 use Rattle.reg_view.specs.declared.request.Request.{Request}
@@ -40,6 +41,20 @@ line_of told = text told ++ 10 ∷ []
 abbrev pub lines_of : List Reply → List ℕ
 lines_of [] = []
 lines_of (told ∷ replies) = line_of told ++ lines_of replies
+
+-- the numbers that replies tell
+abbrev pub numbers : List Reply → List ℕ
+numbers [] = []
+numbers ((reply.Number n) ∷ replies) = n ∷ numbers replies
+numbers ((reply.Answer a) ∷ replies) = numbers replies
+numbers ((reply.Refused r) ∷ replies) = numbers replies
+numbers (reply.NoMemory ∷ replies) = numbers replies
+numbers (reply.KeepFault ∷ replies) = numbers replies
+
+-- the places of commands behind so many others, counted from 1
+abbrev pub places : ℕ → List Stamped → List ℕ
+places n [] = []
+places n (s ∷ ss) = (n + 1) ∷ places (n + 1) ss
 
 -- What a run over these bytes and moments has written behind what stood before: the texts of replies to the bytes'
 -- lines, from one state to another. Without want of memory these are one function of the state, bytes and moments.
@@ -100,3 +115,21 @@ WritesReply given old new = (told : Reply) × ((told ≡ given) ⊎ ((told ≡ r
 -- this many bytes were taken from the input
 abbrev pub Took : Option (List ℕ) → Option (List ℕ) → ℕ → Type 0
 Took old new n = (taken : List ℕ) × (old ≡ prepend_known taken new) × (length taken ≡ n)
+
+-- Replies were written, and the history went on: the numbers among them are the places of what was added.
+pub record Told (before : List Stamped) (old : Option (List ℕ)) (after : List Stamped) (new : Option (List ℕ)) : Type 0 where
+  pub replies : List Reply
+  pub more : List Stamped
+  pub grown : after ≡ before ++ more
+  pub text : new ≡ append_known old (lines_of replies)
+  pub places : numbers replies ≡ places (length before) more
+
+-- Replies were written up to a history, and a front of one more, whose number isn't past this history.
+pub record ToldFront (before : List Stamped) (old : Option (List ℕ)) (answered : List Stamped) (new : Option (List ℕ)) : Type 0 where
+  pub shown : List Stamped
+  pub mid : Option (List ℕ)
+  pub told : Told before old shown mid
+  pub within : length shown ≤ length answered
+  pub last : Reply
+  pub number : (n : ℕ) → last ≡ reply.Number n → n ≤ length answered
+  pub front : WritesFront mid new (line_of last)

@@ -1,6 +1,8 @@
 //! The registry: reads requests line by line, and answers each.
 #![tactic(auto)]
 
+#[cfg(test)]
+mod nesting_tests;
 mod pending;
 mod perform;
 mod run;
@@ -9,6 +11,7 @@ mod session;
 mod task;
 #[cfg(test)]
 mod tests;
+mod uncounted;
 
 use reg_outside::{FileDisk, StdSink, StdSource, SystemClock};
 use std::process::ExitCode;

@@ -1,15 +1,15 @@
 // The tasks, each over a disk that it gives back.
-ghost use Rattle.std.specs.Prelude.{◌≡◌, ◌≢◌, ◌≤◌, ◌<◌, ◌^◌, ◌++◌, ◌∷◌, [], List, ℕ, Option, Some, None, Ok, Err, true, false, codes, length, option_map, IfOk, IfErr, IfSome, OnOk, string_bytes};
+ghost use Rattle.std.specs.Prelude.{◌≡◌, ◌≤◌, ◌<◌, ◌^◌, ◌++◌, ◌∷◌, [], List, ℕ, Option, Some, None, Ok, Err, true, false, codes, length, option_map, IfOk, IfErr, IfSome, OnOk, string_bytes};
 ghost use Rattle.std.specs.Io.KnownBytes.{append_known};
 ghost use Rattle.reg_outside.specs.Disk.{Changes, Same};
 ghost use Rattle.reg_outside.specs.Faults.{Rose, HasCause};
 ghost use Rattle.reg_keep.specs.JournalWords.{disk_of, payloads_of};
-ghost use Rattle.registry.specs.Opening.{opens, at_last};
-ghost use Rattle.registry.specs.Crash.{Crashes};
+ghost use Rattle.registry.specs.Opening.{opens, at_last, Reopens};
+ghost use Rattle.registry.specs.Crash.{Crashes, Begins};
 ghost use Rattle.registry.specs.Kept.{KeptOn, Halted};
-ghost use Rattle.registry.specs.Status.{check_line};
+ghost use Rattle.registry.specs.Status.{check_line, status_of};
 ghost use Rattle.registry.specs.Run.{line_of};
-ghost use Rattle.registry.specs.Ends.{Asked, StopCaused, Caused, OpenCaused, InitEnds, Printed, name_reading, end_of_reply, end_of_stop, end_of_open};
+ghost use Rattle.registry.specs.Ends.{World, Asked, StopCaused, Caused, OpenCaused, InitEnds, Printed, name_reading, end_of_reply, end_of_stop, end_of_open};
 ghost use Rattle.registry.specs.Pending.{Tells, AsksWritable};
 
 use crate::pending::LineReading;
@@ -18,6 +18,7 @@ use crate::service::{Next, Service};
 use crate::session::{Stop, reply_line, stop_of, turn};
 use crate::task::{End, Task};
 use reg_base::{Entity, Name, Text};
+use reg_effect::Incremental;
 use reg_facts::Refusal;
 use reg_keep::{InitFault, Journal, Keeper, OpenFault};
 use reg_machine::Machine;
@@ -74,6 +75,7 @@ fn close<D: Disk>(service: Service<Journal<D>>) -> D
     ensures disk { result ≡ disk_of service.keeper }
     ensures opens { IfSome (D.contents result) (λ file. opens file ≡ Ok (at_last service.state.history)) }
     ensures images { (c : List ℕ) → D.may_leave result c → opens c ≡ Ok (at_last service.state.history) }
+    ensures again { Reopens service.state.history }
 {
     service.into_keeper().into_disk()
 }
@@ -81,6 +83,7 @@ fn close<D: Disk>(service: Service<Journal<D>>) -> D
 /// Begins a journal.
 fn init<D: Disk>(disk: D) -> (End, D)
     ensures ends { InitEnds result.0 (D.contents disk) (D.faults disk) (D.contents result.1) (D.faults result.1) }
+    ensures crash { Begins (status_of result.0) (D.contents disk) (D.may_leave disk) (D.contents result.1) (D.may_leave result.1) (D.left_since result.1 (D.moment disk)) }
     ensures object { D.name result.1 ≡ D.name disk }
     ensures later { D.faults disk ≤ D.faults result.1 }
 {
@@ -104,7 +107,10 @@ fn apply_over<S: Source, K: Sink, D: Disk, C: Clock>(
         (record { left = S.left input.new; reads = S.read_faults input.new; written = K.written out.new; flushed = K.flushed out.new; writes = K.write_faults out.new; moments = C.moments clock.new; held = D.contents result.1; faults = D.faults result.1 }) }
     ensures object { D.name result.1 ≡ D.name disk }
     ensures later { D.faults disk ≤ D.faults result.1 }
-    ensures crash { Crashes ⟦<D as Disk>⟧ disk result.1 }
+    ensures crash { Crashes ⟦<D as Disk>⟧ Task.Apply (status_of result.0)
+        (record { left = S.left input.old; reads = S.read_faults input.old; written = K.written out.old; flushed = K.flushed out.old; writes = K.write_faults out.old; moments = C.moments clock.old; held = D.contents disk; faults = D.faults disk })
+        (record { left = S.left input.new; reads = S.read_faults input.new; written = K.written out.new; flushed = K.flushed out.new; writes = K.write_faults out.new; moments = C.moments clock.new; held = D.contents result.1; faults = D.faults result.1 })
+        disk result.1 }
 {
     match open(alloc, disk) {
         Err((end, disk)) => (end, disk),
@@ -125,7 +131,7 @@ fn print<K: Sink>(out: &mut K, bytes: &[u8]) -> Result<(), Failed>
     out.flush()
 }
 
-fn check_line(alloc: Global, machine: &Machine) -> Result<Vec<u8>, AllocError>
+fn check_line(alloc: Global, machine: &Machine<Incremental>) -> Result<Vec<u8>, AllocError>
     ensures { IfOk result (λ v. v.items ≡ check_line machine.now) }
 {
     let count = machine.history().len();
@@ -135,7 +141,7 @@ fn check_line(alloc: Global, machine: &Machine) -> Result<Vec<u8>, AllocError>
     Ok(line)
 }
 
-fn print_check<K: Sink>(alloc: Global, machine: &Machine, out: &mut K) -> End
+fn print_check<K: Sink>(alloc: Global, machine: &Machine<Incremental>, out: &mut K) -> End
     ensures { Printed End.Done (check_line machine.now) result (K.written out.old) (K.write_faults out.old) (K.written out.new) (K.flushed out.new) (K.write_faults out.new) }
 {
     match check_line(alloc, machine) {
@@ -154,7 +160,7 @@ fn check_over<K: Sink, D: Disk>(alloc: Global, out: &mut K, disk: D) -> (End, D)
         (record { left = unread; reads = reads; written = K.written out.new; flushed = K.flushed out.new; writes = K.write_faults out.new; moments = moments; held = D.contents result.1; faults = D.faults result.1 }) }
     ensures object { D.name result.1 ≡ D.name disk }
     ensures later { D.faults disk ≤ D.faults result.1 }
-    ensures crash { Crashes ⟦<D as Disk>⟧ disk result.1 }
+    ensures crash { (before after : World) → Crashes ⟦<D as Disk>⟧ Task.Check (status_of result.0) before after disk result.1 }
 {
     match open(alloc, disk) {
         Err((end, disk)) => (end, disk),
@@ -225,8 +231,9 @@ fn members<J: Keeper, K: Sink, C: Clock>(
 ) -> Result<(End, Service<J>), (End, J)>
     ensures asked { IfOk result (λ r. Asked service.state (C.moments clock.old) (name_reading name.now) r.1.state r.0 (K.written out.old) (K.write_faults out.old) (K.written out.new) (K.flushed out.new) (K.write_faults out.new)) }
     ensures kept { IfOk result (λ r. KeptOn ⟦<J as Keeper>⟧ service.state.history service.keeper r.1.state.history r.1.keeper) }
+    ensures same { IfOk result (λ r. r.1.state.history ≡ service.state.history) }
     ensures stopped { IfErr result (λ e. StopCaused e.0 (J.keep_faults service.keeper) (J.keep_faults e.1)) }
-    ensures halted { IfErr result (λ e. Halted ⟦<J as Keeper>⟧ service.state.history service.keeper e.1) }
+    ensures halted { IfErr result (λ e. (h : Halted ⟦<J as Keeper>⟧ service.state.history service.keeper e.1) × (h.after ≡ service.state.history)) }
 {
     let at = clock.now();
     let reading = name_reading(alloc, name);
@@ -251,7 +258,7 @@ fn members_over<K: Sink, D: Disk, C: Clock>(
         (record { left = unread; reads = reads; written = K.written out.new; flushed = K.flushed out.new; writes = K.write_faults out.new; moments = C.moments clock.new; held = D.contents result.1; faults = D.faults result.1 }) }
     ensures object { D.name result.1 ≡ D.name disk }
     ensures later { D.faults disk ≤ D.faults result.1 }
-    ensures crash { Crashes ⟦<D as Disk>⟧ disk result.1 }
+    ensures crash { (before after : World) → Crashes ⟦<D as Disk>⟧ Task.Members (status_of result.0) before after disk result.1 }
 {
     match open(alloc, disk) {
         Err((end, disk)) => (end, disk),
@@ -277,7 +284,10 @@ pub fn perform<S: Source, K: Sink, D: Disk, C: Clock>(
         (record { left = S.left input.new; reads = S.read_faults input.new; written = K.written out.new; flushed = K.flushed out.new; writes = K.write_faults out.new; moments = C.moments clock.new; held = D.contents result.1; faults = D.faults result.1 }) }
     ensures object { D.name result.1 ≡ D.name disk }
     ensures later { D.faults disk ≤ D.faults result.1 }
-    ensures crash { task ≢ Task.Init → Crashes ⟦<D as Disk>⟧ disk result.1 }
+    ensures crash { Crashes ⟦<D as Disk>⟧ task (status_of result.0)
+        (record { left = S.left input.old; reads = S.read_faults input.old; written = K.written out.old; flushed = K.flushed out.old; writes = K.write_faults out.old; moments = C.moments clock.old; held = D.contents disk; faults = D.faults disk })
+        (record { left = S.left input.new; reads = S.read_faults input.new; written = K.written out.new; flushed = K.flushed out.new; writes = K.write_faults out.new; moments = C.moments clock.new; held = D.contents result.1; faults = D.faults result.1 })
+        disk result.1 }
 {
     match task {
         Task::Init => init(disk),

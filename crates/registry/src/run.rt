@@ -3,13 +3,12 @@ ghost use Rattle.std.specs.Prelude.{◌≡◌, ◌≢◌, ◌≤◌, ◌<◌, �
 ghost use Rattle.std.specs.Io.KnownBytes.{IsAtEnd, prepend_known};
 ghost use Rattle.reg_outside.specs.Faults.{HasCause, Rose};
 ghost use Rattle.reg_outside.specs.Streams.{Reads};
-ghost use Rattle.registry.specs.Run.{Written, AnswersLine, Took};
+ghost use Rattle.registry.specs.Run.{Written, Told, AnswersLine, Took};
 ghost use Rattle.registry.specs.Pending.{Holds};
 ghost use Rattle.registry.specs.Stops.{IsAnswerStop};
 ghost use Rattle.registry.specs.declared.task.End.{End};
-ghost use Rattle.registry.specs.Crash.{Crashes};
-ghost use Rattle.registry.specs.Kept.{KeptOn, Halted};
-ghost use Rattle.registry.specs.declared.task.Task.{Task};
+ghost use Rattle.registry.specs.Crash.{RunCrashes};
+ghost use Rattle.registry.specs.Kept.{KeptOn, HaltedAt};
 ghost use Rattle.registry.specs.Status.{task_of, name_of, status_of, IsStatus, NotesOnce};
 ghost use Rattle.registry.specs.Ends.{RunEnds};
 
@@ -69,7 +68,8 @@ fn finish<J: Keeper, K: Sink, C: Clock>(
         bytes (record { written = K.written out.new; moments = C.moments clock.new; state = after.state })) }
     ensures flushed { OnOk result (K.flushed out.new ≡ option_map length (K.written out.new)) }
     ensures kept { IfOk result (λ after. KeptOn ⟦<J as Keeper>⟧ service.state.history service.keeper after.state.history after.keeper) }
-    ensures halted { IfErr result (λ e. Halted ⟦<J as Keeper>⟧ service.state.history service.keeper e.1) }
+    ensures told { IfOk result (λ after. Told service.state.history (K.written out.old) after.state.history (K.written out.new)) }
+    ensures halted { IfErr result (λ e. HaltedAt ⟦<J as Keeper>⟧ service.state.history service.keeper (K.written out.old) e.1 (K.written out.new)) }
     ensures count { K.write_faults out.old ≤ K.write_faults out.new }
     ensures output { IfErr result (λ e. e.0 ≡ Stop.Output → Rose (K.write_faults out.old) (K.write_faults out.new)) }
     ensures disk { IfErr result (λ e. e.0 ≡ Stop.Disk → Rose (J.keep_faults service.keeper) (J.keep_faults e.1)) }
@@ -96,7 +96,8 @@ pub fn apply<S: Source, J: Keeper, K: Sink, C: Clock>(
     ensures ended { OnOk result (IsAtEnd (S.left input.new)) }
     ensures few { OnOk result ((n : ℕ) × (n < 2 ^ 32) × Took (S.left input.old) (S.left input.new) n) }
     ensures kept { IfOk result (λ to. KeptOn ⟦<J as Keeper>⟧ service.state.history service.keeper to.state.history to.keeper) }
-    ensures halted { IfErr result (λ e. Halted ⟦<J as Keeper>⟧ service.state.history service.keeper e.1) }
+    ensures told { IfOk result (λ to. Told service.state.history (K.written out.old) to.state.history (K.written out.new)) }
+    ensures halted { IfErr result (λ e. HaltedAt ⟦<J as Keeper>⟧ service.state.history service.keeper (K.written out.old) e.1 (K.written out.new)) }
     ensures input { IfErr result (λ e. e.0 ≡ Stop.Input → Rose (S.read_faults input.old) (S.read_faults input.new)) }
     ensures output { IfErr result (λ e. e.0 ≡ Stop.Output → Rose (K.write_faults out.old) (K.write_faults out.new)) }
     ensures disk { IfErr result (λ e. e.0 ≡ Stop.Disk → Rose (J.keep_faults service.keeper) (J.keep_faults e.1)) }
@@ -142,9 +143,12 @@ pub fn run<S: Source, K: Sink, N: Sink, D: Disk, C: Clock>(
         (record { left = S.left input.new; reads = S.read_faults input.new; written = K.written out.new; flushed = K.flushed out.new; writes = K.write_faults out.new; moments = C.moments clock.new; held = D.contents disk.new; faults = D.faults disk.new }) }
     ensures statuses { IsStatus result }
 
-    // A crash at any moment of a run on a disk that opens leaves what it might have left before, or the starting history
-    // followed by a prefix of the commands accepted in this run.
-    ensures crash { (task : Task) → task_of (map string_bytes words.now) ≡ Some task → task ≢ Task.Init → Crashes ⟦<D as Disk>⟧ disk.old disk.new }
+    // A crash at any moment of the run leaves the disk's images from before, or the starting history followed by a front
+    // of the commands accepted in this run. At its end no command is lost whose number was written, and at status 0 none.
+    ensures crash { RunCrashes ⟦<D as Disk>⟧ (task_of (map string_bytes words.now)) result
+        (record { left = S.left input.old; reads = S.read_faults input.old; written = K.written out.old; flushed = K.flushed out.old; writes = K.write_faults out.old; moments = C.moments clock.old; held = D.contents disk.old; faults = D.faults disk.old })
+        (record { left = S.left input.new; reads = S.read_faults input.new; written = K.written out.new; flushed = K.flushed out.new; writes = K.write_faults out.new; moments = C.moments clock.new; held = D.contents disk.new; faults = D.faults disk.new })
+        disk.old disk.new }
     ensures noted { (end : End) × (result ≡ status_of end) × NotesOnce end (N.written notes.old) (N.write_faults notes.old) (N.written notes.new) (N.write_faults notes.new) }
     ensures later { D.faults disk.old ≤ D.faults disk.new }
 {

@@ -1,15 +1,18 @@
 // One request after another, over a journal.
 ghost use Rattle.std.specs.Prelude.{◌≡◌, ◌≤◌, is_some, true, ℕ, List, Result, false, Ok, Err, Some, None, IfOk, IfErr, IfSome, IsErrOf};
-ghost use Rattle.reg_machine.specs.History.{State, start, refusal};
+ghost use Rattle.reg_machine.specs.History.{State, start, refusal, appended};
 ghost use Rattle.reg_keep.specs.Frames.{payloads_of_records};
 ghost use Rattle.reg_keep.specs.declared.open.OpenFault.TheVariants.{Damaged};
+ghost use Rattle.reg_facts.specs.declared.command.Stamped.{Stamped};
 ghost use Rattle.reg_facts.specs.Suiting.{has_form};
 ghost use Rattle.reg_wire.specs.Payload.{payload, stamped_of, IsWritable};
 ghost use Rattle.registry.specs.Opening.{payloads_of, judged, or_place, accepted, after_stamped, after_payload, IsServed};
 ghost use Rattle.registry.specs.Kept.{KeepsNext, KeptOn};
 ghost use Rattle.registry.specs.Turn.{turn, requested, at_moment, CanKeep, Carries, Follows, GoesOn};
 
+use crate::uncounted::{advance, apply};
 use reg_base::{Entity, Moment};
+use reg_effect::Incremental;
 use reg_facts::{Command, Refusal, Stamped};
 use reg_keep::{KeepFault, Keeper, OpenFault, Records};
 use reg_machine::Machine;
@@ -31,7 +34,7 @@ pub enum Cause {
 /// clock, and the keeper.
 #[derive(Drop)]
 pub struct Service<K: Keeper> {
-    machine: Machine,
+    machine: Machine<Incremental>,
     keeper: K,
 }
 
@@ -55,7 +58,7 @@ pub enum Next<K: Keeper> {
 /// Whether a command is refused now.
 fn is_refused(
     alloc: Global,
-    machine: &Machine,
+    machine: &Machine<Incremental>,
     by: &Entity,
     command: &Command,
 ) -> Result<bool, AllocError>
@@ -65,33 +68,73 @@ fn is_refused(
     Ok(found.is_some())
 }
 
-/// The machine after a command that acts at a moment. None where it is refused.
-fn act(
+/// The machine with its clock at a later moment.
+fn moved(machine: Machine<Incremental>, to: Moment) -> Result<Machine<Incremental>, AllocError>
+    requires { machine.clock ≤ to }
+    ensures { IfOk result (λ m. m ≡ record { history = machine.history; clock = to }) }
+{
+    match advance(machine, to) {
+        Ok(machine) => Ok(machine),
+        Err(_) => Err(AllocError),
+    }
+}
+
+/// The machine after a command that isn't refused.
+fn taken(
     alloc: Global,
-    machine: Machine,
-    at: Moment,
+    machine: Machine<Incremental>,
     by: &Entity,
     command: Command,
-) -> Result<Option<Machine>, AllocError>
+) -> Result<Option<Machine<Incremental>>, AllocError>
+    requires allowed { refusal machine.history command ≡ None }
     requires form { has_form command ≡ true }
-    requires later { machine.clock ≤ at }
-    ensures { IfOk result (λ found. found ≡ accepted machine (record { at = at; by = by.now; command = command }) (refusal machine.history command)) }
+    ensures { IfOk result (λ found. found ≡ Some (appended machine by.now command)) }
 {
-    let Ok(machine) = machine.advance(at) else {
-        return Err(AllocError);
-    };
-    if is_refused(alloc, &machine, by, &command)? {
-        return Ok(None);
-    }
-    match machine.apply(alloc, by, command) {
+    match apply(alloc, machine, by, command) {
         Ok(machine) => Ok(Some(machine)),
         Err(_) => Err(AllocError),
     }
 }
 
+/// The machine after a command at the clock. None where it is refused.
+fn decided(
+    alloc: Global,
+    machine: Machine<Incremental>,
+    by: &Entity,
+    command: Command,
+) -> Result<Option<Machine<Incremental>>, AllocError>
+    requires { has_form command ≡ true }
+    ensures { IfOk result (λ found. found ≡ accepted machine (record { at = machine.clock; by = by.now; command = command }) (refusal machine.history command)) }
+{
+    if is_refused(alloc, &machine, by, &command)? {
+        return Ok(None);
+    }
+    taken(alloc, machine, by, command)
+}
+
+/// The machine after a command that acts at a moment. None where it is refused.
+fn act(
+    alloc: Global,
+    machine: Machine<Incremental>,
+    at: Moment,
+    by: &Entity,
+    command: Command,
+) -> Result<Option<Machine<Incremental>>, AllocError>
+    requires form { has_form command ≡ true }
+    requires later { machine.clock ≤ at }
+    ensures { IfOk result (λ found. found ≡ accepted machine (record { at = at; by = by.now; command = command }) (refusal machine.history command)) }
+{
+    let machine = moved(machine, at)?;
+    decided(alloc, machine, by, command)
+}
+
 /// The machine after a stamped command. None where its moment is less than the clock, or it is
 /// refused.
-fn accept(alloc: Global, machine: Machine, stamped: Stamped) -> Result<Option<Machine>, AllocError>
+fn accept(
+    alloc: Global,
+    machine: Machine<Incremental>,
+    stamped: Stamped,
+) -> Result<Option<Machine<Incremental>>, AllocError>
     requires { has_form stamped.command ≡ true }
     ensures { IfOk result (λ found. found ≡ after_stamped machine (Some stamped)) }
 {
@@ -106,9 +149,9 @@ fn accept(alloc: Global, machine: Machine, stamped: Stamped) -> Result<Option<Ma
 #[tactic(auto, unfolding(crate::specs::Opening::after_payload))]
 fn take_payload(
     alloc: Global,
-    machine: Machine,
+    machine: Machine<Incremental>,
     bytes: &[u8],
-) -> Result<Option<Machine>, AllocError>
+) -> Result<Option<Machine<Incremental>>, AllocError>
     ensures { IfOk result (λ found. found ≡ after_payload machine bytes.now) }
 {
     match decode(alloc, bytes)? {
@@ -123,10 +166,10 @@ fn take_payload(
 /// The machine after a record, or the record's place.
 fn take_record(
     alloc: Global,
-    machine: Machine,
+    machine: Machine<Incremental>,
     place: u64,
     bytes: &[u8],
-) -> Result<Machine, OpenFault>
+) -> Result<Machine<Incremental>, OpenFault>
     ensures ok { IfOk result (λ m. or_place place (after_payload machine bytes.now) ≡ Ok m) }
     ensures damaged { IfErr result (λ e. (at : ℕ) → e ≡ Damaged at → or_place place (after_payload machine bytes.now) ≡ Err at) }
     ensures fault { IsErrOf result OpenFault.Fault → ⊥ }
@@ -139,7 +182,7 @@ fn take_record(
 }
 
 /// The machine of these records.
-fn replay(alloc: Global, records: &Records) -> Result<Machine, OpenFault>
+fn replay(alloc: Global, records: &Records) -> Result<Machine<Incremental>, OpenFault>
     ensures ok { IfOk result (λ m. judged start records.now ≡ Ok m) }
     ensures damaged { IfErr result (λ e. (at : ℕ) → e ≡ Damaged at → judged start records.now ≡ Err at) }
     ensures fault { IsErrOf result OpenFault.Fault → ⊥ }
@@ -157,14 +200,14 @@ fn replay(alloc: Global, records: &Records) -> Result<Machine, OpenFault>
 /// Asks the machine.
 fn asked<K: Keeper>(
     alloc: Global,
-    machine: Machine,
+    machine: Machine<Incremental>,
     keeper: K,
     by: &Entity,
     query: &Query,
 ) -> (Reply, Next<K>)
     requires { IsServed machine (K.payloads keeper) (K.has_failed keeper) }
     ensures turn { Carries machine (requested machine by.now (Op.Query query.now)) result }
-    ensures kept { KeepsNext ⟦<K as Keeper>⟧ machine.history keeper result.1 }
+    ensures kept { (expected : List Stamped) → KeepsNext ⟦<K as Keeper>⟧ machine.history expected keeper result.1 }
 {
     let reply = match ask(alloc, &machine, by, query) {
         Ok(Ok(answer)) => Reply::Answer(answer),
@@ -176,13 +219,18 @@ fn asked<K: Keeper>(
 
 /// Takes an accepted command into the history and keeps it. All its memory is taken before it is
 /// kept.
-fn keep<K: Keeper>(alloc: Global, machine: Machine, keeper: K, stamped: Stamped) -> (Reply, Next<K>)
+fn keep<K: Keeper>(
+    alloc: Global,
+    machine: Machine<Incremental>,
+    keeper: K,
+    stamped: Stamped,
+) -> (Reply, Next<K>)
     requires served { IsServed machine (K.payloads keeper) (K.has_failed keeper) }
     requires accepted { refusal machine.history stamped.command ≡ None }
     requires now { stamped.at ≡ machine.clock }
     requires writable { IsWritable stamped }
     ensures turn { Carries machine (requested machine stamped.by (Op.Command stamped.command)) result }
-    ensures kept { KeepsNext ⟦<K as Keeper>⟧ machine.history keeper result.1 }
+    ensures kept { KeepsNext ⟦<K as Keeper>⟧ machine.history (requested machine stamped.by (Op.Command stamped.command)).1.history keeper result.1 }
 {
     let mut keeper = keeper;
     let Ok(payload) = encode(alloc, &stamped) else {
@@ -190,7 +238,7 @@ fn keep<K: Keeper>(alloc: Global, machine: Machine, keeper: K, stamped: Stamped)
     };
     writable_is_formed();
     let Stamped { by, command, .. } = stamped;
-    let Ok(machine) = machine.apply(alloc, &by, command) else {
+    let Ok(machine) = apply(alloc, machine, &by, command) else {
         return (Reply::NoMemory, Next::Stop(Cause::Memory, keeper));
     };
     match keeper.append(&payload) {
@@ -208,7 +256,7 @@ fn keep<K: Keeper>(alloc: Global, machine: Machine, keeper: K, stamped: Stamped)
 /// Carries out a command, unless it is refused.
 fn carried_out<K: Keeper>(
     alloc: Global,
-    machine: Machine,
+    machine: Machine<Incremental>,
     keeper: K,
     by: Entity,
     command: Command,
@@ -216,7 +264,7 @@ fn carried_out<K: Keeper>(
     requires served { IsServed machine (K.payloads keeper) (K.has_failed keeper) }
     requires writable { CanKeep by (Op.Command command) }
     ensures turn { Carries machine (requested machine by (Op.Command command)) result }
-    ensures kept { KeepsNext ⟦<K as Keeper>⟧ machine.history keeper result.1 }
+    ensures kept { KeepsNext ⟦<K as Keeper>⟧ machine.history (requested machine by (Op.Command command)).1.history keeper result.1 }
 {
     let at = machine.clock();
     match machine.decide(alloc, &by, &command) {
@@ -249,7 +297,7 @@ impl<K: Keeper> Service<K> {
     }
 
     /// The machine that it runs.
-    pub fn machine(&self) -> &Machine
+    pub fn machine(&self) -> &Machine<Incremental>
         ensures { result.now ≡ self.now.state }
     {
         &self.machine
@@ -278,11 +326,11 @@ impl<K: Keeper> Service<K> {
         requires { CanKeep request.by request.op }
         ensures turn { Follows self.state at (Ok request) result }
         ensures history { GoesOn self.state at result }
-        ensures kept { KeepsNext ⟦<K as Keeper>⟧ self.state.history self.keeper result.1 }
+        ensures kept { KeepsNext ⟦<K as Keeper>⟧ self.state.history (turn self.state at (Ok request)).1.history self.keeper result.1 }
     {
         let Service { machine, keeper } = self;
         let now = machine.clock().later_of(at);
-        let Ok(machine) = machine.advance(now) else {
+        let Ok(machine) = advance(machine, now) else {
             return (Reply::NoMemory, Next::Stop(Cause::Memory, keeper));
         };
         let Request { by, op } = request;
@@ -296,11 +344,11 @@ impl<K: Keeper> Service<K> {
     pub fn refuse(self, at: Moment, refusal: Refusal) -> (Reply, Next<K>)
         ensures turn { Follows self.state at (Err refusal) result }
         ensures history { GoesOn self.state at result }
-        ensures kept { KeepsNext ⟦<K as Keeper>⟧ self.state.history self.keeper result.1 }
+        ensures kept { KeepsNext ⟦<K as Keeper>⟧ self.state.history self.state.history self.keeper result.1 }
     {
         let Service { machine, keeper } = self;
         let now = machine.clock().later_of(at);
-        match machine.advance(now) {
+        match advance(machine, now) {
             Ok(machine) => (
                 Reply::Refused(refusal),
                 Next::Go(Service { machine, keeper }),

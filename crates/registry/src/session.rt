@@ -2,13 +2,15 @@
 ghost use Rattle.std.specs.Prelude.{◌≡◌, ◌≢◌, ◌≤◌, ◌<◌, ◌∷◌, ◌++◌, [], List, ℕ, Result, ◌⊎◌, All, IfOk, IfErr, OnOk, length, take, slice_index, string_bytes};
 ghost use Rattle.std.specs.Io.KnownBytes.{append_known};
 ghost use Rattle.reg_outside.specs.Faults.{Rose};
+ghost use Rattle.reg_outside.specs.Streams.{WritesFront};
+ghost use Rattle.reg_view.specs.declared.reply.Reply.{Reply};
 ghost use Rattle.reg_view.specs.declared.request.Request.{Request};
 ghost use Rattle.reg_facts.specs.declared.refusal.Refusal.{Refusal};
-ghost use Rattle.registry.specs.Kept.{KeptOn, KeepsNext, Halted};
+ghost use Rattle.registry.specs.Kept.{KeptOn, KeepsNext, HaltedAt};
 ghost use Rattle.registry.specs.Pending.{Holds, Tells, AsksWritable};
-ghost use Rattle.registry.specs.Run.{line_of, is_accepted, WritesReply, AnswersLine, Feeds};
+ghost use Rattle.registry.specs.Run.{line_of, Told, is_accepted, WritesReply, AnswersLine, Feeds};
 ghost use Rattle.registry.specs.Stops.{stop_of, IsAnswerStop};
-ghost use Rattle.registry.specs.Turn.{Follows};
+ghost use Rattle.registry.specs.Turn.{Follows, turn};
 
 use crate::pending::{LineReading, PendingLine};
 use crate::service::{Cause, Next, Service};
@@ -56,6 +58,7 @@ fn write_bytes<K: Sink>(out: &mut K, bytes: &[u8]) -> Result<(), Stop>
     ensures written { OnOk result (K.written out.new ≡ append_known (K.written out.old) bytes.now) }
     ensures count { K.write_faults out.old ≤ K.write_faults out.new }
     ensures output { IfErr result (λ e. (e ≡ Stop.Output) × Rose (K.write_faults out.old) (K.write_faults out.new)) }
+    ensures front { WritesFront (K.written out.old) (K.written out.new) bytes.now }
 {
     match write_whole(out, bytes) {
         Ok(()) => Ok(()),
@@ -70,6 +73,7 @@ fn write_line<K: Sink>(alloc: Global, reply: &Reply, out: &mut K) -> Result<(), 
     ensures count { K.write_faults out.old ≤ K.write_faults out.new }
     ensures output { IfErr result (λ e. e ≡ Stop.Output → Rose (K.write_faults out.old) (K.write_faults out.new)) }
     ensures others { IfErr result (λ e. (e ≡ Stop.Memory) ⊎ (e ≡ Stop.Output)) }
+    ensures front { IfErr result (λ e. (told : Reply) × ((told ≡ reply.now) ⊎ (told ≡ Reply.NoMemory)) × WritesFront (K.written out.old) (K.written out.new) (line_of told)) }
 {
     match reply_line(alloc, reply) {
         Ok(line) => write_bytes(out, line.as_bytes()),
@@ -91,7 +95,7 @@ pub fn turn<J: Keeper>(
 ) -> (Reply, Next<J>)
     requires { AsksWritable reading }
     ensures turn { (told : Result Request Refusal) → Tells reading told → Follows service.state at told result }
-    ensures kept { KeepsNext ⟦<J as Keeper>⟧ service.state.history service.keeper result.1 }
+    ensures kept { (told : Result Request Refusal) → Tells reading told → KeepsNext ⟦<J as Keeper>⟧ service.state.history (turn service.state at told).1.history service.keeper result.1 }
 {
     match reading {
         LineReading::Asked(request) => service.request(alloc, at, request),
@@ -124,7 +128,8 @@ pub fn answer_line<J: Keeper, K: Sink, C: Clock>(
         AnswersLine (record { written = K.written out.old; moments = C.moments clock.old; state = service.state })
         bytes (record { written = K.written out.new; moments = C.moments clock.new; state = after.state })) }
     ensures kept { IfOk result (λ after. KeptOn ⟦<J as Keeper>⟧ service.state.history service.keeper after.state.history after.keeper) }
-    ensures halted { IfErr result (λ e. Halted ⟦<J as Keeper>⟧ service.state.history service.keeper e.1) }
+    ensures told { IfOk result (λ after. Told service.state.history (K.written out.old) after.state.history (K.written out.new)) }
+    ensures halted { IfErr result (λ e. HaltedAt ⟦<J as Keeper>⟧ service.state.history service.keeper (K.written out.old) e.1 (K.written out.new)) }
     ensures count { K.write_faults out.old ≤ K.write_faults out.new }
     ensures output { IfErr result (λ e. e.0 ≡ Stop.Output → Rose (K.write_faults out.old) (K.write_faults out.new)) }
     ensures disk { IfErr result (λ e. e.0 ≡ Stop.Disk → Rose (J.keep_faults service.keeper) (J.keep_faults e.1)) }
@@ -162,6 +167,7 @@ fn line_end(bytes: &[u8]) -> usize
 }
 
 /// Takes bytes up to and with the first LF, which ends the line, and says how many they are.
+#[tactic(auto, using(crate::proofs::Numbering::told_nothing))]
 fn feed_line<J: Keeper, K: Sink, C: Clock>(
     alloc: Global,
     service: Service<J>,
@@ -176,7 +182,8 @@ fn feed_line<J: Keeper, K: Sink, C: Clock>(
         Feeds (record { written = K.written out.old; moments = C.moments clock.old; state = service.state }) line (take after.2 bytes.now)
         (record { written = K.written out.new; moments = C.moments clock.new; state = after.0.state }) after.1) }
     ensures kept { IfOk result (λ after. KeptOn ⟦<J as Keeper>⟧ service.state.history service.keeper after.0.state.history after.0.keeper) }
-    ensures halted { IfErr result (λ e. Halted ⟦<J as Keeper>⟧ service.state.history service.keeper e.1) }
+    ensures told { IfOk result (λ after. Told service.state.history (K.written out.old) after.0.state.history (K.written out.new)) }
+    ensures halted { IfErr result (λ e. HaltedAt ⟦<J as Keeper>⟧ service.state.history service.keeper (K.written out.old) e.1 (K.written out.new)) }
     ensures count { K.write_faults out.old ≤ K.write_faults out.new }
     ensures output { IfErr result (λ e. e.0 ≡ Stop.Output → Rose (K.write_faults out.old) (K.write_faults out.new)) }
     ensures disk { IfErr result (λ e. e.0 ≡ Stop.Disk → Rose (J.keep_faults service.keeper) (J.keep_faults e.1)) }
@@ -194,6 +201,7 @@ fn feed_line<J: Keeper, K: Sink, C: Clock>(
 }
 
 /// Answers the lines that a piece of input ends, and keeps the rest of it pending.
+#[tactic(auto, using(crate::proofs::Numbering::told_nothing))]
 pub fn feed<J: Keeper, K: Sink, C: Clock>(
     alloc: Global,
     service: Service<J>,
@@ -206,7 +214,8 @@ pub fn feed<J: Keeper, K: Sink, C: Clock>(
         Feeds (record { written = K.written out.old; moments = C.moments clock.old; state = service.state }) line piece.now
         (record { written = K.written out.new; moments = C.moments clock.new; state = after.0.state }) after.1) }
     ensures kept { IfOk result (λ after. KeptOn ⟦<J as Keeper>⟧ service.state.history service.keeper after.0.state.history after.0.keeper) }
-    ensures halted { IfErr result (λ e. Halted ⟦<J as Keeper>⟧ service.state.history service.keeper e.1) }
+    ensures told { IfOk result (λ after. Told service.state.history (K.written out.old) after.0.state.history (K.written out.new)) }
+    ensures halted { IfErr result (λ e. HaltedAt ⟦<J as Keeper>⟧ service.state.history service.keeper (K.written out.old) e.1 (K.written out.new)) }
     ensures count { K.write_faults out.old ≤ K.write_faults out.new }
     ensures output { IfErr result (λ e. e.0 ≡ Stop.Output → Rose (K.write_faults out.old) (K.write_faults out.new)) }
     ensures disk { IfErr result (λ e. e.0 ≡ Stop.Disk → Rose (J.keep_faults service.keeper) (J.keep_faults e.1)) }

@@ -23,12 +23,12 @@ const FOUR_REPLIES: &str = "{\"number\":1,\"ok\":true}
 
 /// The number of the read, and of the write or flush, that fails; 0 for none.
 #[derive(Clone, Copy)]
-struct Faults {
+pub(crate) struct Faults {
     read: u64,
     write: u64,
 }
 
-const NONE: Faults = Faults { read: 0, write: 0 };
+pub(crate) const NONE: Faults = Faults { read: 0, write: 0 };
 
 // The journal of the first of the four lines, at 2025-09-01T00:00:00Z.
 const FILE: [u8; 58] =
@@ -83,7 +83,7 @@ fn expect(
 }
 
 /// Begins a journal and applies these lines to it.
-fn applied(
+pub(crate) fn applied(
     rt: &impl Abort,
     alloc: Global,
     lines: &[u8],
@@ -160,7 +160,7 @@ fn refused_lines_are_answered(rt: HostRuntime) -> Result<(), Fail> {
 }
 
 /// Adds a line: what stands before the caller, and what follows him.
-fn add_line(lines: &mut Vec<u8>, op: &str, fields: &str) -> Result<(), Fail> {
+pub(crate) fn add_line(lines: &mut Vec<u8>, op: &str, fields: &str) -> Result<(), Fail> {
     lines.extend_from_slice(b"{\"by\":\"g:isa/GrouperSystem\",\"op\":\"")?;
     lines.extend_from_slice(op.as_bytes())?;
     lines.extend_from_slice(b"\",")?;

@@ -1,6 +1,6 @@
 use Rattle.std.proofs.Common.{◌≡◌, drop}
 use Rattle.reg_effect.specs.Changes.{changed_by}
-use Rattle.reg_effect.specs.Example.{SuitAll}
+use Rattle.reg_effect.specs.Changes.{SuitAll}
 use Rattle.reg_effect.proofs.tests.run.Given as goal
 
 abbrev pub invariant-loop-change : goal.invariant-loop-change

@@ -1,8 +1,9 @@
 use Rattle.std.proofs.Common.{arith, rules}
 use Rattle.std.proofs.lemmas.List.{length-take-le}
-use Rattle.registry.proofs.Feeding.{at_end_before, taken_more, took_none, took_taken, written_all}
-use Rattle.registry.proofs.Keeping.{kept_then, halted_then, err_by}
-use Rattle.registry.specs.Kept.{Halted}
+use Rattle.registry.proofs.Feeding.{at_end_before, taken_none, taken_more, took_none, took_taken, written_all}
+use Rattle.registry.proofs.Keeping.{kept_then, halted_then, go_halted, err_by}
+use Rattle.registry.specs.Kept.{HaltedAt}
+use Rattle.registry.proofs.Numbering.{told_nothing, told_then, front_then, front_none}
 use Rattle.registry.proofs.run.apply.Goals as goal
 
 -- the input has ended, and all its lines are answered
@@ -30,6 +31,7 @@ loop-taken-preserved g c = record {
   few = omega (arith, c.in-Ok.ensures.within);
   reads = search rules;
   writes = search rules;
+  told = told_then _ _ _ _ _ _ c.loop-taken.invariant.told c.in_ok-service.ensures.told;
   kept = kept_then g.J.Keeper _ _ _ _ _ _ c.loop-taken.invariant.kept c.in_ok-service.ensures.kept;
 }
 
@@ -39,10 +41,41 @@ returns-then-count-eq0-clause-kept g c = kept_then g.J.Keeper _ _ _ _ _ _ c.loop
 
 pub returns-in_err-last-clause-halted : goal.returns-in_err-last-clause-halted
 returns-in_err-last-clause-halted g c =
-    err_by (λ e. Halted g.J.Keeper c.args.service.state.history c.args.service.keeper e.1) c.from_residual.result c.in_err-last.field-0.0 c.from_residual.ensures.1
-    (halted_then g.J.Keeper _ _ _ _ _ c.loop-taken.invariant.kept c.in_err-last.ensures.halted)
+    let h = c.in_err-last.ensures.halted in
+    err_by (λ e. HaltedAt g.J.Keeper c.args.service.state.history c.args.service.keeper (g.K.Sink.written c.args.out.now) e.1 (g.K.Sink.written c.finish.new.out)) c.from_residual.result c.in_err-last.field-0.0 c.from_residual.ensures.1
+    (halted_then g.J.Keeper _ _ _ _ _ c.loop-taken.invariant.kept h.0, front_then _ _ _ _ _ _ c.loop-taken.invariant.told h.1)
 
 pub returns-in_err-service-clause-halted : goal.returns-in_err-service-clause-halted
 returns-in_err-service-clause-halted g c =
-    err_by (λ e. Halted g.J.Keeper c.args.service.state.history c.args.service.keeper e.1) c.from_residual-in_err-service.result c.in_err-service.field-0.0 c.from_residual-in_err-service.ensures.1
-    (halted_then g.J.Keeper _ _ _ _ _ c.loop-taken.invariant.kept c.in_err-service.ensures.halted)
+    let h = c.in_err-service.ensures.halted in
+    err_by (λ e. HaltedAt g.J.Keeper c.args.service.state.history c.args.service.keeper (g.K.Sink.written c.args.out.now) e.1 (g.K.Sink.written c.feed.new.out)) c.from_residual-in_err-service.result c.in_err-service.field-0.0 c.from_residual-in_err-service.ensures.1
+    (halted_then g.J.Keeper _ _ _ _ _ c.loop-taken.invariant.kept h.0, front_then _ _ _ _ _ _ c.loop-taken.invariant.told h.1)
+
+-- the input failed, or there was too much of it
+pub returns-in-Err-clause-halted : goal.returns-in-Err-clause-halted
+returns-in-Err-clause-halted g c = (
+  go_halted g.J.Keeper c.args.service.state.history c.args.service.keeper c.loop-taken.service c.into_keeper.result c.loop-taken.invariant.kept c.into_keeper.ensures.keeper c.into_keeper.ensures.served c.into_keeper.ensures.leaves,
+  front_none _ _ _ _ c.loop-taken.invariant.told,
+)
+
+pub returns-clause-halted : goal.returns-clause-halted
+returns-clause-halted g c = (
+  go_halted g.J.Keeper c.args.service.state.history c.args.service.keeper c.loop-taken.service c.into_keeper-2.result c.loop-taken.invariant.kept c.into_keeper-2.ensures.keeper c.into_keeper-2.ensures.served c.into_keeper-2.ensures.leaves,
+  front_none _ _ _ _ c.loop-taken.invariant.told,
+)
+
+-- what was written answers all of it
+pub returns-then-count-eq0-clause-told : goal.returns-then-count-eq0-clause-told
+returns-then-count-eq0-clause-told g c = told_then _ _ _ _ _ _ c.loop-taken.invariant.told c.in_ok-last.ensures.told
+
+-- nothing was read yet
+pub loop-taken-init : goal.loop-taken-init
+loop-taken-init g c = record {
+  done = taken_none _ _ _;
+  held = c.start-line.ensures;
+  few = omega arith;
+  reads = omega arith;
+  writes = omega arith;
+  told = told_nothing _ _;
+  kept = c.stays.ensures;
+}

@@ -1,7 +1,7 @@
 use Rattle.std.proofs.Common.{◌≤◌, ◌-◌, ◌^◌, []}
 use Rattle.registry.specs.Pending.{Holds}
 use Rattle.registry.specs.Kept.{KeptOn}
-use Rattle.registry.specs.Run.{HasTaken}
+use Rattle.registry.specs.Run.{HasTaken, Told}
 use Rattle.registry.proofs.run.apply.Given as goal
 
 -- so many bytes were taken, from the service's state on
@@ -17,6 +17,7 @@ invariant-loop-taken g l =
       few : l.taken ≤ 2 ^ 32;
       reads : g.S.Source.read_faults l.fn.input ≤ g.S.Source.read_faults l.input;
       writes : g.K.Sink.write_faults l.fn.out ≤ g.K.Sink.write_faults l.out;
+      told : Told l.fn.service.state.history (written l.fn.out) l.service.state.history (written l.out);
       kept : KeptOn g.J.Keeper l.fn.service.state.history l.fn.service.keeper l.service.state.history l.service.keeper;
     }
 

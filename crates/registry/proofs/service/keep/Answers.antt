@@ -1,5 +1,5 @@
 use Rattle.std.proofs.Common.{refl, ◌∙◌}
-use Rattle.registry.proofs.Keeping.{kept_same, stopped_at, size_one, served_one, kept_ok, kept_err}
+use Rattle.registry.proofs.Keeping.{kept_same, stopped_at, size_one, served_one, kept_ok, kept_err, would_keep}
 use Rattle.registry.proofs.service.keep.Goals as goal
 
 -- there was no memory to write the command down
@@ -27,5 +27,5 @@ returns-in-Ok-append-clause-kept g c =
 -- keeping it failed
 pub returns-clause-kept : goal.returns-clause-kept
 returns-clause-kept g c =
-    kept_err g.K.Keeper c.args.machine c.args.stamped c.deref.result.now c.args.keeper c.append.new.self c.requires.served
-    (c.deref.ensures.value ∙ c.in-Ok.ensures.value) c.append.ensures.object c.append.ensures.cause.later c.in-Err.ensures.cause.failed c.in-Err.ensures.failed (g.met.K.Keeper.stop_counts_now c.append.new.self) c.append.ensures.any_moment
+    kept_err g.K.Keeper c.args.machine c.args.stamped c.deref.result.now c.args.keeper c.append.new.self _ c.requires.served c.requires.now c.requires.accepted c.requires.writable
+    (would_keep c.args.machine c.args.stamped c.requires.now c.requires.accepted) (c.deref.ensures.value ∙ c.in-Ok.ensures.value) c.append.ensures.object c.append.ensures.cause.later c.in-Err.ensures.cause.failed c.in-Err.ensures.failed (g.met.K.Keeper.stop_counts_now c.append.new.self) c.append.ensures.any_moment

@@ -1,5 +1,5 @@
 use Rattle.std.proofs.Common.{◌≤◌, ◌-◌, length, take}
-use Rattle.registry.specs.Run.{Feeds}
+use Rattle.registry.specs.Run.{Feeds, Told}
 use Rattle.registry.specs.Kept.{KeptOn}
 use Rattle.registry.proofs.session.feed.Given as goal
 
@@ -14,6 +14,7 @@ invariant-loop-at g l =
           (record { written = written l.out; moments = moments l.clock; state = l.service.state }) l.line;
       within : l.at ≤ length l.piece;
       count : faults l.fn.out ≤ faults l.out;
+      told : Told l.fn.service.state.history (written l.fn.out) l.service.state.history (written l.out);
       kept : KeptOn g.J.Keeper l.fn.service.state.history l.fn.service.keeper l.service.state.history l.service.keeper;
     }
 

@@ -9,5 +9,5 @@ pub invariant_of-facts : goal.invariant_of-facts
 invariant_of-facts c =
     let is : c.push_folder.new.self ≡ folder_added c.args.name.now c.args.display.now c.args.self = search rules in
     let home : home_id c.args.name.now c.args.self ≡ Some c.unwrap-parent.result = sym c.home-home.ensures.folder ∙ c.unwrap-parent.ensures in
-    rw is (folder_added_indexed c.facts.inside.subject_index c.facts.inside.children c.put.new.self c.facts.inside.row_set c.args.name.now c.args.display.now c.unwrap-parent.result c.args.self
+    rw is (folder_added_indexed c.facts.inside.subject_index c.facts.inside.children c.put.new.self c.facts.inside.row_set c.facts.inside.composite_index c.args.name.now c.args.display.now c.unwrap-parent.result c.args.self
     (rw c.facts.view_is at c.facts.invariant) c.requires home (λ x y. rw (← c.number.ensures, ← c.home-home.ensures.extension) (rw (c.new-id.ensures, c.made-number.ensures) at (c.in_ok-put.ensures x y))))

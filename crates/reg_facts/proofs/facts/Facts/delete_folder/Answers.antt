@@ -4,6 +4,7 @@ use Rattle.reg_facts.specs.declared.kinds.Object.TheVariants.{Folder}
 use Rattle.reg_facts.specs.Naming.{child, folder_id}
 use Rattle.reg_facts.specs.Edits.{the_id, folder_deleted}
 use Rattle.reg_facts.proofs.Walking.{folder_name, folder_home}
+use Rattle.reg_facts.proofs.Searched.{folders_ascend}
 use Rattle.reg_facts.proofs.Indexing.{folder_deleted_indexed}
 use Rattle.reg_facts.proofs.facts.Facts.delete_folder.Goals as goal
 
@@ -19,5 +20,9 @@ invariant_of-facts c =
     let id : the_id (folder_id c.args.folder.now c.args.self) ≡ c.unwrap-id.result = ap the_id given in
     let there : child c.home_of_folder-home.result.0 (extension_of c.args.folder.now) c.args.self ≡ Some (Folder (the_id (folder_id c.args.folder.now c.args.self))) = (rw c.home_of_folder-home.ensures.extension at c.home_of_folder-home.ensures.there) ∙ at.resolved in
     let is : c.delete_folder.new.self ≡ folder_deleted (the_id (folder_id c.args.folder.now c.args.self)) c.args.self = search rules in
-    rw is (folder_deleted_indexed c.facts.inside.subject_index c.facts.inside.children c.take.new.self c.facts.inside.row_set c.args.folder.now c.home_of_folder-home.result.0 c.args.self
+    rw is (folder_deleted_indexed c.facts.inside.subject_index c.facts.inside.children c.take.new.self c.facts.inside.row_set c.facts.inside.composite_index c.args.folder.now c.home_of_folder-home.result.0 c.args.self
     (rw c.facts.view_is at c.facts.invariant) c.requires there (λ x y. rw (← c.number.ensures, ← c.home_of_folder-home.ensures.extension) (c.take.ensures x y)))
+
+-- ids of sound facts ascend
+pub delete_folder-requires : goal.delete_folder-requires
+delete_folder-requires c = folders_ascend _ c.facts.invariant.sound

@@ -4,16 +4,21 @@ use Rattle.reg_facts.specs.declared.kinds.Object.TheVariants.{Group}
 use Rattle.reg_facts.specs.Naming.{child, group_id}
 use Rattle.reg_facts.specs.Edits.{the_id, group_deleted}
 use Rattle.reg_facts.proofs.Walking.{group_home}
+use Rattle.reg_facts.proofs.Searched.{groups_ascend}
 use Rattle.reg_facts.proofs.Indexing.{group_deleted_indexed}
 use Rattle.reg_facts.proofs.facts.Facts.delete_group.Goals as goal
 
 -- the maps find what the lists hold after the edit
 pub invariant_of-facts : goal.invariant_of-facts
 invariant_of-facts c =
-    let at = group_home c.args.group.now c.args.self c.requires.form c.requires.suits in
+    let at = group_home c.args.group.now c.args.self c.requires.form c.requires.suits.0 in
     let given : group_id c.args.group.now c.args.self ≡ Some c.unwrap-id.result = sym (rw c.as_str.ensures.value at c.group_id.ensures) ∙ c.unwrap-id.ensures in
     let id : the_id (group_id c.args.group.now c.args.self) ≡ c.unwrap-id.result = ap the_id given in
     let there : child c.home_of_group-home.result.0 (extension_of c.args.group.now) c.args.self ≡ Some (Group (the_id (group_id c.args.group.now c.args.self))) = (rw c.home_of_group-home.ensures.extension at c.home_of_group-home.ensures.there) ∙ at.resolved in
     let is : c.delete_group.new.self ≡ group_deleted (the_id (group_id c.args.group.now c.args.self)) c.args.self = search rules in
-    rw is (group_deleted_indexed c.facts.inside.subject_index c.facts.inside.children c.take.new.self c.facts.inside.row_set c.remove_group.new.self c.args.group.now c.home_of_group-home.result.0 c.args.self
-    (rw c.facts.view_is at c.facts.invariant) c.requires there (λ x y. rw (← c.number.ensures, ← c.home_of_group-home.ensures.extension) (c.take.ensures x y)) (λ x y. rw id (c.remove_group.ensures x y)))
+    rw is (group_deleted_indexed c.facts.inside.subject_index c.facts.inside.children c.take.new.self c.facts.inside.row_set c.delete_group.new.row_set c.facts.inside.composite_index c.delete_group.new.index c.args.group.now c.home_of_group-home.result.0 c.args.self
+    (rw c.facts.view_is at c.facts.invariant) c.requires there (λ x y. rw (← c.number.ensures, ← c.home_of_group-home.ensures.extension) (c.take.ensures x y)) (rw is at c.delete_group.ensures.rows) (rw is at c.delete_group.ensures.composites))
+
+-- ids of sound facts ascend
+pub delete_group-requires-clause-ascend : goal.delete_group-requires-clause-ascend
+delete_group-requires-clause-ascend c = groups_ascend _ c.facts.invariant.sound

@@ -13,9 +13,9 @@ invariant_of-facts c =
     let given : group_id c.args.group.now c.args.self ≡ Some c.unwrap-group.result = sym (rw c.as_str.ensures.value at c.group_id.ensures) ∙ c.unwrap-group.ensures in
     let id : the_id (group_id c.args.group.now c.args.self) ≡ c.unwrap-group.result = ap the_id given in
     let found : member_of c.args.member.now c.args.self ≡ Some c.unwrap-member.result = sym c.member_of.ensures ∙ c.unwrap-member.ensures in
-    let is : c.remove_row.new.self ≡ row_removed c.unwrap-group.result (Some c.unwrap-member.result) c.args.self = rw c.facts.view_is at c.remove_row.ensures in
-    rw is (row_removed_indexed c.facts.inside.subject_index c.facts.inside.children c.facts.inside.row_set c.remove.new.self c.args.group.now c.args.member.now c.unwrap-group.result c.unwrap-member.result c.args.self
-    (rw c.facts.view_is at c.facts.invariant) c.requires id found c.remove.ensures)
+    let is : c.remove_row.new.self ≡ row_removed c.unwrap-group.result (Some c.unwrap-member.result) c.args.self = rw c.facts.view_is at c.remove_row.ensures.lists in
+    rw is (row_removed_indexed c.facts.inside.subject_index c.facts.inside.children c.facts.inside.row_set c.remove_row.new.row_set c.facts.inside.composite_index c.args.group.now c.args.member.now c.unwrap-group.result c.unwrap-member.result c.args.self
+    (rw c.facts.view_is at c.facts.invariant) c.requires id found (rw is at c.remove_row.ensures.found))
 
 has_some : (g : ℕ) (m : Option Member) (rows : List MemberRow) → has_member g m rows ≡ true → IsSome m
 has_some g None rows h = cc
@@ -29,4 +29,4 @@ pub returns : goal.returns
 returns c =
     let given : group_id c.args.group.now c.args.self ≡ Some c.unwrap-group.result = sym (rw c.as_str.ensures.value at c.group_id.ensures) ∙ c.unwrap-group.ensures in
     let found : member_of c.args.member.now c.args.self ≡ Some c.unwrap-member.result = sym c.member_of.ensures ∙ c.unwrap-member.ensures in
-    rw (given, found) (rw c.facts.view_is at c.remove_row.ensures)
+    rw (given, found) (rw c.facts.view_is at c.remove_row.ensures.lists)

@@ -4,6 +4,7 @@ use Rattle.reg_facts.specs.declared.kinds.Object.TheVariants.{Folder}
 use Rattle.reg_facts.specs.Naming.{child, folder_id}
 use Rattle.reg_facts.specs.Edits.{the_id, folder_renamed_in}
 use Rattle.reg_facts.proofs.Walking.{folder_name, folder_home, and_left}
+use Rattle.reg_facts.proofs.Searched.{folders_ascend}
 use Rattle.reg_facts.proofs.Indexing.{folder_renamed_indexed}
 use Rattle.reg_facts.proofs.facts.Facts.rename_folder.Goals as goal
 
@@ -19,5 +20,9 @@ invariant_of-facts c =
     let id : the_id (folder_id c.args.folder.now c.args.self) ≡ c.unwrap-id.result = ap the_id given in
     let there : child c.home_of_folder-home.result.0 (extension_of c.args.folder.now) c.args.self ≡ Some (Folder (the_id (folder_id c.args.folder.now c.args.self))) = (rw c.home_of_folder-home.ensures.extension at c.home_of_folder-home.ensures.there) ∙ at.resolved in
     let is : c.rename_folder.new.self ≡ folder_renamed_in c.args.folder.now c.args.extension.now c.args.self = search rules in
-    rw is (folder_renamed_indexed c.facts.inside.subject_index c.facts.inside.children c.take.new.self c.put.new.self c.facts.inside.row_set c.args.folder.now c.args.extension.now c.home_of_folder-home.result.0 c.args.self
+    rw is (folder_renamed_indexed c.facts.inside.subject_index c.facts.inside.children c.take.new.self c.put.new.self c.facts.inside.row_set c.facts.inside.composite_index c.args.folder.now c.args.extension.now c.home_of_folder-home.result.0 c.args.self
     (rw c.facts.view_is at c.facts.invariant) c.requires c.home_of_folder-home.ensures.home there (λ x y. rw (← c.number.ensures, ← c.home_of_folder-home.ensures.extension) (c.take.ensures x y)) (λ x y. rw (id, ← c.number-2.ensures, ← c.as_str-2.ensures) (c.in_ok-put.ensures x y)))
+
+-- ids of sound facts ascend
+pub rename_folder-requires : goal.rename_folder-requires
+rename_folder-requires c = folders_ascend _ c.facts.invariant.sound

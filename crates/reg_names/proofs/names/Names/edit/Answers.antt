@@ -10,3 +10,9 @@ returns-in-MemberAdd c at d e = c.requires.in_step d e ∙ names_kept at c.args.
 
 pub returns-in-MemberRemove : goal.returns-in-MemberRemove
 returns-in-MemberRemove c at d e = c.requires.in_step d e ∙ names_kept at c.args.command.now c.args.before.now d e (rw c.in-MemberRemove.is refl)
+
+pub returns-in-CompositeSet : goal.returns-in-CompositeSet
+returns-in-CompositeSet c at d e = c.requires.in_step d e ∙ names_kept at c.args.command.now c.args.before.now d e (rw c.in-CompositeSet.is refl)
+
+pub returns-in-CompositeClear : goal.returns-in-CompositeClear
+returns-in-CompositeClear c at d e = c.requires.in_step d e ∙ names_kept at c.args.command.now c.args.before.now d e (rw c.in-CompositeClear.is refl)

@@ -1,6 +1,8 @@
-use Rattle.std.proofs.Common.{◌≡◌, ap, subst}
+use Rattle.std.proofs.Common.{◌≡◌, ◌∙◌, ℕ, ap, subst, max, Ok}
 use Rattle.reg_machine.specs.History.{State}
 use Rattle.registry.specs.Kept.{KeepsNext}
+use Rattle.reg_view.specs.declared.request.Op.TheVariants as op
+use Rattle.registry.specs.Turn.{turn, requested, at_moment}
 use Rattle.registry.specs.Opening.{Served}
 use Rattle.registry.proofs.Keeping.{stopped_at}
 use Rattle.registry.proofs.service.Service.request.Goals as goal
@@ -15,4 +17,15 @@ returns-in_default-clause-kept g c =
 pub returns-in-Query-clause-kept : goal.returns-in-Query-clause-kept
 returns-in-Query-clause-kept g c =
     let same : c.in-Ok.machine.history ≡ c.self.inside.machine.history = ap (λ (s : State). s.history) c.in-Ok.ensures in
-    subst (λ (v : Served g.row.K.Denot). KeepsNext g.K.Keeper v.state.history v.keeper c.asked.result.1) c.self.view_is (rw same at c.asked.ensures.kept)
+    let expected = (turn c.args.self.state c.args.at (Ok c.args.request)).1.history in
+    let kept : KeepsNext g.K.Keeper c.in-Ok.machine.history expected c.self.inside.keeper c.asked.result.1 = c.asked.ensures.kept expected in
+    subst (λ (v : Served g.row.K.Denot). KeepsNext g.K.Keeper v.state.history expected v.keeper c.asked.result.1) c.self.view_is (rw same at kept)
+
+-- a command is carried out at the later moment
+pub returns-in-Command-clause-kept : goal.returns-in-Command-clause-kept
+returns-in-Command-clause-kept g c =
+    let later : State = at_moment c.self.inside.machine c.args.at in
+    let moved : c.in-Ok.machine ≡ later = c.in-Ok.ensures ∙ ap (λ (n : ℕ). let s : State = record { history = c.self.inside.machine.history; clock = n } in s) (c.later_of-now.ensures.value ∙ ap (λ (n : ℕ). max n c.args.at) c.clock.ensures) in
+    let kept : KeepsNext g.K.Keeper c.self.inside.machine.history (requested later c.args.request.by (op.Command c.in-Command.command)).1.history c.self.inside.keeper c.carried_out.result.1 =
+    subst (λ (m : State). KeepsNext g.K.Keeper m.history (requested m c.args.request.by (op.Command c.in-Command.command)).1.history c.self.inside.keeper c.carried_out.result.1) moved c.carried_out.ensures.kept in
+    subst (λ (v : Served g.row.K.Denot). KeepsNext g.K.Keeper v.state.history (requested (at_moment v.state c.args.at) c.args.request.by c.args.request.op).1.history v.keeper c.carried_out.result.1) c.self.view_is (rw c.in-Command.is kept)
