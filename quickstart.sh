@@ -22,7 +22,7 @@ show() {
 command -v rt > /dev/null || stop "the kit's command rt is not on the PATH"
 
 echo "== Step 1 of 3: prove the program and the crates that it stands on."
-echo "   From nothing this takes about 40 processor minutes; with nothing changed since it takes"
+echo "   From nothing this takes tens of processor minutes; with nothing changed since it takes"
 echo "   half a minute. The check says how far it is."
 before=$(date +%s)
 (cd crates/registry && rt check) || stop "a crate was not proved; the lines above say where"

@@ -11,17 +11,15 @@ program=$(pwd)/crates/registry/out/registry
     echo "apply.sh: no $program: run ./quickstart.sh first" >&2
     exit 1
 }
-exec python3 - "$program" "${FOLDERS:-1000}" "${SUBJECTS:-20000}" "${GROUPS_MADE:-2000}" "${ROWS:-40000}" "${MOVES:-50000}" <<'PYTHON'
-import json
+PYTHONDONTWRITEBYTECODE=1 PYTHONPATH=bench exec python3 - "$program" "${FOLDERS:-1000}" "${SUBJECTS:-20000}" "${GROUPS_MADE:-2000}" "${ROWS:-40000}" "${MOVES:-50000}" <<'PYTHON'
 import os
-import resource
 import subprocess
 import sys
 import tempfile
-import time
+
+from applying import Applied
 
 program, folders, subjects, groups, rows, moves = sys.argv[1], *map(int, sys.argv[2:])
-SYSTEM = "g:isa/GrouperSystem"
 
 
 def subject(n):
@@ -74,50 +72,20 @@ def edits():
         yield {"op": "group.move", "group": extension, "to": own.split(":")[0]}
 
 
-def peak_of(process):
-    """The most memory that the process has had resident so far, in kB, as Linux counts it."""
-    try:
-        with open("/proc/%d/status" % process.pid) as file:
-            for line in file:
-                if line.startswith("VmHWM:"):
-                    return int(line.split()[1])
-    except OSError:
-        pass
-    return 0
-
-
 def measured(title, requests, journal, place):
-    into, out = os.path.join(place, "lines"), os.path.join(place, "replies")
-    count = 0
-    with open(into, "w") as file:
-        for line in requests:
-            file.write(json.dumps({"by": SYSTEM, **line}, separators=(",", ":")) + "\n")
-            count += 1
-    start = resource.getrusage(resource.RUSAGE_CHILDREN)
-    before = time.time()
-    with open(into, "rb") as source, open(out, "wb") as sink:
-        process = subprocess.Popen([program, journal, "apply"], stdin=source, stdout=sink)
-        peak = 0
-        while process.poll() is None:
-            peak = max(peak, peak_of(process))
-            time.sleep(0.02)
-        status = process.returncode
-    seconds = time.time() - before
-    used = resource.getrusage(resource.RUSAGE_CHILDREN)
-    replies = [json.loads(line) for line in open(out)]
-    accepted = sum("number" in r for r in replies)
-    answered = sum("members" in r for r in replies)
-    members = sum(len(r.get("members", [])) for r in replies)
+    run = Applied(program, journal, requests, place)
+    answered = sum("members" in r for r in run.replies)
+    members = sum(len(r.get("members", [])) for r in run.replies)
     print(title)
-    print("  lines in           %d" % count)
-    print("  exit status        %d" % status)
+    print("  lines in           %d" % run.count)
+    print("  exit status        %d" % run.status)
     print("  replies            %d: %d commands accepted, %d lists of members with %d names, %d other"
-          % (len(replies), accepted, answered, members, len(replies) - accepted - answered))
+          % (len(run.replies), run.accepted, answered, members, len(run.replies) - run.accepted - answered))
     print("  seconds            %.1f (%.1f of a processor)"
-          % (seconds, used.ru_utime + used.ru_stime - start.ru_utime - start.ru_stime))
-    print("  lines a second     %d" % (count / seconds))
-    print("  peak memory        %.1f MB" % (peak * 1024 / 1e6))
-    return status == 0 and accepted + answered == count
+          % (run.seconds, run.processor))
+    print("  lines a second     %d" % (run.count / run.seconds))
+    print("  peak memory        %.1f MB" % (run.peak * 1024 / 1e6))
+    return run.status == 0 and run.accepted + answered == run.count
 
 
 with tempfile.TemporaryDirectory(dir="/dev/shm") as place:

@@ -11,7 +11,7 @@ program=$(pwd)/crates/registry/out/registry
     echo "nesting.sh: no $program: run ./quickstart.sh first" >&2
     exit 1
 }
-exec python3 - "$program" "${GROUPS_MADE:-200}" "${PERSONS:-2000}" "${ROUNDS:-25000}" <<'PYTHON'
+PYTHONDONTWRITEBYTECODE=1 PYTHONPATH=bench exec python3 - "$program" "${GROUPS_MADE:-200}" "${PERSONS:-2000}" "${ROUNDS:-25000}" <<'PYTHON'
 import json
 import os
 import subprocess
@@ -19,8 +19,9 @@ import sys
 import tempfile
 import time
 
+from applying import Applied
+
 program, groups, persons, rounds = sys.argv[1], *map(int, sys.argv[2:])
-SYSTEM = "g:isa/GrouperSystem"
 last = "c%d" % (groups - 1)
 
 
@@ -43,20 +44,10 @@ def turns():
 
 
 def measured(title, requests, journal, place):
-    into, out = os.path.join(place, "lines"), os.path.join(place, "replies")
-    count = 0
-    with open(into, "w") as file:
-        for line in requests:
-            file.write(json.dumps({"by": SYSTEM, **line}, separators=(",", ":")) + "\n")
-            count += 1
-    before = time.time()
-    with open(into, "rb") as source, open(out, "wb") as sink:
-        status = subprocess.run([program, journal, "apply"], stdin=source, stdout=sink).returncode
-    seconds = time.time() - before
-    accepted = sum("number" in json.loads(line) for line in open(out))
+    run = Applied(program, journal, requests, place)
     print("%-24s %d lines, status %d, %d accepted, %.1f seconds, %d lines a second"
-          % (title, count, status, accepted, seconds, count / seconds))
-    return status == 0 and accepted == count
+          % (title, run.count, run.status, run.accepted, run.seconds, run.count / run.seconds))
+    return run.status == 0 and run.accepted == run.count
 
 
 with tempfile.TemporaryDirectory(dir="/dev/shm") as place:
