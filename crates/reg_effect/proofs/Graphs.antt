@@ -261,14 +261,6 @@ pub person_on_edges : (L : Live) (g p : ℕ) → edges (changed (RowOn g (Person
 unfolding edges
 person_on_edges L g p = ap (λ es. es ++ factor_edges L.composites) (person_put g p L.rows)
 
-pub person_off_edges : (L : Live) (g p : ℕ) → edges (changed (RowOff g (Person p)) L) ≡ edges L
-unfolding edges
-person_off_edges L g p = ap (λ es. es ++ factor_edges L.composites) (person_taken g p L.rows)
-
--- a graph without circles has the edges of live data without one
-pub acyclic_counted : (L : Live) (graph : List (ℕ × ℕ)) → IsCounted L graph → IsAcyclic graph → IsAcyclic (edges L)
-acyclic_counted L graph k c a b e = sym (reaches_same graph (edges L) (edge_counted L graph k) b a) ∙ c a b (edge_counted L graph k a b ∙ e)
-
 -- ---- fewer edges
 pub reaches_fewer : (es fs : List (ℕ × ℕ)) → ((a b : ℕ) → has_edge fs a b ≡ true → has_edge es a b ≡ true) → (a b : ℕ) → reaches fs a b ≡ true → reaches es a b ≡ true
 reaches_fewer es fs fewer a b r = kept_along (λ y. reaches es a y) fs (λ x y e p. reaches_trans es a x y p (reaches_edge es x y (fewer x y e))) a b r (reaches_self es a)

@@ -22,7 +22,7 @@ use Rattle.reg_facts.specs.Edits as facts
 use Rattle.reg_effect.specs.declared.live.Live.{Live}
 use Rattle.reg_effect.specs.declared.live.Change.TheVariants.{RowOn, RowOff, FactorsOn, FactorsOff}
 use Rattle.reg_effect.specs.Member.{is_composite}
-use Rattle.reg_effect.specs.Order.{row_cmp, composite_cmp, is_row, has_row, has_rows}
+use Rattle.reg_effect.specs.Order.{row_cmp, composite_cmp, is_row, has_row}
 use Rattle.reg_effect.specs.Changes.{rows_on, composites_in, live_of, changed}
 use Rattle.reg_effect.specs.Standing.{AllOn}
 use Rattle.reg_effect.proofs.Edits.{any_put, row_same, row_is, composite_added, composite_absent, group_same}
@@ -282,10 +282,6 @@ found_in g (c ∷ cs) acc s = found_in g cs (insert_key composite_cmp acc c) (pu
     over None false p = refl
     over (Some x) b p = refl
 
--- a group has its first factors of the facts' list
-pub composite_same_as : (g : ℕ) (cs : List CompositeRow) → find (λ (c : CompositeRow). c.group == g) (composites_in cs []) ≡ find (λ (c : CompositeRow). c.group == g) cs
-composite_same_as g cs = found_in g cs [] (empty_sorted composite_cmp)
-
 -- ---- rows that are all on
 pub rows_all_on : (at later : ℕ) (rows : List MemberRow) (acc : List (ℕ × Member)) → AllOn at rows → at ≤ later → rows_on later rows acc ≡ rows_on at rows acc
 rows_all_on at later [] acc a h = refl
@@ -296,9 +292,6 @@ rows_all_on at later (r ∷ rs) acc a h =
   where
     until : (x y z : ℕ) → x ≤ y → y ≤ z → x ≤ z
     until x y z a b = omega (arith, a, b)
-
-pub live_all_on : (at later : ℕ) (rows : List MemberRow) (cs : List CompositeRow) → AllOn at rows → at ≤ later → live_of later rows cs ≡ live_of at rows cs
-live_all_on at later rows cs a h = live_rows (live_of at rows cs) _ _ (rows_all_on at later rows [] a h)
 
 pub all_on_later : (at later : ℕ) (rows : List MemberRow) → AllOn at rows → at ≤ later → AllOn later rows
 all_on_later at later [] a h = tt
@@ -386,17 +379,3 @@ rows_all_has test at (r ∷ rs) acc a =
     turned true false c = refl
     turned false true c = refl
     turned false false c = refl
-
-pub rows_all_test : (test : ℕ × Member → Bool) (at : ℕ) (rows : List MemberRow) → AllOn at rows → list_any test (rows_on at rows []) ≡ list_any (λ (r : MemberRow). test (r.group, r.member)) rows
-rows_all_test test at rows a = rows_all_has test at rows [] a ∙ outside (list_any (λ (r : MemberRow). test (r.group, r.member)) rows)
-  where
-    outside : (b : Bool) → (b || false) ≡ b
-    outside true = refl
-    outside false = refl
-
--- where all rows are on, the live data have the rows of the facts
-pub has_row_same : (at g : ℕ) (m : Member) (rows : List MemberRow) → AllOn at rows → has_row g m (rows_on at rows []) ≡ facts.has_row g m rows
-has_row_same at g m rows a = rows_all_test (is_row g m) at rows a
-
-pub has_rows_same : (at g : ℕ) (rows : List MemberRow) → AllOn at rows → has_rows g (rows_on at rows []) ≡ list_any (λ (row : MemberRow). row.group == g) rows
-has_rows_same at g rows a = rows_all_test (λ (p : ℕ × Member). p.0 == g) at rows a

@@ -14,8 +14,9 @@ use Rattle.std.proofs.lemmas.Map.Lookups.{btree_set_from_contains}
 use Rattle.reg_facts.specs.declared.kinds.Member.{Member}
 use Rattle.reg_facts.specs.declared.kinds.Member.TheVariants.{Person, Group}
 use Rattle.reg_facts.specs.declared.rows.MemberRow.{MemberRow}
-use Rattle.reg_effect.specs.Order.{place_of, row_cmp, is_row, has_row}
-use Rattle.reg_effect.specs.Changes.{rows_on}
+use Rattle.reg_facts.specs.RowOrder.{place_of}
+use Rattle.reg_effect.specs.Order.{row_cmp, is_row, has_row}
+use Rattle.reg_effect.specs.Changes.{rows_where, rows_on}
 use Rattle.reg_effect.proofs.Edits.{any_put, row_same, row_equal, row_eq, row_is, rows_absent}
 
 pub row_cmp_total : IsTotalOrder row_cmp
@@ -50,20 +51,20 @@ pub empty_sorted : {X : Type 0} (R : X → X → Ordering) → IsStrictlySortedB
 unfolding IsStrictlySortedBy
 empty_sorted R = tt
 
--- the rows that are on stand in order
-pub rows_on_sorted : (at : ℕ) (rows : List MemberRow) (acc : List (ℕ × Member)) → IsStrictlySortedBy row_cmp acc → IsStrictlySortedBy row_cmp (rows_on at rows acc)
-rows_on_sorted at [] acc s = s
-rows_on_sorted at (r ∷ rs) acc s = elim (cases_Bool (nat_le r.from at)) [
-  | inl t ↦ rw t (rows_on_sorted at rs (insert_key row_cmp acc (r.group, r.member)) (put_sorted row_cmp row_cmp_total (r.group, r.member) acc s))
-  | inr f ↦ rw f (rows_on_sorted at rs acc s)
+-- the rows that pass a test stand in order
+pub where_sorted : (test : MemberRow → Bool) (rows : List MemberRow) (acc : List (ℕ × Member)) → IsStrictlySortedBy row_cmp acc → IsStrictlySortedBy row_cmp (rows_where test rows acc)
+where_sorted test [] acc s = s
+where_sorted test (r ∷ rs) acc s = elim (cases_Bool (test r)) [
+  | inl t ↦ rw t (where_sorted test rs (insert_key row_cmp acc (r.group, r.member)) (put_sorted row_cmp row_cmp_total (r.group, r.member) acc s))
+  | inr f ↦ rw f (where_sorted test rs acc s)
 ]
 
--- and are those with from <= at
-pub rows_on_has : (at g : ℕ) (m : Member) (rows : List MemberRow) (acc : List (ℕ × Member)) → has_row g m (rows_on at rows acc) ≡ (list_any (λ (r : MemberRow). nat_le r.from at && is_row g m (r.group, r.member)) rows || has_row g m acc)
-rows_on_has at g m [] acc = refl
-rows_on_has at g m (r ∷ rs) acc = elim (cases_Bool (nat_le r.from at)) [
-  | inl t ↦ rw t (rows_on_has at g m rs (insert_key row_cmp acc (r.group, r.member)) ∙ rw (any_put row_cmp (is_row g m) (r.group, r.member) (row_same r.group r.member (is_row g m)) acc) (turned (list_any (λ (r : MemberRow). nat_le r.from at && is_row g m (r.group, r.member)) rs) (is_row g m (r.group, r.member)) (has_row g m acc)))
-  | inr f ↦ rw f (rows_on_has at g m rs acc)
+-- and are those that pass it
+pub where_has : (test : MemberRow → Bool) (g : ℕ) (m : Member) (rows : List MemberRow) (acc : List (ℕ × Member)) → has_row g m (rows_where test rows acc) ≡ (list_any (λ (r : MemberRow). test r && is_row g m (r.group, r.member)) rows || has_row g m acc)
+where_has test g m [] acc = refl
+where_has test g m (r ∷ rs) acc = elim (cases_Bool (test r)) [
+  | inl t ↦ rw t (where_has test g m rs (insert_key row_cmp acc (r.group, r.member)) ∙ rw (any_put row_cmp (is_row g m) (r.group, r.member) (row_same r.group r.member (is_row g m)) acc) (turned (list_any (λ (r : MemberRow). test r && is_row g m (r.group, r.member)) rs) (is_row g m (r.group, r.member)) (has_row g m acc)))
+  | inr f ↦ rw f (where_has test g m rs acc)
 ]
   where
     turned : (a b c : Bool) → (a || (b || c)) ≡ ((b || a) || c)
@@ -71,6 +72,14 @@ rows_on_has at g m (r ∷ rs) acc = elim (cases_Bool (nat_le r.from at)) [
     turned true false c = refl
     turned false true c = refl
     turned false false c = refl
+
+-- the rows that are on stand in order
+pub rows_on_sorted : (at : ℕ) (rows : List MemberRow) (acc : List (ℕ × Member)) → IsStrictlySortedBy row_cmp acc → IsStrictlySortedBy row_cmp (rows_on at rows acc)
+rows_on_sorted at rows acc s = where_sorted (λ (r : MemberRow). nat_le r.from at) rows acc s
+
+-- and are those with from <= at
+pub rows_on_has : (at g : ℕ) (m : Member) (rows : List MemberRow) (acc : List (ℕ × Member)) → has_row g m (rows_on at rows acc) ≡ (list_any (λ (r : MemberRow). nat_le r.from at && is_row g m (r.group, r.member)) rows || has_row g m acc)
+rows_on_has at g m rows acc = where_has (λ (r : MemberRow). nat_le r.from at) g m rows acc
 
 -- a row more in the facts is a row more that is on, or none
 pub rows_on_more : (at : ℕ) (rows : List MemberRow) (r : MemberRow) (acc : List (ℕ × Member)) → rows_on at (rows ++ r ∷ []) acc ≡ cond (nat_le r.from at) (insert_key row_cmp (rows_on at rows acc) (r.group, r.member)) (rows_on at rows acc)

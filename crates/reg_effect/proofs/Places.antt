@@ -21,7 +21,8 @@ use Rattle.reg_facts.specs.declared.kinds.Member.{Member}
 use Rattle.reg_facts.specs.declared.kinds.Member.TheVariants.{Person, Group}
 use Rattle.reg_facts.specs.declared.rows.CompositeRow.{CompositeRow}
 use Rattle.reg_effect.specs.declared.composites.Factors.{Factors}
-use Rattle.reg_effect.specs.Order.{place_of, place_cmp, row_cmp, composite_cmp, row_at, is_row, has_row, has_rows, nested, row_members, ArePlaces}
+use Rattle.reg_facts.specs.RowOrder.{place_of, place_cmp}
+use Rattle.reg_effect.specs.Order.{row_cmp, composite_cmp, row_at, is_row, has_row, has_rows, nested, row_members, ArePlaces}
 use Rattle.reg_effect.specs.Factors.{composite_at}
 use Rattle.reg_effect.specs.Member.{is_composite}
 

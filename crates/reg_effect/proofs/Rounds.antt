@@ -4,15 +4,12 @@ use Rattle.std.proofs.lemmas.Bool.{cases_Bool, eqb-true}
 use Rattle.std.proofs.lemmas.List.Folds.{list_any-append}
 use Rattle.std.specs.List.Sorted.{IsStrictlySortedBy}
 use Rattle.reg_facts.specs.declared.kinds.Member.{Member}
-use Rattle.reg_facts.specs.declared.kinds.SetOp.{SetOp}
-use Rattle.reg_facts.specs.declared.kinds.SetOp.TheVariants.{Intersection, Complement}
-use Rattle.reg_facts.specs.declared.rows.CompositeRow.{CompositeRow}
 use Rattle.reg_graph.specs.Sets.{holds, pair_cmp}
 use Rattle.reg_graph.specs.Edges.{among}
 use Rattle.reg_graph.proofs.Reaching.{eq_turned}
 use Rattle.reg_graph.proofs.Orders.{among_more}
 use Rattle.reg_effect.specs.declared.live.Live.{Live}
-use Rattle.reg_effect.specs.Member.{is_composite, combine, gives, in_rows, in_factors, level, member_in, entries, member}
+use Rattle.reg_effect.specs.Member.{is_composite, gives, in_rows, in_factors, level, member_in, entries, member}
 use Rattle.reg_effect.specs.Asked.{IsWell}
 use Rattle.reg_effect.specs.Deltas.{began, ended}
 use Rattle.reg_effect.proofs.Deep.{level_same}
@@ -25,16 +22,6 @@ person_given old new g p h y q = h y q ∙ rw (eq_turned g y, eq_turned p q) ref
 
 pub group_given : (old new : ℕ → ℕ → Bool) (below : ℕ → Bool) (g : ℕ) (persons : List ℕ) → ((y q : ℕ) → new y q ≡ (((y == g) && among q persons) || old y q)) → ((q : ℕ) → among q persons ≡ below q) → (y q : ℕ) → new y q ≡ (((g == y) && below q) || old y q)
 group_given old new below g persons h k y q = h y q ∙ rw (eq_turned g y, k q) refl
-
-pub filled_more : (old now new : ℕ → ℕ → Bool) (g p : ℕ) (ps : List ℕ) → ((y q : ℕ) → now y q ≡ (((y == g) && among q ps) || old y q)) → ((y q : ℕ) → new y q ≡ (((y == g) && (q == p)) || now y q)) → (y q : ℕ) → new y q ≡ (((y == g) && among q (ps ++ p ∷ [])) || old y q)
-filled_more old now new g p ps k h y q = h y q ∙ rw (k y q, among_more q p ps) (bools (y == g) (q == p) (among q ps) (old y q))
-  where
-    bools : (a b c o : Bool) → ((a && b) || ((a && c) || o)) ≡ ((a && (c || b)) || o)
-    bools true true true o = refl
-    bools true true false o = refl
-    bools true false true o = refl
-    bools true false false o = refl
-    bools false b c o = refl
 
 -- ---- factors
 pub factor_added : (old new : ℕ → ℕ → Bool) (g p : ℕ) (given : Bool) → given ≡ true → ((y q : ℕ) → new y q ≡ (((y == g) && (q == p)) || old y q)) → (y q : ℕ) → new y q ≡ ((((y == g) && (q == p)) && given) || old y q)
@@ -61,28 +48,10 @@ factors_more old now new g p given ps k h y q = h y q ∙ elim (cases_Bool (q ==
     other true false d e o = refl
     other false c d e o = refl
 
-pub combine_by_left : (op : SetOp) (a b : Bool) → (a && combine op true b) ≡ combine op a b
-combine_by_left Intersection a b = refl
-combine_by_left Complement a b = refl
-
-pub composite_given : (old new : ℕ → ℕ → Bool) (g : ℕ) (op : SetOp) (left right : ℕ → Bool) (persons : List ℕ) → ((y q : ℕ) → new y q ≡ (((y == g) && (among q persons && combine op true (right q))) || old y q)) → ((q : ℕ) → among q persons ≡ left q)
-    → (y q : ℕ) → new y q ≡ (((g == y) && combine op (left q) (right q)) || old y q)
-composite_given old new g op left right persons h k y q = h y q ∙ rw (eq_turned g y, k q, combine_by_left op (left q) (right q)) refl
-
 -- ---- lists of rows and of composites
 pub rows_more : (table : List (ℕ × ℕ)) (old now new : ℕ → ℕ → Bool) (g : ℕ) (m : Member) (rows : List (ℕ × Member)) → ((y q : ℕ) → now y q ≡ (in_rows (λ h. holds h q table) rows y q || old y q))
     → ((y q : ℕ) → new y q ≡ (((g == y) && gives (λ h. holds h q table) q m) || now y q)) → (y q : ℕ) → new y q ≡ (in_rows (λ h. holds h q table) (rows ++ (g, m) ∷ []) y q || old y q)
 rows_more table old now new g m rows k h y q = h y q ∙ rw (k y q, list_any-append (λ (row : ℕ × Member). (row.0 == y) && gives (λ h. holds h q table) q row.1) rows ((g, m) ∷ [])) (bools ((g == y) && gives (λ h. holds h q table) q m) (in_rows (λ h. holds h q table) rows y q) (old y q))
-  where
-    bools : (a b o : Bool) → (a || (b || o)) ≡ ((b || (a || false)) || o)
-    bools true true o = refl
-    bools true false o = refl
-    bools false true o = refl
-    bools false false o = refl
-
-pub composites_more : (table : List (ℕ × ℕ)) (old now new : ℕ → ℕ → Bool) (c : CompositeRow) (cs : List CompositeRow) → ((y q : ℕ) → now y q ≡ (in_factors (λ h. holds h q table) cs y || old y q))
-    → ((y q : ℕ) → new y q ≡ (((c.group == y) && combine c.op (holds c.left q table) (holds c.right q table)) || now y q)) → (y q : ℕ) → new y q ≡ (in_factors (λ h. holds h q table) (cs ++ c ∷ []) y || old y q)
-composites_more table old now new c cs k h y q = h y q ∙ rw (k y q, list_any-append (λ (c : CompositeRow). (c.group == y) && combine c.op (holds c.left q table) (holds c.right q table)) cs (c ∷ [])) (bools ((c.group == y) && combine c.op (holds c.left q table) (holds c.right q table)) (in_factors (λ h. holds h q table) cs y) (old y q))
   where
     bools : (a b o : Bool) → (a || (b || o)) ≡ ((b || (a || false)) || o)
     bools true true o = refl

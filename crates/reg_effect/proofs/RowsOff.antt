@@ -15,12 +15,12 @@ use Rattle.reg_effect.specs.declared.live.Change.{Change}
 use Rattle.reg_effect.specs.declared.live.Change.TheVariants.{RowOff, FactorsOff}
 use Rattle.reg_effect.specs.Member.{is_composite}
 use Rattle.reg_effect.specs.Order.{is_row, has_row, has_rows, row_members}
-use Rattle.reg_effect.specs.Changes.{rows_on, live_of, changed, changed_by, Suits}
+use Rattle.reg_effect.specs.Changes.{rows_on, live_of, changed, changed_by}
 use Rattle.reg_effect.specs.Edges.{edges}
 use Rattle.reg_effect.specs.Standing.{AllOn, RowsOnce}
 use Rattle.reg_effect.proofs.LiveOf.{row_self}
-use Rattle.reg_effect.proofs.LiveLaws.{row_on_less, rows_on_without, live_rows, live_factors_less, row_stands, has_rows_same, all_on_less}
-use Rattle.reg_effect.proofs.Standing.{any_removed_from, acyclic_within, row_off_suits, rows_once_less, none_of_group}
+use Rattle.reg_effect.proofs.LiveLaws.{row_on_less, rows_on_without, live_rows, live_factors_less, all_on_less}
+use Rattle.reg_effect.proofs.Standing.{any_removed_from, acyclic_within, rows_once_less, none_of_group}
 
 -- rows without some members of a group, taken out one after the other
 abbrev pub taken_by : ℕ → List Member → List (ℕ × Member) → List (ℕ × Member)
@@ -102,14 +102,6 @@ pub offs_acyclic : (g : ℕ) (ms : List Member) (L : Live) → IsAcyclic (edges 
 offs_acyclic g [] L c = c
 offs_acyclic g (m ∷ ms) L c = offs_acyclic g ms (changed (RowOff g m) L) (acyclic_within L (changed (RowOff g m) L) (λ test. any_removed_from (is_row g m) test L.rows) (λ test e. e) c)
 
--- the next change suits what those before it leave
-pub off_suits : (g i : ℕ) (m : Member) (ms : List Member) (L : Live) → ms ≡ row_members g L.rows → i < length ms → m ≡ get_or ms i m → IsAcyclic (edges L) → Suits (RowOff g m) (changed_by (map (λ (m : Member). RowOff g m) (take i ms)) L)
-off_suits g i m ms L own l e c = row_off_suits g m (changed_by (offs g (take i ms)) L) (off_fits g m (take i ms) (drop (suc i) ms) L (sym own ∙ parted ms i m l e)) (offs_acyclic g (take i ms) L c)
-
--- and makes those up to it
-pub off_made : (g i : ℕ) (m : Member) (ms : List Member) (L : Live) → i < length ms → m ≡ get_or ms i m → changed (RowOff g m) (changed_by (map (λ (m : Member). RowOff g m) (take i ms)) L) ≡ changed_by (map (λ (m : Member). RowOff g m) (take (i + 1) ms)) L
-off_made g i m ms L l e = sym (ap (λ ns. changed_by (offs g ns) L) (took_more ms i m l e) ∙ offs_more g (take i ms) m L)
-
 -- ---- the same in the facts' list of rows
 abbrev pub rows_without : ℕ → List Member → List MemberRow → List MemberRow
 rows_without g [] rows = rows
@@ -122,10 +114,6 @@ without_more g (n ∷ ns) m rows = without_more g ns m (filter (λ (row : Member
 pub without_on : (at g : ℕ) (ms : List Member) (rows : List MemberRow) → rows_on at (rows_without g ms rows) [] ≡ taken_by g ms (rows_on at rows [])
 without_on at g [] rows = refl
 without_on at g (m ∷ ms) rows = without_on at g ms (filter (λ (row : MemberRow). not (facts.is_row g m row)) rows) ∙ ap (λ rs. taken_by g ms rs) (row_on_less at g m rows)
-
--- each member's row stands when its turn comes
-pub without_stands : (at g : ℕ) (m : Member) (before after : List Member) (rows : List MemberRow) → row_members g (rows_on at rows []) ≡ before ++ m ∷ after → facts.has_row g m (rows_without g before rows) ≡ true
-without_stands at g m before after rows h = row_stands at g m (rows_without g before rows) (ap (λ rs. has_row g m rs) (without_on at g before rows) ∙ still_there g m before after (rows_on at rows []) h)
 
 pub without_all_on : (at g : ℕ) (ms : List Member) (rows : List MemberRow) → AllOn at rows → AllOn at (rows_without g ms rows)
 without_all_on at g [] rows a = a
@@ -163,21 +151,6 @@ none_named g (p ∷ ps) = elim (cases_Bool (p.0 == g)) [
   | inl t ↦ rw t (none_named g ps)
   | inr f ↦ rw (f, f) (none_named g ps)
 ]
-
--- where all rows are on, the other groups' rows are left
-pub without_all : (at g : ℕ) (rows : List MemberRow) → AllOn at rows → rows_without g (row_members g (rows_on at rows [])) rows ≡ filter (λ (row : MemberRow). not (row.group == g)) rows
-without_all at g rows a =
-    let ms = row_members g (rows_on at rows []) in
-    let left = rows_without g ms rows in
-    let none : list_any (λ (row : MemberRow). row.group == g) left ≡ false = sym (has_rows_same at g left (without_all_on at g ms rows a)) ∙ (ap (λ rs. has_rows g rs) (without_on at g ms rows ∙ rows_taken g (rows_on at rows [])) ∙ none_named g (rows_on at rows [])) in
-    sym (none_of_rows g left none) ∙ without_others g ms rows
-
--- as a loop over the members comes to the one at a place
-pub without_made : (g i : ℕ) (m : Member) (ms : List Member) (rows : List MemberRow) → i < length ms → m ≡ get_or ms i m → filter (λ (row : MemberRow). not (facts.is_row g m row)) (rows_without g (take i ms) rows) ≡ rows_without g (take (i + 1) ms) rows
-without_made g i m ms rows l e = sym (ap (λ ns. rows_without g ns rows) (took_more ms i m l e) ∙ without_more g (take i ms) m rows)
-
-pub without_next : (at g i : ℕ) (m : Member) (ms : List Member) (rows : List MemberRow) → ms ≡ row_members g (rows_on at rows []) → i < length ms → m ≡ get_or ms i m → facts.has_row g m (rows_without g (take i ms) rows) ≡ true
-without_next at g i m ms rows own l e = without_stands at g m (take i ms) (drop (suc i) ms) rows (sym own ∙ parted ms i m l e)
 
 -- ---- a group that goes
 pub live_rows_without : (at g : ℕ) (rows : List MemberRow) (cs : List CompositeRow) → live_of at (filter (λ (row : MemberRow). not (row.group == g)) rows) cs ≡ changed_by (map (λ (m : Member). RowOff g m) (row_members g (rows_on at rows []))) (live_of at rows cs)

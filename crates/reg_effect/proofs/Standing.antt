@@ -126,9 +126,6 @@ factors_on_suits at g op left right rows cs graph plain none p c =
     record { fits = (composites_same g cs ∙ plain, test_absent (λ (p : ℕ × Member). p.0 == g) at rows none); no_circle = subst (λ (L : Live). IsAcyclic (edges L)) (live_factors_more at g op left right rows cs) N }
 
 -- ---- nothing stands at the start
-pub starts_standing : IsPermutation [] (standing [] [])
-unfolding standing
-starts_standing = IsPermutation-refl []
 
 -- ---- lists that have each edge as often are one up to their order
 pub copies_permuted : (a b : ℕ) (es fs : List (ℕ × ℕ)) → IsPermutation es fs → copies a b es ≡ copies a b fs
@@ -244,27 +241,6 @@ module _ (rows : List MemberRow) (cs : List CompositeRow) where
       let u = row_less_standing g x g (Group x) rows o h in
       let i = one_self g x in
       positive g x graph (omega (arith, k, s, u, i))
-
-  pub person_less : (g p : ℕ) (graph : List (ℕ × ℕ)) → RowsOnce rows → facts.has_row g (Person p) rows ≡ true → IsPermutation graph (standing rows cs) → IsPermutation graph (standing (filter (λ (row : MemberRow). not (facts.is_row g (Person p) row)) rows) cs)
-  person_less g p graph o f h =
-      let less = filter (λ (row : MemberRow). not (facts.is_row g (Person p) row)) rows in
-      same_copies graph (standing less cs) (λ a b.
-      let k = copies_permuted a b graph (standing rows cs) h in
-      let s = copies_standing a b rows cs in
-      let t = copies_standing a b less cs in
-      let u = row_less_standing a b g (Person p) rows o f in
-      omega (arith, k, s, t, u))
-
-  pub nested_less : (g x : ℕ) (old new : List (ℕ × ℕ)) → RowsOnce rows → facts.has_row g (Group x) rows ≡ true → IsPermutation old (standing rows cs) → IsPermutation old ((g, x) ∷ new) → IsPermutation new (standing (filter (λ (row : MemberRow). not (facts.is_row g (Group x) row)) rows) cs)
-  nested_less g x old new o f h p =
-      let less = filter (λ (row : MemberRow). not (facts.is_row g (Group x) row)) rows in
-      same_copies new (standing less cs) (λ a b.
-      let k = copies_permuted a b old (standing rows cs) h in
-      let s = copies_standing a b rows cs in
-      let t = copies_standing a b less cs in
-      let u = row_less_standing a b g (Group x) rows o f in
-      let v = copies_taken a b (g, x) old new p in
-      omega (arith, k, s, t, u, v))
 
   -- after a composite more or less
   pub factors_more : (c : CompositeRow) (old mid new : List (ℕ × ℕ)) → IsPermutation old (standing rows cs) → IsPermutation ((c.group, c.left) ∷ old) mid → IsPermutation ((c.group, c.right) ∷ mid) new → IsPermutation new (standing rows (cs ++ c ∷ []))

@@ -1,5 +1,5 @@
 -- What a change does to live data, and what it asks of them.
-use Rattle.std.specs.Prelude.{◌≡◌, ⊤, ℕ, ◌==◌, List, [], ◌∷◌, true, false, if◌then◌else◌, nat_le}
+use Rattle.std.specs.Prelude.{◌≡◌, ⊤, ℕ, ◌==◌, List, [], ◌∷◌, Bool, true, false, map, if◌then◌else◌, nat_le}
 use Rattle.std.specs.BTreeSet.{insert_key}
 use Rattle.std.specs.Set.{remove_key}
 use Rattle.reg_facts.specs.declared.kinds.Member.{Member}
@@ -53,10 +53,22 @@ abbrev pub changed_by : List Change → Live → Live
 changed_by [] L = L
 changed_by (c ∷ cs) L = changed_by cs (changed c L)
 
+-- rows that go, one after another
+abbrev pub all_off : List (ℕ × Member) → List Change
+all_off rows = map (λ (row : ℕ × Member). RowOff row.0 row.1) rows
+
+-- rows that come, one after another
+abbrev pub all_on : List (ℕ × Member) → List Change
+all_on rows = map (λ (row : ℕ × Member). RowOn row.0 row.1) rows
+
+-- the rows that pass a test, in order, beside others
+abbrev pub rows_where : (MemberRow → Bool) → List MemberRow → List (ℕ × Member) → List (ℕ × Member)
+rows_where test [] rows = rows
+rows_where test (row ∷ rest) rows = rows_where test rest (if test row then insert_key row_cmp rows (row.group, row.member) else rows)
+
 -- the rows that are on at a moment, in order, beside others
 abbrev pub rows_on : ℕ → List MemberRow → List (ℕ × Member) → List (ℕ × Member)
-rows_on at [] rows = rows
-rows_on at (row ∷ rest) rows = rows_on at rest (if nat_le row.from at then insert_key row_cmp rows (row.group, row.member) else rows)
+rows_on at rest rows = rows_where (λ (row : MemberRow). nat_le row.from at) rest rows
 
 -- composites in order, beside others
 abbrev pub composites_in : List CompositeRow → List CompositeRow → List CompositeRow

@@ -1,21 +1,13 @@
 -- The order of rows and composites: rows by group, then persons, then groups, and composites by group.
 use Rattle.std.specs.Prelude.{ℕ, ◌==◌, ◌&&◌, ◌<◌, ◌^◌, List, [], ◌∷◌, Bool, map, filter, if◌then◌else◌}
 use Rattle.std.specs.List.{list_any, All}
-use Rattle.std.specs.Ordering.{nat_cmp, ordering_then}
+use Rattle.std.specs.Ordering.{nat_cmp}
 use Rattle.std.specs.declared.cmp.Ordering.{Ordering}
 use Rattle.reg_facts.specs.declared.kinds.Member.{Member}
 use Rattle.reg_facts.specs.declared.kinds.Member.TheVariants.{Person, Group}
 use Rattle.reg_facts.specs.declared.rows.CompositeRow.{CompositeRow}
 use Rattle.reg_facts.specs.Kinds.{same_member}
-
--- where a row stands: by its group, persons before groups, and the number of its member
-abbrev pub place_of : ℕ → Member → ℕ × ℕ × ℕ
-place_of g (Person p) = (g, 0, p)
-place_of g (Group h) = (g, 1, h)
-
--- the order of such places
-abbrev pub place_cmp : ℕ × ℕ × ℕ → ℕ × ℕ × ℕ → Ordering
-place_cmp a b = ordering_then (ordering_then (nat_cmp a.0 b.0) (nat_cmp a.1 b.1)) (nat_cmp a.2 b.2)
+use Rattle.reg_facts.specs.RowOrder.{place_of, place_cmp}
 
 -- the order of rows
 abbrev pub row_cmp : ℕ × Member → ℕ × Member → Ordering

@@ -16,13 +16,14 @@ mod rows;
 mod uncounted;
 mod walk;
 
-pub use changing::{change_one, take_rows};
+pub use changing::{change_one, put_on, take_off, take_rows};
 pub use composites::Composites;
 pub use incremental::Incremental;
 pub use kept::Kept;
 pub use live::{Change, Delta, Live};
 pub use pairs::Pairs;
 pub use plain::Plain;
+pub use relink::link;
 pub use rows::Rows;
 
 #[cfg(test)]

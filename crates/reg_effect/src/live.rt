@@ -58,7 +58,8 @@ impl Live {
     pub fn of(alloc: Global, facts: &Facts, at: Moment) -> Result<Live, AllocError>
         ensures { IfOk result (λ l. l ≡ live_of at facts.now.rows facts.now.composites) }
     {
-        let rows = rows_on(alloc, facts.rows(), at)?;
+        let rows = facts.rows(alloc)?;
+        let rows = rows_on(alloc, &rows, at)?;
         let composites = composites_in(alloc, facts.composites())?;
         Ok(Live { rows, composites })
     }

@@ -12,8 +12,8 @@ use reg_facts::{Member, SetOp};
 use reg_graph::{Dag, EdgeFault};
 use std::alloc::AllocError;
 
-/// One more edge, which closes no circle, so that only memory can be wanting.
-fn link(graph: &mut Dag, from: GroupId, to: GroupId) -> Result<(), AllocError>
+/// One more edge, which closes no circle, so that only memory can be wanting. Out of memory the graph stays as it was.
+pub fn link(graph: &mut Dag, from: GroupId, to: GroupId) -> Result<(), AllocError>
     requires { reaches graph.old to from ≡ false }
     ensures { OnOk result (IsPermutation ((from, to) ∷ graph.old) graph.new) }
 {

@@ -2,7 +2,8 @@
 ghost use Rattle.std.specs.Prelude.{◌≡◌, ◌<◌, ◌^◌, [], IfOk, OnOk, OnErr};
 ghost use Rattle.std.specs.BTreeSet.{insert_key};
 ghost use Rattle.std.specs.Set.{remove_key};
-ghost use Rattle.reg_effect.specs.Order.{place_of, row_cmp, row_at, is_row, has_row, has_rows, nested, row_members};
+ghost use Rattle.reg_facts.specs.RowOrder.{place_of};
+ghost use Rattle.reg_effect.specs.Order.{row_cmp, row_at, is_row, has_row, has_rows, nested, row_members};
 
 use reg_base::{GroupId, SubjectId};
 use reg_facts::Member;

@@ -8,9 +8,9 @@ pub mod Resolving
 pub mod Changes
 pub mod Homes
 pub mod Edited
+pub mod Entries
 pub mod Sounding
 pub mod Climbs
-pub mod Pairs
 pub mod Placing
 pub mod Keeping
 pub mod Onces
@@ -20,8 +20,10 @@ pub mod Indexing
 pub mod Below
 pub mod Subjects
 pub mod Searched
+pub mod Stamps
 pub mod RowPlaces
 pub mod RowFinds
 pub mod LeftRows
+pub mod RowsInOrder
 pub mod CompositeFinds
 pub mod Longest

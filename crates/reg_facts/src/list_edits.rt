@@ -5,13 +5,12 @@ ghost use Rattle.reg_facts.specs.Ascending.{FoldersAscend, GroupsAscend};
 ghost use Rattle.reg_facts.specs.Edits.{folder_renamed, folder_moved, group_renamed, group_moved};
 ghost use Rattle.reg_facts.specs.declared.rows.FolderRow.{FolderRow};
 ghost use Rattle.reg_facts.specs.declared.rows.GroupRow.{GroupRow};
-ghost use Rattle.reg_facts.specs.declared.rows.MemberRow.{MemberRow};
 ghost use Rattle.reg_facts.specs.declared.rows.GrantRow.{GrantRow};
 ghost use Rattle.reg_facts.specs.declared.rows.InheritRow.{InheritRow};
 ghost use Rattle.reg_facts.specs.declared.rows.AssignRow.{AssignRow};
 
 use crate::by_id::{folder_at, group_at};
-use crate::{AssignRow, FolderRow, GrantRow, GroupRow, InheritRow, MemberRow, Object};
+use crate::{AssignRow, FolderRow, GrantRow, GroupRow, InheritRow, Object};
 use reg_base::{FolderId, GroupId, Text};
 use std::alloc::{AllocError, Global};
 
@@ -85,13 +84,6 @@ pub fn drop_group(rows: &mut Vec<GroupRow>, id: GroupId)
     if let Some(at) = group_at(rows.as_slice(), id) {
         rows.remove(at);
     }
-}
-
-/// Takes the immediate memberships of a group away.
-pub fn drop_rows(rows: &mut Vec<MemberRow>, group: GroupId)
-    ensures { rows.new.items ≡ filter (λ (row : MemberRow). not (row.group == group)) rows.old.items }
-{
-    rows.retain(|row| row.group != group);
 }
 
 /// Takes the inherits on a folder away.

@@ -1,16 +1,15 @@
 // The lists of the facts.
-ghost use Rattle.std.specs.Prelude.{◌≡◌, ◌∷◌, ◌++◌, [], IfOk, OnOk, List, ℕ, None, Some, map, filter, not, ◌==◌};
+ghost use Rattle.std.specs.Prelude.{◌≡◌, ◌∷◌, ◌++◌, [], IfOk, OnOk, List, ℕ, Some, map, filter, not, false, ◌==◌};
 ghost use Rattle.reg_facts.specs.Lists.{Lists, start};
-ghost use Rattle.reg_facts.specs.Edits.{folder_renamed, folder_moved, group_renamed, group_moved, folder_deleted, group_deleted, is_row, composite_set, composite_cleared};
+ghost use Rattle.reg_facts.specs.Edits.{folder_renamed, folder_moved, group_renamed, group_moved, folder_deleted, group_deleted, is_row, has_row, windowed, composite_set, composite_cleared};
 ghost use Rattle.reg_facts.specs.Ascending.{FoldersAscend, GroupsAscend};
-ghost use Rattle.reg_facts.specs.RowIndex.{FindsRows};
 ghost use Rattle.reg_facts.specs.CompositeStamps.{FindsComposites};
 ghost use Rattle.reg_facts.specs.declared.rows.FolderRow.{FolderRow};
 ghost use Rattle.reg_facts.specs.declared.rows.GroupRow.{GroupRow};
 ghost use Rattle.reg_facts.specs.declared.rows.MemberRow.{MemberRow};
 
 use crate::composite_index::CompositeIndex;
-use crate::row_set::RowSet;
+use crate::row_table::RowTable;
 use crate::{
     AssignRow, AttributeRow, CompositeRow, ConsumerRow, DefinitionRow, FolderRow, GrantRow,
     GroupRow, InheritRow, JobRow, Made, Member, MemberRow, Object, RuleRow, SubjectRow, list_edits,
@@ -25,7 +24,7 @@ pub struct Tables {
     pub folder_rows: Vec<FolderRow>,
     pub group_rows: Vec<GroupRow>,
     pub subject_rows: Vec<SubjectRow>,
-    pub member_rows: Vec<MemberRow>,
+    pub member_rows: RowTable,
     pub composite_rows: Vec<CompositeRow>,
     pub grant_rows: Vec<GrantRow>,
     pub inherit_rows: Vec<InheritRow>,
@@ -47,7 +46,7 @@ impl Model for Tables {
       folders = t.folder_rows.items;
       groups = t.group_rows.items;
       subjects = t.subject_rows.items;
-      rows = t.member_rows.items;
+      rows = t.member_rows;
       composites = t.composite_rows.items;
       grants = t.grant_rows.items;
       inherits = t.inherit_rows.items;
@@ -92,7 +91,7 @@ impl Tables {
             folder_rows,
             group_rows: Vec::new(alloc),
             subject_rows: Vec::new(alloc),
-            member_rows: Vec::new(alloc),
+            member_rows: RowTable::new(alloc),
             composite_rows: Vec::new(alloc),
             grant_rows: Vec::new(alloc),
             inherit_rows: Vec::new(alloc),
@@ -136,22 +135,15 @@ impl Tables {
         Ok(())
     }
 
-    /// Adds an immediate membership without an end.
-    pub fn push_row(
-        &mut self,
-        group: GroupId,
-        member: Member,
-        from: Moment,
-    ) -> Result<(), AllocError>
-        ensures { OnOk result (self.new ≡ record self.old { rows = self.old.rows ++ (record { group = group; member = member; from = from; until = None }) ∷ [] }) }
+    /// The lists with an immediate membership more that doesn't stand. Where there is no memory they
+    /// are gone.
+    pub fn with_row(self, row: MemberRow) -> Result<Tables, AllocError>
+        requires { has_row row.group row.member self.rows ≡ false }
+        ensures { IfOk result (λ t. t ≡ record self { rows = self.rows ++ row ∷ [] }) }
     {
-        self.member_rows.push(MemberRow {
-            group,
-            member,
-            from,
-            until: None,
-        })?;
-        Ok(())
+        let mut tables = self;
+        tables.member_rows = tables.member_rows.with(row)?;
+        Ok(tables)
     }
 
     /// Adds a composite.
@@ -226,28 +218,37 @@ impl Tables {
     }
 
     /// Takes away a group, its rows and factors, and the grants and assignments on it.
-    pub fn delete_group(&mut self, row_set: &mut RowSet, index: &mut CompositeIndex, id: GroupId)
+    pub fn delete_group(&mut self, index: &mut CompositeIndex, id: GroupId)
         requires ascend { GroupsAscend self.old.groups }
-        requires rows { FindsRows row_set.old self.old.rows }
         requires composites { FindsComposites index.old self.old.composites }
         ensures lists { self.new ≡ group_deleted id self.old }
-        ensures rows { FindsRows row_set.new self.new.rows }
         ensures composites { FindsComposites index.new self.new.composites }
     {
         let object = Object::Group(id);
         list_edits::drop_group(&mut self.group_rows, id);
-        row_set.remove_group(&mut self.member_rows, id);
+        self.member_rows.remove_group(id);
         index.remove(&mut self.composite_rows, id);
         list_edits::drop_grants(&mut self.grant_rows, &object);
         list_edits::drop_assigns(&mut self.assign_rows, &object);
     }
 
     /// Takes an immediate membership away.
-    pub fn remove_row(&mut self, row_set: &mut RowSet, group: GroupId, member: &Member)
-        requires { FindsRows row_set.old self.old.rows }
-        ensures lists { self.new ≡ record self.old { rows = filter (λ (row : MemberRow). not (is_row group member.now row)) self.old.rows } }
-        ensures found { FindsRows row_set.new self.new.rows }
+    pub fn remove_row(&mut self, group: GroupId, member: &Member)
+        ensures { self.new ≡ record self.old { rows = filter (λ (row : MemberRow). not (is_row group member.now row)) self.old.rows } }
     {
-        row_set.remove(&mut self.member_rows, group, member);
+        self.member_rows.remove(group, member);
+    }
+
+    /// Gives an immediate membership other dates.
+    pub fn window_row(
+        &mut self,
+        group: GroupId,
+        member: &Member,
+        from: Moment,
+        until: Option<Moment>,
+    )
+        ensures { self.new ≡ record self.old { rows = map (windowed from until group member.now) self.old.rows } }
+    {
+        self.member_rows.window(group, member, from, until);
     }
 }

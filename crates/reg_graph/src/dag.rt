@@ -158,6 +158,13 @@ impl Dag {
         Ok(above.contains(&from))
     }
 
+    /// The edges form no circle; it does nothing.
+    pub fn acyclic(&self)
+        ensures { IsAcyclic self.now }
+    {
+        let _ = &self.edges;
+    }
+
     /// Whether a group depends on this one by an edge. Takes no memory.
     pub fn is_needed(&self, node: GroupId) -> bool
         ensures { result ≡ is_needed self.now node }

@@ -1,24 +1,30 @@
 -- What is read has its form.
-use Rattle.std.proofs.Common.{◌≡◌, ℕ, List, Bool, true, false, ◌&&◌, Option, Some, None, Result, Ok, Err, IfOk, IfSome, refl, codes, cond, ok_or, drop, nat_eq}
+use Rattle.std.proofs.Common.{◌≡◌, ◌≤◌, ℕ, List, Bool, true, false, ◌&&◌, Option, Some, None, Result, Ok, Err, IfOk, IfSome, refl, codes, cond, ok_or, option_map, drop, nat_eq}
 use Rattle.std.specs.List.{starts_with}
 use Rattle.std.specs.Str.{bytes_eq}
+use Rattle.std.proofs.lemmas.Bool.{le-leb}
 use Rattle.serde_json.specs.Data.{Data, Members}
 use Rattle.serde_json.specs.Find.{get}
 use Rattle.reg_base.specs.Names.{is_extension, is_name, is_person, name_of}
 use Rattle.reg_base.specs.Entities.{entity_of}
+use Rattle.reg_base.specs.MomentText.{moment_of}
 use Rattle.reg_base.specs.declared.entity.Entity.TheVariants.{Person, Group}
-use Rattle.reg_facts.specs.Suiting.{is_display, is_entity, is_folder_text}
+use Rattle.reg_facts.specs.Limits.{max_moment}
+use Rattle.reg_facts.specs.Suiting.{is_display, is_entity, is_folder_text, is_optional_moment}
 use Rattle.reg_facts.specs.declared.kinds.SetOp.{SetOp}
 use Rattle.reg_facts.specs.declared.refusal.Refusal.{Refusal}
-use Rattle.reg_facts.specs.declared.refusal.Refusal.TheVariants.{BadName, BadRequest}
+use Rattle.reg_facts.specs.declared.refusal.Refusal.TheVariants.{BadMoment, BadName, BadRequest}
 use Rattle.reg_view.specs.declared.request.Request.{Request}
 use Rattle.reg_json.specs.declared.op_kind.OpKind.{OpKind}
 use Rattle.reg_json.specs.declared.op_kind.OpKind.TheVariants as kind
 use Rattle.reg_json.specs.Steps.{◌>>=◌, ensured}
-use Rattle.reg_json.specs.Fields.{text_at, text_or_empty, no_other, display_at, kind_at, name_from, folder_from, extension_from, entity_from}
-use Rattle.reg_json.specs.Ops.{folder_add, folder_rename, folder_move, folder_delete, subject_add, group_add, group_rename, group_move, group_delete, member_add, member_remove, composite_set, composite_clear, group_get, folder_list, members}
+use Rattle.reg_json.specs.Fields.{text_at, text_or_empty, optional_text_at, no_other, display_at, kind_at, name_from, folder_from, extension_from, entity_from, moment_from}
+use Rattle.reg_json.specs.Ops.{folder_add, folder_rename, folder_move, folder_delete, subject_add, group_add, group_rename, group_move, group_delete, membership_at, member_add, member_remove, member_window, composite_set, composite_clear, group_get, folder_list, members, rows}
 use Rattle.reg_json.specs.Reading.{data_of, kind_of, known_kind, op_of, reading_of}
 use Rattle.reg_json.specs.Forms.{IsFormed, ReadForm}
+use Rattle.reg_json.specs.declared.membership.Membership.{Membership}
+use Rattle.reg_json.proofs.Moments.{read_within}
+use Rattle.reg_json.proofs.Options.{some_tested, either}
 
 -- what is read, if anything is, has this; a record, so that `step` finds its arguments
 record Keeps {B : Type 0} (Q : B → Type 0) (r : Result B Refusal) : Type 0 where
@@ -34,9 +40,12 @@ pass : {A B : Type 0} {Q : B → Type 0} {f : A → Result B Refusal} (m : Resul
 pass (Ok x) g = g x
 pass (Err e) g = record { kept = tt }
 
--- a step that reads a field's text, whose arguments can be left out, as of the next two
+-- a step that reads a field's text, whose arguments can be left out, as of the next three
 pass_text : {B : Type 0} {Q : B → Type 0} {f : List ℕ → Result B Refusal} (key : List ℕ) (d : Data) → ((x : List ℕ) → Keeps Q (f x)) → Keeps Q (text_at key d >>= f)
 pass_text key d g = pass (text_at key d) g
+
+pass_optional : {B : Type 0} {Q : B → Type 0} {f : Option (List ℕ) → Result B Refusal} (key : List ℕ) (d : Data) → ((x : Option (List ℕ)) → Keeps Q (f x)) → Keeps Q (optional_text_at key d >>= f)
+pass_optional key d g = pass (optional_text_at key d) g
 
 pass_kind : {B : Type 0} {Q : B → Type 0} {f : SetOp → Result B Refusal} (d : Data) → ((x : SetOp) → Keeps Q (f x)) → Keeps Q (kind_at d >>= f)
 pass_kind d g = pass (kind_at d) g
@@ -68,11 +77,6 @@ extension_form : (field text : List ℕ) → Keeps (λ extension. is_extension e
 unfolding extension_from
 extension_form field text = tested (is_extension text) (λ extension. is_extension extension ≡ true) text (BadName field) (λ e. e)
 
--- a value that a test lets pass
-some_tested : {A : Type 0} (b : Bool) (P : A → Type 0) (x : A) → (b ≡ true → P x) → IfSome (cond b (Some x) None) P
-some_tested true P x h = h refl
-some_tested false P x h = tt
-
 some_ok : {A : Type 0} (P : A → Type 0) (x : Option A) (e : Refusal) → IfSome x P → Keeps P (ok_or x e)
 some_ok P (Some x) e h = last h
 some_ok P None e h = record { kept = tt }
@@ -80,10 +84,6 @@ some_ok P None e h = record { kept = tt }
 name_form : (field text : List ℕ) → Keeps (λ name. is_name name ≡ true) (name_from field text)
 unfolding name_from
 name_form field text = some_ok (λ name. is_name name ≡ true) (name_of text) (BadName field) (some_tested (is_name text) (λ name. is_name name ≡ true) text (λ e. e))
-
-either : {A : Type 0} (b : Bool) (P : A → Type 0) (x y : Option A) → IfSome x P → IfSome y P → IfSome (cond b x y) P
-either true P x y h k = h
-either false P x y h k = k
 
 entity_of_form : (text : List ℕ) → IfSome (entity_of text) (λ entity. is_entity entity ≡ true)
 unfolding entity_of
@@ -95,6 +95,15 @@ entity_of_form text =
 entity_form : (field text : List ℕ) → Keeps (λ entity. is_entity entity ≡ true) (entity_from field text)
 unfolding entity_from
 entity_form field text = some_ok (λ entity. is_entity entity ≡ true) (entity_of text) (BadName field) (entity_of_form text)
+
+within_form : (found : Option ℕ) → IfSome found (λ moment. moment ≤ max_moment) → IfSome (option_map Some found) (λ moment. is_optional_moment moment ≡ true)
+within_form None h = tt
+within_form (Some moment) h = le-leb moment max_moment h
+
+moment_form : (field : List ℕ) (text : Option (List ℕ)) → Keeps (λ moment. is_optional_moment moment ≡ true) (moment_from field text)
+unfolding moment_from
+moment_form field None = last refl
+moment_form field (Some text) = some_ok (λ moment. is_optional_moment moment ≡ true) (option_map Some (moment_of text)) (BadMoment field) (within_form (moment_of text) (read_within text))
 
 folder_add_form : (d : Data) → Keeps ReadForm (folder_add d)
 unfolding folder_add
@@ -170,14 +179,26 @@ group_delete_form d =
     pass_known _ _ (λ known.
     step (name_form (codes "group") group_text) (λ group group_good. last (group_good))))
 
-member_add_form : (d : Data) → Keeps ReadForm (member_add d)
-unfolding member_add
-member_add_form d =
+-- what a membership's fields have
+abbrev membership_good : Membership → Bool
+membership_good m = (is_name m.group && is_entity m.member) && (is_optional_moment m.from && is_optional_moment m.until)
+
+membership_form : (d : Data) → Keeps (λ m. membership_good m ≡ true) (membership_at d)
+unfolding membership_at
+membership_form d =
     pass_text _ _ (λ group_text.
     pass_text _ _ (λ member_text.
+    pass_optional _ _ (λ from_text.
+    pass_optional _ _ (λ until_text.
     pass_known _ _ (λ known.
     step (name_form (codes "group") group_text) (λ group group_good.
-    step (entity_form (codes "member") member_text) (λ member member_good. last (both _ _ group_good member_good))))))
+    step (entity_form (codes "member") member_text) (λ member member_good.
+    step (moment_form (codes "from") from_text) (λ from from_good.
+    step (moment_form (codes "until") until_text) (λ until until_good. last (both _ _ (both _ _ group_good member_good) (both _ _ from_good until_good)))))))))))
+
+member_add_form : (d : Data) → Keeps ReadForm (member_add d)
+unfolding member_add
+member_add_form d = step (membership_form d) (λ m good. last good)
 
 member_remove_form : (d : Data) → Keeps ReadForm (member_remove d)
 unfolding member_remove
@@ -187,6 +208,10 @@ member_remove_form d =
     pass_known _ _ (λ known.
     step (name_form (codes "group") group_text) (λ group group_good.
     step (entity_form (codes "member") member_text) (λ member member_good. last (both _ _ group_good member_good))))))
+
+member_window_form : (d : Data) → Keeps ReadForm (member_window d)
+unfolding member_window
+member_window_form d = step (membership_form d) (λ m good. last good)
 
 composite_set_form : (d : Data) → Keeps ReadForm (composite_set d)
 unfolding composite_set
@@ -228,6 +253,13 @@ members_form d =
     pass_known _ _ (λ known.
     step (name_form (codes "group") group_text) (λ group group_good. last (group_good))))
 
+rows_form : (d : Data) → Keeps ReadForm (rows d)
+unfolding rows
+rows_form d =
+    pass_text _ _ (λ group_text.
+    pass_known _ _ (λ known.
+    step (name_form (codes "group") group_text) (λ group group_good. last (group_good))))
+
 op_form : (k : OpKind) (d : Data) → Keeps ReadForm (op_of k d)
 op_form kind.FolderAdd d = folder_add_form d
 op_form kind.FolderRename d = folder_rename_form d
@@ -240,11 +272,13 @@ op_form kind.GroupMove d = group_move_form d
 op_form kind.GroupDelete d = group_delete_form d
 op_form kind.MemberAdd d = member_add_form d
 op_form kind.MemberRemove d = member_remove_form d
+op_form kind.MemberWindow d = member_window_form d
 op_form kind.CompositeSet d = composite_set_form d
 op_form kind.CompositeClear d = composite_clear_form d
 op_form kind.GroupGet d = group_get_form d
 op_form kind.FolderList d = folder_list_form d
 op_form kind.Members d = members_form d
+op_form kind.Rows d = rows_form d
 
 reading_kept : (line : List ℕ) → Keeps IsFormed (reading_of line)
 unfolding reading_of

@@ -1,17 +1,18 @@
 -- The fields of a request: first that they are texts that may stand there, and later that the texts have their forms.
-use Rattle.std.specs.Prelude.{ℕ, List, [], ◌∷◌, Bool, true, Option, Some, None, Result, Ok, Err, codes, option_and_then, if◌then◌else◌, ok_or}
+use Rattle.std.specs.Prelude.{ℕ, List, [], ◌∷◌, Bool, true, Option, Some, None, Result, Ok, Err, codes, option_and_then, option_map, if◌then◌else◌, ok_or}
 use Rattle.std.specs.List.{list_any}
 use Rattle.std.specs.Str.{bytes_eq}
 use Rattle.serde_json.specs.Data.{Data, Members, no_members, member}
 use Rattle.serde_json.specs.Find.{get, as_str}
 use Rattle.reg_base.specs.Names.{is_extension, name_of}
 use Rattle.reg_base.specs.Entities.{entity_of}
+use Rattle.reg_base.specs.MomentText.{moment_of}
 use Rattle.reg_base.specs.declared.entity.Entity.{Entity}
 use Rattle.reg_facts.specs.Suiting.{is_display, is_folder_text}
 use Rattle.reg_facts.specs.declared.kinds.SetOp.{SetOp}
 use Rattle.reg_facts.specs.declared.kinds.SetOp.TheVariants.{Intersection, Complement}
 use Rattle.reg_facts.specs.declared.refusal.Refusal.{Refusal}
-use Rattle.reg_facts.specs.declared.refusal.Refusal.TheVariants.{BadRequest, BadName}
+use Rattle.reg_facts.specs.declared.refusal.Refusal.TheVariants.{BadRequest, BadName, BadMoment}
 use Rattle.reg_json.specs.Steps.{◌>>=◌, ensured}
 
 -- an object's keys
@@ -37,6 +38,15 @@ text_at key d = ok_or (option_and_then as_str (get key d)) (BadRequest key)
 unfoldable pub text_or_empty : List ℕ → Option Data → Result (List ℕ) Refusal
 text_or_empty key None = Ok []
 text_or_empty key (Some d) = ok_or (as_str d) (BadRequest key)
+
+-- what stands at a key, if anything does, is a text
+abbrev pub text_if_some : List ℕ → Option Data → Result (Option (List ℕ)) Refusal
+text_if_some key None = Ok None
+text_if_some key (Some d) = ok_or (option_map Some (as_str d)) (BadRequest key)
+
+-- a text that may be left out
+unfoldable pub optional_text_at : List ℕ → Data → Result (Option (List ℕ)) Refusal
+optional_text_at key d = text_if_some key (get key d)
 
 -- the display text
 unfoldable pub display_at : Data → Result (List ℕ) Refusal
@@ -72,3 +82,8 @@ extension_from field text = if is_extension text then Ok text else Err (BadName 
 -- the entity that a field's text names
 unfoldable pub entity_from : List ℕ → List ℕ → Result Entity Refusal
 entity_from field text = ok_or (entity_of text) (BadName field)
+
+-- the moment that a field's text names, if the field stands there
+unfoldable pub moment_from : List ℕ → Option (List ℕ) → Result (Option ℕ) Refusal
+moment_from field None = Ok None
+moment_from field (Some text) = ok_or (option_map Some (moment_of text)) (BadMoment field)

@@ -4,7 +4,7 @@ use Rattle.reg_base.specs.Names.{is_name}
 use Rattle.reg_base.specs.declared.entity.Entity.TheVariants.{System}
 use Rattle.reg_facts.specs.Suiting.{has_form, is_folder_text}
 use Rattle.reg_view.specs.declared.query.Query.{Query}
-use Rattle.reg_view.specs.declared.query.Query.TheVariants.{GroupGet, FolderList, Members}
+use Rattle.reg_view.specs.declared.query.Query.TheVariants.{GroupGet, FolderList, Members, Rows}
 use Rattle.reg_view.specs.declared.request.Request.{Request}
 use Rattle.reg_view.specs.declared.request.Op.{Op}
 use Rattle.reg_view.specs.declared.request.Op.TheVariants as op
@@ -14,6 +14,7 @@ abbrev pub query_form : Query → Bool
 query_form (GroupGet group) = is_name group
 query_form (FolderList folder) = is_folder_text folder
 query_form (Members group) = is_name group
+query_form (Rows group) = is_name group
 
 -- the fields of an op have their forms
 abbrev pub ReadForm : Op → Type 0

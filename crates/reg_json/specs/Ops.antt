@@ -5,10 +5,11 @@ use Rattle.serde_json.specs.Find.{as_object}
 use Rattle.reg_view.specs.declared.request.Op.{Op}
 use Rattle.reg_view.specs.declared.request.Op.TheVariants as op
 use Rattle.reg_view.specs.declared.query.Query.TheVariants as query
-use Rattle.reg_facts.specs.declared.command.Command.TheVariants.{FolderAdd, FolderRename, FolderMove, FolderDelete, SubjectAdd, GroupAdd, GroupRename, GroupMove, GroupDelete, MemberAdd, MemberRemove, CompositeSet, CompositeClear}
+use Rattle.reg_facts.specs.declared.command.Command.TheVariants.{FolderAdd, FolderRename, FolderMove, FolderDelete, SubjectAdd, GroupAdd, GroupRename, GroupMove, GroupDelete, MemberAdd, MemberRemove, MemberWindow, CompositeSet, CompositeClear}
 use Rattle.reg_facts.specs.declared.refusal.Refusal.{Refusal}
+use Rattle.reg_json.specs.declared.membership.Membership.{Membership}
 use Rattle.reg_json.specs.Steps.{◌>>=◌}
-use Rattle.reg_json.specs.Fields.{no_other, text_at, display_at, kind_at, name_from, folder_from, extension_from, entity_from}
+use Rattle.reg_json.specs.Fields.{no_other, text_at, optional_text_at, display_at, kind_at, name_from, folder_from, extension_from, entity_from, moment_from}
 
 -- what an object asks whose op is folder.add
 unfoldable pub folder_add : Data → Result Op Refusal
@@ -93,15 +94,25 @@ group_delete d = do
   group ← name_from (codes "group") group_text
   Ok (op.Command (GroupDelete group))
 
+-- the group, the member and the dates that an object names, and no other fields
+unfoldable pub membership_at : Data → Result Membership Refusal
+membership_at d = do
+  group_text ← text_at (codes "group") d
+  member_text ← text_at (codes "member") d
+  from_text ← optional_text_at (codes "from") d
+  until_text ← optional_text_at (codes "until") d
+  known ← no_other (codes "by" ∷ codes "from" ∷ codes "group" ∷ codes "member" ∷ codes "op" ∷ codes "until" ∷ []) (as_object d)
+  group ← name_from (codes "group") group_text
+  member ← entity_from (codes "member") member_text
+  from ← moment_from (codes "from") from_text
+  until ← moment_from (codes "until") until_text
+  Ok (record { group = group; member = member; from = from; until = until })
+
 -- what an object asks whose op is member.add
 unfoldable pub member_add : Data → Result Op Refusal
 member_add d = do
-  group_text ← text_at (codes "group") d
-  member_text ← text_at (codes "member") d
-  known ← no_other (codes "by" ∷ codes "group" ∷ codes "member" ∷ codes "op" ∷ []) (as_object d)
-  group ← name_from (codes "group") group_text
-  member ← entity_from (codes "member") member_text
-  Ok (op.Command (MemberAdd group member))
+  m ← membership_at d
+  Ok (op.Command (MemberAdd m.group m.member m.from m.until))
 
 -- what an object asks whose op is member.remove
 unfoldable pub member_remove : Data → Result Op Refusal
@@ -112,6 +123,12 @@ member_remove d = do
   group ← name_from (codes "group") group_text
   member ← entity_from (codes "member") member_text
   Ok (op.Command (MemberRemove group member))
+
+-- what an object asks whose op is member.window
+unfoldable pub member_window : Data → Result Op Refusal
+member_window d = do
+  m ← membership_at d
+  Ok (op.Command (MemberWindow m.group m.member m.from m.until))
 
 -- what an object asks whose op is composite.set
 unfoldable pub composite_set : Data → Result Op Refusal
@@ -157,3 +174,11 @@ members d = do
   known ← no_other (codes "by" ∷ codes "group" ∷ codes "op" ∷ []) (as_object d)
   group ← name_from (codes "group") group_text
   Ok (op.Query (query.Members group))
+
+-- what an object asks whose op is rows
+unfoldable pub rows : Data → Result Op Refusal
+rows d = do
+  group_text ← text_at (codes "group") d
+  known ← no_other (codes "by" ∷ codes "group" ∷ codes "op" ∷ []) (as_object d)
+  group ← name_from (codes "group") group_text
+  Ok (op.Query (query.Rows group))

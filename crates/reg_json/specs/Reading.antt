@@ -13,7 +13,7 @@ use Rattle.reg_facts.specs.declared.refusal.Refusal.{Refusal}
 use Rattle.reg_facts.specs.declared.refusal.Refusal.TheVariants.{BadRequest, TooLong}
 use Rattle.reg_json.specs.Steps.{◌>>=◌, ensured}
 use Rattle.reg_json.specs.Fields.{text_at}
-use Rattle.reg_json.specs.Ops.{folder_add, folder_rename, folder_move, folder_delete, subject_add, group_add, group_rename, group_move, group_delete, member_add, member_remove, composite_set, composite_clear, group_get, folder_list, members}
+use Rattle.reg_json.specs.Ops.{folder_add, folder_rename, folder_move, folder_delete, subject_add, group_add, group_rename, group_move, group_delete, member_add, member_remove, member_window, composite_set, composite_clear, group_get, folder_list, members, rows}
 
 -- how many bytes a line may have
 abbrev pub max_line : ℕ
@@ -46,11 +46,13 @@ kind_of word =
     (if bytes_eq word (codes "group.delete") then Some kind.GroupDelete else
     (if bytes_eq word (codes "member.add") then Some kind.MemberAdd else
     (if bytes_eq word (codes "member.remove") then Some kind.MemberRemove else
+    (if bytes_eq word (codes "member.window") then Some kind.MemberWindow else
     (if bytes_eq word (codes "composite.set") then Some kind.CompositeSet else
     (if bytes_eq word (codes "composite.clear") then Some kind.CompositeClear else
     (if bytes_eq word (codes "group.get") then Some kind.GroupGet else
     (if bytes_eq word (codes "folder.list") then Some kind.FolderList else
-    (if bytes_eq word (codes "members") then Some kind.Members else None)))))))))))))))
+    (if bytes_eq word (codes "members") then Some kind.Members else
+    (if bytes_eq word (codes "rows") then Some kind.Rows else None)))))))))))))))))
 
 -- an op has to be known
 abbrev pub known_kind : Option OpKind → Result OpKind Refusal
@@ -69,11 +71,13 @@ op_of kind.GroupMove d = group_move d
 op_of kind.GroupDelete d = group_delete d
 op_of kind.MemberAdd d = member_add d
 op_of kind.MemberRemove d = member_remove d
+op_of kind.MemberWindow d = member_window d
 op_of kind.CompositeSet d = composite_set d
 op_of kind.CompositeClear d = composite_clear d
 op_of kind.GroupGet d = group_get d
 op_of kind.FolderList d = folder_list d
 op_of kind.Members d = members d
+op_of kind.Rows d = rows d
 
 -- what a line asks, or why it is refused: the first fault in the order of length, bytes, op, by, the op's fields, other
 -- keys, and the fields' forms

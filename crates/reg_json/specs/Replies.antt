@@ -1,12 +1,17 @@
 -- The text of a reply: compact JSON (RFC 8259) whose keys ascend by bytes.
-use Rattle.std.specs.Prelude.{ℕ, List, map, true, codes}
-use Rattle.serde_json.specs.Data.{Data, Items, array, object, member, no_members, number, unsigned, boolean, string}
+use Rattle.std.specs.Prelude.{ℕ, List, Option, None, Some, map, true, codes}
+use Rattle.serde_json.specs.Data.{Data, Items, null, array, object, member, no_members, number, unsigned, boolean, string}
 use Rattle.serde_json.specs.View.{items_of}
 use Rattle.serde_json.specs.Written.{compact_text}
+use Rattle.reg_base.specs.MomentText.{text_of}
+use Rattle.reg_facts.specs.declared.kinds.SetOp.{SetOp}
+use Rattle.reg_facts.specs.declared.kinds.SetOp.TheVariants.{Intersection, Complement}
 use Rattle.reg_facts.specs.declared.refusal.Refusal.{Refusal}
 use Rattle.reg_facts.specs.declared.refusal.Refusal.TheVariants as refusal
 use Rattle.reg_view.specs.declared.query.Answer.{Answer}
 use Rattle.reg_view.specs.declared.query.Answer.TheVariants as answer
+use Rattle.reg_view.specs.declared.shown.FactorsShown.{FactorsShown}
+use Rattle.reg_view.specs.declared.shown.RowShown.{RowShown}
 use Rattle.reg_view.specs.declared.reply.Reply.{Reply}
 use Rattle.reg_view.specs.declared.reply.Reply.TheVariants as reply
 
@@ -41,11 +46,35 @@ refusal_data (refusal.Full kind limit) = object (member (codes "code") (number (
 abbrev pub strings : List (List ℕ) → Items
 strings ts = items_of (map string ts)
 
+-- a moment by its text, or null
+abbrev pub moment_data : Option ℕ → Data
+moment_data None = null
+moment_data (Some moment) = string (text_of moment)
+
+-- an immediate membership as JSON data
+abbrev pub row_data : RowShown → Data
+row_data row = object (member (codes "from") (string (text_of row.from)) (member (codes "member") (string row.member) (member (codes "until") (moment_data row.until) no_members)))
+
+-- immediate memberships as an array's items
+abbrev pub row_items : List RowShown → Items
+row_items rows = items_of (map row_data rows)
+
+-- the word of a kind of composite
+abbrev pub kind_word : SetOp → List ℕ
+kind_word Intersection = codes "intersection"
+kind_word Complement = codes "complement"
+
+-- the factors of a composite as JSON data, or null
+abbrev pub factors_data : Option FactorsShown → Data
+factors_data None = null
+factors_data (Some factors) = object (member (codes "kind") (string (kind_word factors.kind)) (member (codes "left") (string factors.left) (member (codes "right") (string factors.right) no_members)))
+
 -- a query's answer as JSON data
 unfoldable pub answer_data : Answer → Data
 answer_data (answer.GroupGet display name) = object (member (codes "display") (string display) (member (codes "name") (string name) (member (codes "ok") (boolean true) no_members)))
 answer_data (answer.FolderList attributes definitions folders groups) = object (member (codes "attributes") (array (strings attributes)) (member (codes "definitions") (array (strings definitions)) (member (codes "folders") (array (strings folders)) (member (codes "groups") (array (strings groups)) (member (codes "ok") (boolean true) no_members)))))
 answer_data (answer.Members texts) = object (member (codes "members") (array (strings texts)) (member (codes "ok") (boolean true) no_members))
+answer_data (answer.Rows composite rows) = object (member (codes "composite") (factors_data composite) (member (codes "ok") (boolean true) (member (codes "rows") (array (row_items rows)) no_members)))
 
 -- a reply as JSON data
 unfoldable pub reply_data : Reply → Data

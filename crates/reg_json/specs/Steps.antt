@@ -1,7 +1,7 @@
 -- Reading in steps, with the first fault that is met.
 use Rattle.std.specs.Prelude.{◌≡◌, ℕ, List, Bool, true, Result, Ok, Err, if◌then◌else◌}
 use Rattle.reg_facts.specs.declared.refusal.Refusal.{Refusal}
-use Rattle.reg_facts.specs.declared.refusal.Refusal.TheVariants.{BadRequest, BadName}
+use Rattle.reg_facts.specs.declared.refusal.Refusal.TheVariants.{BadRequest, BadName, BadMoment}
 use Rattle.reg_json.specs.declared.fault.ReadFault.{ReadFault}
 use Rattle.reg_json.specs.declared.fault.ReadFault.TheVariants.{Memory, Refused}
 
@@ -34,3 +34,8 @@ IsBad (Refused r) field = r ≡ BadRequest field
 abbrev pub IsBadName : ReadFault → List ℕ → Type 0
 IsBadName Memory field = Unit {0}
 IsBadName (Refused r) field = r ≡ BadName field
+
+-- a fault is BadMoment of this field, or memory ran out
+abbrev pub IsBadMoment : ReadFault → List ℕ → Type 0
+IsBadMoment Memory field = Unit {0}
+IsBadMoment (Refused r) field = r ≡ BadMoment field

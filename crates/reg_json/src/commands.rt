@@ -2,11 +2,12 @@
 ghost use Rattle.std.specs.Prelude.{◌≡◌};
 ghost use Rattle.serde_json.specs.View.{view};
 ghost use Rattle.reg_json.specs.Steps.{Gives};
-ghost use Rattle.reg_json.specs.Ops.{folder_add, folder_rename, folder_move, folder_delete, subject_add, group_add, group_rename, group_move, group_delete, member_add, member_remove, composite_set, composite_clear};
+ghost use Rattle.reg_json.specs.Ops.{folder_add, folder_rename, folder_move, folder_delete, subject_add, group_add, group_rename, group_move, group_delete, member_add, member_remove, member_window, composite_set, composite_clear};
 
 use crate::fault::ReadFault;
 use crate::fields::{display_at, kind_at, no_other, text_at};
 use crate::forms::{entity_from, extension_from, folder_from, name_from};
+use crate::membership::{Membership, membership_at};
 use reg_base::Text;
 use reg_facts::Command;
 use reg_view::Op;
@@ -131,12 +132,19 @@ pub fn group_delete(alloc: Global, value: &Value) -> Result<Op, ReadFault>
 pub fn member_add(alloc: Global, value: &Value) -> Result<Op, ReadFault>
     ensures { Gives (λ o. o) result (member_add (view value.now)) }
 {
-    let group = text_at(alloc, value, "group")?;
-    let member = text_at(alloc, value, "member")?;
-    no_other(alloc, value, &["by", "group", "member", "op"])?;
-    let group = name_from(alloc, "group", group)?;
-    let member = entity_from(alloc, "member", member)?;
-    Ok(Op::Command(Command::MemberAdd { group, member }))
+    let membership = membership_at(alloc, value)?;
+    let Membership {
+        group,
+        member,
+        from,
+        until,
+    } = membership;
+    Ok(Op::Command(Command::MemberAdd {
+        group,
+        member,
+        from,
+        until,
+    }))
 }
 
 /// What an object asks whose op is `member.remove`.
@@ -150,6 +158,26 @@ pub fn member_remove(alloc: Global, value: &Value) -> Result<Op, ReadFault>
     let group = name_from(alloc, "group", group)?;
     let member = entity_from(alloc, "member", member)?;
     Ok(Op::Command(Command::MemberRemove { group, member }))
+}
+
+/// What an object asks whose op is `member.window`.
+#[tactic(auto, unfolding(crate::specs::Ops::member_window))]
+pub fn member_window(alloc: Global, value: &Value) -> Result<Op, ReadFault>
+    ensures { Gives (λ o. o) result (member_window (view value.now)) }
+{
+    let membership = membership_at(alloc, value)?;
+    let Membership {
+        group,
+        member,
+        from,
+        until,
+    } = membership;
+    Ok(Op::Command(Command::MemberWindow {
+        group,
+        member,
+        from,
+        until,
+    }))
 }
 
 /// What an object asks whose op is `composite.set`.

@@ -24,7 +24,7 @@ impl From<AllocError> for ReadFault {
     }
 }
 
-ghost use Rattle.reg_json.specs.Steps.{IsBad, IsBadName};
+ghost use Rattle.reg_json.specs.Steps.{IsBad, IsBadName, IsBadMoment};
 
 /// BadRequest of a field, or no memory to say so.
 pub fn bad(alloc: Global, field: &str) -> ReadFault
@@ -42,6 +42,16 @@ pub fn bad_name(alloc: Global, field: &str) -> ReadFault
 {
     match Text::new(alloc, field) {
         Ok(field) => ReadFault::Refused(Refusal::BadName { field }),
+        Err(_) => ReadFault::Memory,
+    }
+}
+
+/// BadMoment of a field, or no memory to say so.
+pub fn bad_moment(alloc: Global, field: &str) -> ReadFault
+    ensures { IsBadMoment result field.now }
+{
+    match Text::new(alloc, field) {
+        Ok(field) => ReadFault::Refused(Refusal::BadMoment { field }),
         Err(_) => ReadFault::Memory,
     }
 }

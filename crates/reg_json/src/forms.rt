@@ -1,10 +1,10 @@
 // The forms of fields.
-ghost use Rattle.std.specs.Prelude.{◌≡◌};
+ghost use Rattle.std.specs.Prelude.{◌≡◌, option_map};
 ghost use Rattle.reg_json.specs.Steps.{Gives};
-ghost use Rattle.reg_json.specs.Fields.{name_from, folder_from, extension_from, entity_from};
+ghost use Rattle.reg_json.specs.Fields.{name_from, folder_from, extension_from, entity_from, moment_from};
 
-use crate::fault::{ReadFault, bad_name};
-use reg_base::{Entity, Name, Text, is_extension, is_name};
+use crate::fault::{ReadFault, bad_moment, bad_name};
+use reg_base::{Entity, Moment, Name, Text, is_extension, is_name};
 use std::alloc::Global;
 
 /// The name that a field's text is.
@@ -52,5 +52,23 @@ pub fn entity_from(alloc: Global, field: &str, text: &str) -> Result<Entity, Rea
     match Entity::parse(alloc, text.as_bytes())? {
         Some(entity) => Ok(entity),
         None => Err(bad_name(alloc, field)),
+    }
+}
+
+/// The moment that a field's text names, if the field stands there.
+#[tactic(auto, unfolding(crate::specs::Fields::moment_from))]
+pub fn moment_from(
+    alloc: Global,
+    field: &str,
+    text: Option<&str>,
+) -> Result<Option<Moment>, ReadFault>
+    ensures { Gives (λ m. m) result (moment_from field.now (option_map (λ s. s.now) text.entry)) }
+{
+    match text {
+        Some(text) => match Moment::parse(text.as_bytes()) {
+            Some(moment) => Ok(Some(moment)),
+            None => Err(bad_moment(alloc, field)),
+        },
+        None => Ok(None),
     }
 }

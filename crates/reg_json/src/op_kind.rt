@@ -14,9 +14,11 @@ pub enum OpKind {
     GroupDelete,
     MemberAdd,
     MemberRemove,
+    MemberWindow,
     CompositeSet,
     CompositeClear,
     GroupGet,
     FolderList,
     Members,
+    Rows,
 }

@@ -2,7 +2,7 @@
 ghost use Rattle.std.specs.Prelude.{◌≡◌};
 ghost use Rattle.serde_json.specs.View.{view};
 ghost use Rattle.reg_json.specs.Steps.{Gives};
-ghost use Rattle.reg_json.specs.Ops.{group_get, folder_list, members};
+ghost use Rattle.reg_json.specs.Ops.{group_get, folder_list, members, rows};
 
 use crate::fault::ReadFault;
 use crate::fields::{no_other, text_at};
@@ -42,4 +42,15 @@ pub fn members(alloc: Global, value: &Value) -> Result<Op, ReadFault>
     no_other(alloc, value, &["by", "group", "op"])?;
     let group = name_from(alloc, "group", group)?;
     Ok(Op::Query(Query::Members { group }))
+}
+
+/// What an object asks whose op is `rows`.
+#[tactic(auto, unfolding(crate::specs::Ops::rows))]
+pub fn rows(alloc: Global, value: &Value) -> Result<Op, ReadFault>
+    ensures { Gives (λ o. o) result (rows (view value.now)) }
+{
+    let group = text_at(alloc, value, "group")?;
+    no_other(alloc, value, &["by", "group", "op"])?;
+    let group = name_from(alloc, "group", group)?;
+    Ok(Op::Query(Query::Rows { group }))
 }

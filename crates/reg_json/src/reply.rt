@@ -5,6 +5,7 @@ ghost use Rattle.serde_json.specs.View.{view};
 ghost use Rattle.reg_json.specs.Replies.{strings, answer_data, reply_data, text};
 
 use crate::refusal::refusal_value;
+use crate::shown::{factors_value, rows_value};
 use reg_base::Text;
 use reg_view::{Answer, Reply};
 use serde_json::{Value, json};
@@ -45,6 +46,11 @@ fn answer_value(alloc: Global, answer: &Answer) -> Result<Value, AllocError>
         Answer::Members { members } => {
             let texts = strings(alloc, members.list())?;
             json!(in alloc; {"members": texts, "ok": true})
+        }
+        Answer::Rows { composite, rows } => {
+            let composite = factors_value(alloc, composite)?;
+            let rows = rows_value(alloc, rows.list())?;
+            json!(in alloc; {"composite": composite, "ok": true, "rows": rows})
         }
     }
 }

@@ -7,12 +7,13 @@ ghost use Rattle.reg_json.specs.Reading.{data_of, known_kind, kind_of, op_of, re
 
 use crate::commands::{
     composite_clear, composite_set, folder_add, folder_delete, folder_move, folder_rename,
-    group_add, group_delete, group_move, group_rename, member_add, member_remove, subject_add,
+    group_add, group_delete, group_move, group_rename, member_add, member_remove, member_window,
+    subject_add,
 };
 use crate::fault::{ReadFault, bad};
 use crate::fields::{ensured, text_at};
 use crate::op_kind::OpKind;
-use crate::queries::{folder_list, group_get, members};
+use crate::queries::{folder_list, group_get, members, rows};
 use crate::words::kind_of;
 use reg_base::Entity;
 use reg_facts::Refusal;
@@ -74,11 +75,13 @@ fn op_of(alloc: Global, kind: OpKind, value: &Value) -> Result<Op, ReadFault>
         OpKind::GroupDelete => group_delete(alloc, value),
         OpKind::MemberAdd => member_add(alloc, value),
         OpKind::MemberRemove => member_remove(alloc, value),
+        OpKind::MemberWindow => member_window(alloc, value),
         OpKind::CompositeSet => composite_set(alloc, value),
         OpKind::CompositeClear => composite_clear(alloc, value),
         OpKind::GroupGet => group_get(alloc, value),
         OpKind::FolderList => folder_list(alloc, value),
         OpKind::Members => members(alloc, value),
+        OpKind::Rows => rows(alloc, value),
     }
 }
 
@@ -98,8 +101,8 @@ fn reading_of(alloc: Global, line: &[u8]) -> Result<Request, ReadFault>
     })
 }
 
-/// What a line asks, or why it is refused (`docs/REQUESTS.md`, "Reading"): TooLong, BadRequest or BadName. The fields of
-/// a request that is read have their forms. The only error is out of memory.
+/// What a line asks, or why it is refused (`docs/REQUESTS.md`, "Reading"): TooLong, BadRequest, BadName
+/// or BadMoment. The fields of a request that is read have their forms. The only error is out of memory.
 #[tactic(auto, using(crate::proofs::ReadForms::read_formed))]
 pub fn read_request(alloc: Global, line: &[u8]) -> Result<Result<Request, Refusal>, AllocError>
     ensures value { IfOk result (λ r. r ≡ reading_of line.now) }

@@ -22,11 +22,13 @@ pub fn kind_of(word: &str) -> Option<OpKind>
         "group.delete" => Some(OpKind::GroupDelete),
         "member.add" => Some(OpKind::MemberAdd),
         "member.remove" => Some(OpKind::MemberRemove),
+        "member.window" => Some(OpKind::MemberWindow),
         "composite.set" => Some(OpKind::CompositeSet),
         "composite.clear" => Some(OpKind::CompositeClear),
         "group.get" => Some(OpKind::GroupGet),
         "folder.list" => Some(OpKind::FolderList),
         "members" => Some(OpKind::Members),
+        "rows" => Some(OpKind::Rows),
         _ => None,
     }
 }

@@ -1,12 +1,23 @@
 // The machine.
-ghost use Rattle.std.specs.Prelude.{◌≡◌, ◌≤◌, ◌+◌, ◌++◌, ◌∷◌, [], IfOk, OnOk, None, true};
+ghost use Rattle.std.specs.Prelude.{◌≡◌, ◌≤◌, ◌+◌, ◌++◌, ◌∷◌, ◌&&◌, [], ℕ, IfOk, OnOk, None, Some, true};
+ghost use Rattle.std.specs.List.{list_any};
+ghost use Rattle.reg_base.specs.declared.entity.Entity.{Entity};
+ghost use Rattle.reg_facts.specs.declared.command.Command.{Command};
+ghost use Rattle.reg_facts.specs.declared.kinds.Member.{Member};
+ghost use Rattle.reg_facts.specs.declared.rows.MemberRow.{MemberRow};
+ghost use Rattle.reg_facts.specs.Edits.{is_row};
+ghost use Rattle.reg_effect.specs.Order.{has_row};
 ghost use Rattle.reg_facts.specs.Suiting.{has_form};
-ghost use Rattle.reg_machine.specs.History.{State, start, refusal, appended};
+ghost use Rattle.reg_machine.specs.Dates.{due, is_on, pass_steps};
+ghost use Rattle.reg_machine.specs.History.{State, start, refusal, acted, appended};
 ghost use Rattle.reg_machine.specs.Live.{live};
 ghost use Rattle.reg_machine.specs.Steps.{changes_of};
 ghost use Rattle.reg_effect.specs.Bound.{most_steps_of};
 
-use crate::changes::carry_out;
+use crate::beside::carry_beside;
+use crate::changes::turn_rows;
+use crate::dates::Dates;
+use crate::ending::{end_rows, unlink_rows};
 use reg_base::{Entity, Moment, Steps};
 use reg_effect::Kept;
 use reg_facts::{Command, Facts, Refusal, Stamped};
@@ -32,8 +43,8 @@ impl<T: Drop> From<AllocFailed<T>> for Spent {
 }
 
 /// The registry: its history and its clock, and what they give: the facts, the effective
-/// memberships, however `K` keeps them, and the graph of all nested groups and factors that stand.
-/// Contracts see history and clock.
+/// memberships, however `K` keeps them, the graph of all nested groups and factors that stand, and
+/// the dates to come. Contracts see history and clock.
 #[derive(Drop)]
 pub struct Machine<K: Kept> {
     stamped: Vec<Stamped>,
@@ -41,6 +52,7 @@ pub struct Machine<K: Kept> {
     pub(crate) known: Facts,
     sets: K,
     pub(crate) graph: Dag,
+    dates: Dates,
 }
 
 impl<K: Kept> Model for Machine<K> {
@@ -51,14 +63,13 @@ impl<K: Kept> Model for Machine<K> {
 
     ghost view = { λ m. record { history = m.stamped.items; clock = m.moment } };
 
-    ghost invariant = { λ m. IsInStep m.stamped.items m.moment m.known (K.held m.sets) m.graph };
+    ghost invariant = { λ m. IsInStep m.stamped.items m.moment m.known (K.held m.sets) m.graph m.dates };
 }
 
 impl<K: Kept> Machine<K> {
     ghost use Rattle.reg_machine.specs.History.{facts};
 
     /// No command, at the moment 0.
-    #[tactic(auto, using(crate::proofs::Stepping::start_in_step))]
     pub fn start(alloc: Global) -> Result<Machine<K>, Spent>
         ensures { IfOk result (λ m. m ≡ start) }
     {
@@ -70,6 +81,7 @@ impl<K: Kept> Machine<K> {
             known,
             sets,
             graph: Dag::new(alloc),
+            dates: Dates::new(alloc),
         })
     }
 
@@ -87,29 +99,87 @@ impl<K: Kept> Machine<K> {
         self.moment
     }
 
-    /// The facts that the history gives.
+    /// The facts that the history gives at the clock.
     pub fn facts(&self) -> &Facts
-        ensures { result.now ≡ facts self.now.history }
+        ensures { result.now ≡ facts self.now.history self.now.clock }
     {
         &self.known
     }
 
     /// The effective memberships at the clock.
     pub fn kept(&self) -> &K
-        ensures { K.held result.now ≡ live self.now.clock (facts self.now.history) }
+        ensures { K.held result.now ≡ live self.now.clock (facts self.now.history self.now.clock) }
     {
         &self.sets
     }
 
-    /// Sets the clock forward, and changes nothing else.
-    #[tactic(auto, using(crate::proofs::Stepping::later_in_step))]
+    /// The next date of a membership, if it comes up to a moment. It is a look at the first dates
+    /// to come.
+    fn next_date(&self, to: Moment) -> Option<Moment>
+        ensures { result ≡ due self.now.clock to (facts self.now.history self.now.clock).rows }
+    {
+        self.dates.next(to)
+    }
+
+    /// What stands from the clock on, as long as no command comes: nothing that is live changes
+    /// between two dates, and a row that stands is on from its beginning until just before its end.
+    /// It does nothing.
+    fn stays(&self)
+        ensures between { (u : ℕ) → self.now.clock ≤ u → due self.now.clock u (facts self.now.history self.now.clock).rows ≡ None → live u (facts self.now.history u) ≡ live self.now.clock (facts self.now.history self.now.clock) }
+        ensures on { (u g : ℕ) (m : Member) → self.now.clock ≤ u → has_row g m (live u (facts self.now.history u)).rows ≡ list_any (λ (row : MemberRow). is_row g m row && is_on u row) (facts self.now.history self.now.clock).rows }
+    {
+        let _ = &self.known;
+    }
+
+    /// The facts after one command more at the clock are those that it makes of the facts now. It does
+    /// nothing.
+    #[tactic(auto, using(crate::proofs::Moments::facts_push))]
+    pub fn acts(&self)
+        ensures { (by : Entity) (command : Command) → facts (appended self.now by command).history self.now.clock ≡ acted self.now.clock command (facts self.now.history self.now.clock) }
+    {
+        let _ = &self.known;
+    }
+
+    /// The machine at the next date: the rows that end there go, and those that begin there come on.
+    /// It takes at most the steps that the dates after it leave of those up to any later moment.
+    fn come_to<L: Ledger>(self, date: Moment, steps: &mut Steps<L>) -> Result<Machine<K>, Spent>
+        requires { due self.clock date (facts self.history self.clock).rows ≡ Some date }
+        ensures moved { IfOk result (λ m. m ≡ record { history = self.history; clock = date }) }
+        ensures cost { OnOk result ((u : ℕ) → due self.clock u (facts self.history self.clock).rows ≡ Some date → steps.new + pass_steps date u (facts self.history date) ≤ steps.old + pass_steps self.clock u (facts self.history self.clock)) }
+    {
+        let mut machine = self;
+        machine.known.sound();
+        machine.graph.acyclic();
+        let ending = machine.dates.ending(date)?;
+        let beginning = machine.dates.beginning(date)?;
+        unlink_rows(&mut machine.graph, &machine.known, date, &ending);
+        let sets = turn_rows(machine.sets, &ending, &beginning, steps)?;
+        let known = end_rows(machine.known, date, &ending)?;
+        machine.dates.pass(date);
+        machine.sets = sets;
+        machine.known = known;
+        machine.moment = date;
+        Ok(machine)
+    }
+
+    /// Sets the clock forward, and changes nothing else: the dates of memberships up to the new
+    /// moment come, one after another. It takes at most the steps of what these dates change, and
+    /// where no date comes it is a look at the first dates to come.
     pub fn advance<L: Ledger>(self, to: Moment, steps: &mut Steps<L>) -> Result<Machine<K>, Spent>
         requires { self.clock ≤ to }
         ensures moved { IfOk result (λ m. m ≡ record { history = self.history; clock = to }) }
-        ensures cost { steps.new ≡ steps.old }
+        ensures cost { OnOk result (steps.new ≤ steps.old + pass_steps self.clock to (facts self.history self.clock)) }
+
+        // As long as no command comes, nothing that is live changes between two dates, and a row
+        // that stands is on from its beginning until just before its end.
+        ensures between { due self.clock to (facts self.history self.clock).rows ≡ None → live to (facts self.history to) ≡ live self.clock (facts self.history self.clock) }
+        ensures on { (g : ℕ) (m : Member) → has_row g m (live to (facts self.history to)).rows ≡ list_any (λ (row : MemberRow). is_row g m row && is_on to row) (facts self.history self.clock).rows }
     {
-        let _steps = steps;
         let mut machine = self;
+        machine.stays();
+        while let Some(date) = machine.next_date(to) {
+            machine = machine.come_to(date, steps)?;
+        }
         machine.moment = to;
         Ok(machine)
     }
@@ -122,7 +192,7 @@ impl<K: Kept> Machine<K> {
         _by: &Entity,
         command: &Command,
     ) -> Result<Option<Refusal>, AllocError>
-        ensures { IfOk result (λ found. found ≡ refusal self.now.history command.now) }
+        ensures { IfOk result (λ found. found ≡ refusal self.now.history self.now.clock command.now) }
     {
         match command {
             Command::FolderAdd { folder, .. } => self.decide_folder_add(alloc, folder),
@@ -138,10 +208,21 @@ impl<K: Kept> Machine<K> {
             }
             Command::GroupMove { group, to } => self.decide_group_move(alloc, group, to),
             Command::GroupDelete { group } => self.decide_group_delete(alloc, group),
-            Command::MemberAdd { group, member } => self.decide_member_add(alloc, group, member),
+            Command::MemberAdd {
+                group,
+                member,
+                from,
+                until,
+            } => self.decide_member_add(alloc, group, member, *from, *until),
             Command::MemberRemove { group, member } => {
                 self.decide_member_remove(alloc, group, member)
             }
+            Command::MemberWindow {
+                group,
+                member,
+                from,
+                until,
+            } => self.decide_member_window(alloc, group, member, *from, *until),
             Command::CompositeSet {
                 group,
                 left,
@@ -154,7 +235,7 @@ impl<K: Kept> Machine<K> {
 
     /// Takes a command that isn't refused into the history, at the clock. It takes at most the steps
     /// of the changes of live data that the command makes.
-    #[tactic(auto, using(crate::proofs::Folds::facts_after_push, crate::proofs::Allowed::can_edit, crate::proofs::Stepping::suit))]
+    #[tactic(auto, using(crate::proofs::Allowed::can_edit, crate::proofs::Circles::circles_refused))]
     pub fn apply<L: Ledger>(
         self,
         alloc: Global,
@@ -162,20 +243,23 @@ impl<K: Kept> Machine<K> {
         command: Command,
         steps: &mut Steps<L>,
     ) -> Result<Machine<K>, Spent>
-        requires allowed { refusal self.history command ≡ None }
+        requires allowed { refusal self.history self.clock command ≡ None }
         requires form { has_form command ≡ true }
         ensures appended { IfOk result (λ m. m ≡ appended self by.now command) }
-        ensures cost { OnOk result (steps.new ≤ steps.old + most_steps_of (changes_of command (facts self.history) (live self.clock (facts self.history))) (live self.clock (facts self.history))) }
+        ensures cost { OnOk result (steps.new ≤ steps.old + most_steps_of (changes_of self.clock command (facts self.history self.clock) (live self.clock (facts self.history self.clock))) (live self.clock (facts self.history self.clock))) }
     {
         let mut machine = self;
         let by = by.copy(alloc)?;
         let at = machine.moment;
         machine.known.sound();
-        let _live = machine.sets.live();
-        let sets = carry_out(
+        machine.graph.acyclic();
+        let sets = carry_beside(
+            alloc,
             machine.sets,
             &mut machine.graph,
+            &mut machine.dates,
             &machine.known,
+            at,
             &command,
             steps,
         )?;

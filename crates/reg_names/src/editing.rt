@@ -38,6 +38,7 @@ impl Names {
             Command::SubjectAdd { .. } => Ok(self),
             Command::MemberAdd { .. } => Ok(self),
             Command::MemberRemove { .. } => Ok(self),
+            Command::MemberWindow { .. } => Ok(self),
             Command::CompositeSet { .. } => Ok(self),
             Command::CompositeClear { .. } => Ok(self),
         }

@@ -3,25 +3,20 @@ ghost use Rattle.std.specs.Prelude.{◌≡◌, ◌<◌, IfOk};
 ghost use Rattle.reg_machine.specs.History.{facts};
 ghost use Rattle.reg_names.specs.Indexes.{Indexes};
 
-use reg_base::{Entity, FolderId, GroupId, Name, Steps, Text};
+use crate::machines::{allow, name, put};
+use reg_base::{FolderId, GroupId, Steps, Text};
 use reg_effect::Plain;
-use reg_facts::{Command, Facts, Object, Scope, Stamped};
-use reg_machine::{Machine, Spent};
+use reg_facts::{Command, Facts, Object, Scope};
+use reg_machine::Machine;
 use reg_names::{Names, in_scope, name_of, resolve};
-use reg_wire::{is_writable, writable_is_formed};
 use std::alloc::{AllocError, Global};
 use std::marker::Brand;
 use std::process::Abort;
 use std::sync::ledger::{Blank, Ledger};
 use std::test::Fail;
 
-fn name(alloc: Global, text: &str) -> Result<Name, Fail> {
-    let name = Name::parse(alloc, text.as_bytes())?.ok_or("a name")?;
-    Ok(name)
-}
-
 /// Takes a command into the machine, and into the index before it.
-#[tactic(auto, using(reg_machine::proofs::Allowed::can_edit, reg_machine::proofs::Folds::facts_after_push))]
+#[tactic(auto, using(reg_machine::proofs::Allowed::can_edit))]
 fn follow<L: Ledger>(
     rt: &impl Abort,
     alloc: Global,
@@ -30,28 +25,18 @@ fn follow<L: Ledger>(
     command: Command,
     steps: &mut Steps<L>,
 ) -> Result<(Machine<Plain>, Names), Fail>
-    requires { Indexes names (facts machine.history) }
-    ensures { IfOk result (λ r. Indexes r.1 (facts r.0.history)) }
+    requires { Indexes names (facts machine.history machine.clock) }
+    ensures { IfOk result (λ r. Indexes r.1 (facts r.0.history r.0.clock)) }
 {
-    let stamped = Stamped {
-        at: machine.clock(),
-        by: Entity::System,
-        command,
-    };
-    assert!(rt; is_writable(&stamped));
-    writable_is_formed();
-    let refusal = machine.decide(alloc, &stamped.by, &stamped.command)?;
-    assert!(rt; refusal.is_none());
-    let names = names.edit(alloc, machine.facts(), &stamped.command)?;
-    let Stamped { by, command, .. } = stamped;
-    match machine.apply(alloc, &by, command, steps) {
-        Ok(machine) => Ok((machine, names)),
-        Err(Spent) => Err(Fail::from(AllocError)),
-    }
+    let command = allow(rt, alloc, &machine, command)?;
+    machine.acts();
+    let names = names.edit(alloc, machine.facts(), &command)?;
+    let machine = put(alloc, machine, command, steps)?;
+    Ok((machine, names))
 }
 
 fn start(alloc: Global) -> Result<(Machine<Plain>, Names), Fail>
-    ensures { IfOk result (λ r. Indexes r.1 (facts r.0.history)) }
+    ensures { IfOk result (λ r. Indexes r.1 (facts r.0.history r.0.clock)) }
 {
     let Ok(machine) = Machine::start(alloc) else {
         return Err(Fail::from(AllocError));

@@ -1,2 +1,3 @@
 pub mod Puts
 pub mod Members
+pub mod Named

@@ -4,6 +4,7 @@ ghost use Rattle.reg_machine.specs.History.{facts};
 ghost use Rattle.reg_view.specs.Answers.{answer_of, display_of, group_of, listing_of, members_of};
 
 use crate::listing::listing;
+use crate::rows::rows_of_group;
 use crate::{Answer, Query};
 use reg_base::{Entity, GroupId, Name, Text};
 use reg_effect::Kept;
@@ -11,7 +12,7 @@ use reg_facts::{Facts, Refusal};
 use reg_machine::Machine;
 use std::alloc::{AllocError, Global};
 
-fn not_found(alloc: Global, text: &str) -> Result<Result<Answer, Refusal>, AllocError>
+pub(crate) fn not_found(alloc: Global, text: &str) -> Result<Result<Answer, Refusal>, AllocError>
     ensures { IfOk result (λ r. r ≡ Err (Refusal.NotFound text.now)) }
 {
     let object = Text::new(alloc, text)?;
@@ -52,7 +53,7 @@ fn members_of<K: Kept>(
     machine: &Machine<K>,
     group: &Name,
 ) -> Result<Result<Answer, Refusal>, AllocError>
-    ensures { IfOk result (λ r. r ≡ members_of group.now machine.now.clock (facts machine.now.history)) }
+    ensures { IfOk result (λ r. r ≡ members_of group.now machine.now.clock (facts machine.now.history machine.now.clock)) }
 {
     let facts = machine.facts();
     let Some(id) = facts.group_id(group.as_str()) else {
@@ -85,11 +86,12 @@ pub fn ask<K: Kept>(
     _by: &Entity,
     query: &Query,
 ) -> Result<Result<Answer, Refusal>, AllocError>
-    ensures { IfOk result (λ r. r ≡ answer_of query.now machine.now.clock (facts machine.now.history)) }
+    ensures { IfOk result (λ r. r ≡ answer_of query.now machine.now.clock (facts machine.now.history machine.now.clock)) }
 {
     match query {
         Query::GroupGet { group } => group_of(alloc, machine.facts(), group),
         Query::FolderList { folder } => listing_of(alloc, machine.facts(), folder),
         Query::Members { group } => members_of(alloc, machine, group),
+        Query::Rows { group } => rows_of_group(alloc, machine.facts(), group),
     }
 }

@@ -7,8 +7,11 @@ mod ordered;
 mod query;
 mod reply;
 mod request;
+mod rows;
+mod shown;
 
 pub use asking::ask;
 pub use query::{Answer, Query};
 pub use reply::Reply;
 pub use request::{Op, Request};
+pub use shown::{FactorsShown, RowShown, RowsShown};

@@ -1,4 +1,5 @@
 // Queries and their answers.
+use crate::{FactorsShown, RowsShown};
 use reg_base::{Name, Text};
 use reg_facts::Texts;
 
@@ -9,8 +10,10 @@ pub enum Query {
     GroupGet { group: Name },
     /// What stands directly in the folder of this name.
     FolderList { folder: Text },
-    /// The members of the group of this name.
+    /// The effective members of the group of this name.
     Members { group: Name },
+    /// The immediate memberships and the factors of the group of this name.
+    Rows { group: Name },
 }
 
 /// What a query is answered.
@@ -30,5 +33,11 @@ pub enum Answer {
     /// The texts of the members, in the order of the subjects.
     Members {
         members: Texts,
+    },
+    /// The factors, if the group is a composite, and its immediate memberships: those of persons by
+    /// id, then those of groups by id.
+    Rows {
+        composite: Option<FactorsShown>,
+        rows: RowsShown,
     },
 }

@@ -10,8 +10,9 @@ use Rattle.std.proofs.lemmas.Option.{cond_some, same_Some}
 use Rattle.reg_facts.specs.declared.kinds.SetOp.{SetOp}
 use Rattle.reg_facts.specs.declared.kinds.SetOp.TheVariants.{Intersection, Complement}
 use Rattle.reg_wire.specs.Steps.{◌>>=◌}
-use Rattle.reg_wire.specs.Fields.{is_moment, is_optional_moment, text_bytes, moment_bytes, optional_moment_bytes, kind_bytes}
-use Rattle.reg_wire.specs.Reading.{is_byte, number_at, text_at, tested_at, moment_at, optional_moment_at, if_absent, no_moment_at, kind_at}
+use Rattle.reg_facts.specs.Suiting.{is_optional_moment}
+use Rattle.reg_wire.specs.Fields.{is_moment, text_bytes, moment_bytes, optional_moment_bytes, kind_bytes}
+use Rattle.reg_wire.specs.Reading.{is_byte, number_at, text_at, tested_at, moment_at, optional_moment_at, kind_at}
 
 -- a reading takes exactly what is written
 pub record IsExact {A : Type 0} (write : A → List ℕ) (fits : A → Bool) (read : List ℕ → Option (A × List ℕ)) : Type 0 where
@@ -158,28 +159,11 @@ optional_again (Some moment) rest good = rw (moment_exact.again moment rest good
 pub optional_exact : IsExact optional_moment_bytes is_optional_moment optional_moment_at
 optional_exact = record { takes = optional_takes; again = optional_again }
 
--- the one byte of a moment that is left out
-abbrev pub no_moment_bytes : Unit {0} → List ℕ
-no_moment_bytes _ = 0 ∷ []
+-- ---- kinds of composites
 
--- whatever it is
+-- every kind may be written
 abbrev pub always : {A : Type 0} → A → Bool
 always _ = true
-
-absent_takes : (bytes : List ℕ) (moment : Option ℕ × List ℕ) (x : Unit {0} × List ℕ) → bytes ≡ optional_moment_bytes moment.0 ++ moment.1 → if_absent moment ≡ Some x → bytes ≡ 0 ∷ x.1
-absent_takes bytes (None, rest) x at e = at ∙ ap (λ (y : Unit {0} × List ℕ). 0 ∷ y.1) (same_Some (tt, rest) x e)
-absent_takes bytes (Some moment, rest) x at e = absurd cc
-
-pub no_moment_exact : IsExact no_moment_bytes always no_moment_at
-unfolding no_moment_at
-no_moment_exact = record {
-  takes = λ bytes x e.
-      let b = bind_some (optional_moment_at bytes) if_absent x e in
-      (absent_takes bytes b.0 x (optional_exact.takes bytes b.0 b.1).0 b.2, refl);
-  again = λ nothing rest good. rw (optional_exact.again None rest refl) refl;
-}
-
--- ---- kinds of composites
 
 abbrev IsKindRead : List ℕ → SetOp × List ℕ → Type 0
 IsKindRead bytes x = (bytes ≡ kind_bytes x.0 ++ x.1) × (always x.0 ≡ true)

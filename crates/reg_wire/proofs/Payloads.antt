@@ -5,7 +5,7 @@ use Rattle.std.proofs.lemmas.Bool.{and_parts, and_from, eqb-true}
 use Rattle.std.proofs.lemmas.List.{nil_from_length, length-append}
 use Rattle.std.proofs.lemmas.Option.{cond_some, same_Some}
 use Rattle.reg_facts.specs.declared.command.Command.{Command}
-use Rattle.reg_facts.specs.declared.command.Command.TheVariants.{FolderAdd, FolderRename, FolderMove, FolderDelete, SubjectAdd, GroupAdd, GroupRename, GroupMove, GroupDelete, MemberAdd, MemberRemove, CompositeSet, CompositeClear}
+use Rattle.reg_facts.specs.declared.command.Command.TheVariants.{FolderAdd, FolderRename, FolderMove, FolderDelete, SubjectAdd, GroupAdd, GroupRename, GroupMove, GroupDelete, MemberAdd, MemberRemove, MemberWindow, CompositeSet, CompositeClear}
 use Rattle.reg_facts.specs.declared.command.Stamped.{Stamped}
 use Rattle.reg_facts.specs.declared.kinds.SetOp.{SetOp}
 use Rattle.reg_facts.specs.declared.kinds.SetOp.TheVariants.{Intersection, Complement}
@@ -126,8 +126,9 @@ few_fields (GroupAdd a b) = lit≤ tt
 few_fields (GroupRename a b) = lit≤ tt
 few_fields (GroupMove a b) = lit≤ tt
 few_fields (GroupDelete a) = lit≤ tt
-few_fields (MemberAdd a b) = lit≤ tt
+few_fields (MemberAdd a b c d) = lit≤ tt
 few_fields (MemberRemove a b) = lit≤ tt
+few_fields (MemberWindow a b c d) = lit≤ tt
 few_fields (CompositeSet a b c d) = lit≤ tt
 few_fields (CompositeClear a) = lit≤ tt
 

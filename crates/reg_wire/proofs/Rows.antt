@@ -6,14 +6,15 @@ use Rattle.std.proofs.lemmas.Option.{same_Some}
 use Rattle.reg_base.specs.Names.{is_extension, is_name}
 use Rattle.reg_base.specs.declared.entity.Entity.{Entity}
 use Rattle.reg_facts.specs.declared.command.Command.{Command}
-use Rattle.reg_facts.specs.declared.command.Command.TheVariants.{FolderAdd, FolderRename, FolderMove, FolderDelete, SubjectAdd, GroupAdd, GroupRename, GroupMove, GroupDelete, MemberAdd, MemberRemove, CompositeSet, CompositeClear}
+use Rattle.reg_facts.specs.declared.command.Command.TheVariants.{FolderAdd, FolderRename, FolderMove, FolderDelete, SubjectAdd, GroupAdd, GroupRename, GroupMove, GroupDelete, MemberAdd, MemberRemove, MemberWindow, CompositeSet, CompositeClear}
 use Rattle.reg_facts.specs.declared.kinds.SetOp.{SetOp}
+use Rattle.reg_facts.specs.Suiting.{is_optional_moment}
 use Rattle.reg_wire.specs.Steps.{◌>>=◌}
-use Rattle.reg_wire.specs.Fields.{is_folder, is_display, is_entity, is_field, field_bytes, kind_bytes, text_bytes}
-use Rattle.reg_wire.specs.Reading.{name_at, folder_at, extension_at, display_at, entity_at, no_moment_at, kind_at}
+use Rattle.reg_wire.specs.Fields.{is_folder, is_display, is_entity, is_field, field_bytes, kind_bytes, optional_moment_bytes, text_bytes}
+use Rattle.reg_wire.specs.Reading.{name_at, folder_at, extension_at, display_at, entity_at, optional_moment_at, kind_at}
 use Rattle.reg_wire.specs.Payload.{code_of, fields_of, one, two, four, readers, read_by, command_at}
 use Rattle.reg_wire.proofs.Texts.{name_short, folder_short, extension_short, display_short}
-use Rattle.reg_wire.proofs.Exact.{IsExact, bind_some, tested_exact, no_moment_bytes, always, no_moment_exact, kind_exact}
+use Rattle.reg_wire.proofs.Exact.{IsExact, bind_some, tested_exact, always, optional_exact, kind_exact}
 use Rattle.reg_wire.proofs.Entities.{chosen, entity_bytes, entity_exact}
 
 -- how a kind of field is written and read
@@ -38,8 +39,8 @@ display = record { write = text_bytes; fits = is_display; read = display_at; exa
 abbrev entity : Format Entity
 entity = record { write = entity_bytes; fits = is_entity; read = entity_at; exact = entity_exact }
 
-abbrev no_moment : Format (Unit {0})
-no_moment = record { write = no_moment_bytes; fits = always; read = no_moment_at; exact = no_moment_exact }
+abbrev moment : Format (Option ℕ)
+moment = record { write = optional_moment_bytes; fits = is_optional_moment; read = optional_moment_at; exact = optional_exact }
 
 abbrev kind : Format SetOp
 kind = record { write = kind_bytes; fits = always; read = kind_at; exact = kind_exact }
@@ -175,14 +176,17 @@ readers_read = (
                 (
                   one_reads name 9 _ (λ a. plain (GroupDelete a)),
                   (
-                    four_reads name entity no_moment no_moment 10 _ (λ a b c d. plain (MemberAdd a b)),
+                    four_reads name entity moment moment 10 _ (λ a b c d. plain (MemberAdd a b c d)),
                     (
                       two_reads name entity 11 _ (λ a b. plain (MemberRemove a b)),
                       (
-                        four_reads name kind name name 13 _ (λ a b c d. plain (CompositeSet a b c d)),
+                        four_reads name entity moment moment 12 _ (λ a b c d. plain (MemberWindow a b c d)),
                         (
-                          one_reads name 14 _ (λ a. plain (CompositeClear a)),
-                          tt,
+                          four_reads name kind name name 13 _ (λ a b c d. plain (CompositeSet a b c d)),
+                          (
+                            one_reads name 14 _ (λ a. plain (CompositeClear a)),
+                            tt,
+                          ),
                         ),
                       ),
                     ),
@@ -214,7 +218,8 @@ command_again (GroupAdd a b) rest h = two_again name display (λ x y. GroupAdd x
 command_again (GroupRename a b) rest h = two_again name extension (λ x y. GroupRename x y) a b rest h
 command_again (GroupMove a b) rest h = two_again name folder (λ x y. GroupMove x y) a b rest h
 command_again (GroupDelete a) rest h = one_again name (λ x. GroupDelete x) a rest h
-command_again (MemberAdd a b) rest h = four_again name entity no_moment no_moment (λ x y from until. MemberAdd x y) a b tt tt rest h
+command_again (MemberAdd a b c d) rest h = four_again name entity moment moment (λ x y z w. MemberAdd x y z w) a b c d rest h
 command_again (MemberRemove a b) rest h = two_again name entity (λ x y. MemberRemove x y) a b rest h
+command_again (MemberWindow a b c d) rest h = four_again name entity moment moment (λ x y z w. MemberWindow x y z w) a b c d rest h
 command_again (CompositeSet a b c d) rest h = four_again name kind name name (λ x y z w. CompositeSet x y z w) a b c d rest h
 command_again (CompositeClear a) rest h = one_again name (λ x. CompositeClear x) a rest h

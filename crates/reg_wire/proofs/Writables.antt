@@ -1,5 +1,5 @@
 -- A command whose fields have their forms and whose display texts are UTF-8 can be written, and what can be written has these forms.
-use Rattle.std.proofs.Common.{◌≡◌, ◌&&◌, ◌||◌, ℕ, List, Bool, true, false, refl, codes}
+use Rattle.std.proofs.Common.{◌≡◌, ◌&&◌, ◌||◌, ℕ, List, Bool, true, false, Option, refl, codes}
 use Rattle.std.specs.Prelude.{nat_le, length}
 use Rattle.std.specs.Str.{bytes_eq, is_utf8}
 use Rattle.std.proofs.lemmas.Bool.{and_parts, and_from}
@@ -7,10 +7,10 @@ use Rattle.reg_base.specs.Names.{is_name, is_extension}
 use Rattle.reg_base.specs.declared.entity.Entity.{Entity}
 use Rattle.reg_base.specs.declared.entity.Entity.TheVariants as entity
 use Rattle.reg_facts.specs.declared.command.Command.{Command}
-use Rattle.reg_facts.specs.declared.command.Command.TheVariants.{FolderAdd, FolderRename, FolderMove, FolderDelete, SubjectAdd, GroupAdd, GroupRename, GroupMove, GroupDelete, MemberAdd, MemberRemove, CompositeSet, CompositeClear}
+use Rattle.reg_facts.specs.declared.command.Command.TheVariants.{FolderAdd, FolderRename, FolderMove, FolderDelete, SubjectAdd, GroupAdd, GroupRename, GroupMove, GroupDelete, MemberAdd, MemberRemove, MemberWindow, CompositeSet, CompositeClear}
 use Rattle.reg_facts.specs.declared.command.Stamped.{Stamped}
 use Rattle.reg_facts.specs.Suiting as forms
-use Rattle.reg_facts.specs.Suiting.{has_form, is_folder_text}
+use Rattle.reg_facts.specs.Suiting.{has_form, is_folder_text, is_optional_moment}
 use Rattle.reg_wire.specs.Fields.{is_folder, is_display, is_moment, is_entity}
 use Rattle.reg_wire.specs.Payload.{is_writable, is_writable_command, IsWritable}
 use Rattle.reg_wire.specs.Formed.{AreUtf8}
@@ -48,6 +48,20 @@ three_to true true false h = h
 three_to true false c h = h
 three_to false b c h = h
 
+-- whether a membership with its dates has its form, and whether it can be written
+abbrev formed_dates : List ℕ → Entity → Option ℕ → Option ℕ → Bool
+formed_dates group member from until = (is_name group && forms.is_entity member) && (is_optional_moment from && is_optional_moment until)
+
+abbrev writable_dates : List ℕ → Entity → Option ℕ → Option ℕ → Bool
+writable_dates group member from until = is_name group && (is_entity member && (is_optional_moment from && (is_optional_moment until && true)))
+
+member_to : (group : List ℕ) (member : Entity) (from until : Option ℕ) → formed_dates group member from until ≡ true → writable_dates group member from until ≡ true
+member_to group member from until h =
+    let p = and_parts (is_name group && forms.is_entity member) (is_optional_moment from && is_optional_moment until) h in
+    let who = and_parts (is_name group) (forms.is_entity member) p.0 in
+    let dates = and_parts (is_optional_moment from) (is_optional_moment until) p.1 in
+    and_from _ _ who.0 (and_from _ _ (entity_to member who.1) (two_to _ _ dates.0 dates.1))
+
 command_to : (c : Command) → has_form c ≡ true → AreUtf8 c → is_writable_command c ≡ true
 unfolding is_writable_command
 command_to (FolderAdd folder display) h u = let p = and_parts _ _ h in two_to _ _ p.0 (and_from _ _ p.1 u)
@@ -59,8 +73,9 @@ command_to (GroupAdd group display) h u = let p = and_parts _ _ h in two_to _ _ 
 command_to (GroupRename group extension) h u = let p = and_parts _ _ h in two_to _ _ p.0 p.1
 command_to (GroupMove group to) h u = let p = and_parts _ _ h in two_to _ _ p.0 (folder_to to p.1)
 command_to (GroupDelete group) h u = and_from _ _ h refl
-command_to (MemberAdd group member) h u = let p = and_parts _ _ h in and_from _ _ p.0 (two_to _ _ (entity_to member p.1) refl)
+command_to (MemberAdd group member from until) h u = member_to group member from until h
 command_to (MemberRemove group member) h u = let p = and_parts _ _ h in two_to _ _ p.0 (entity_to member p.1)
+command_to (MemberWindow group member from until) h u = member_to group member from until h
 command_to (CompositeSet group kind left right) h u = three_to (is_name group) (is_name left) (is_name right) h
 command_to (CompositeClear group) h u = and_from _ _ h refl
 
@@ -68,11 +83,6 @@ two_from : (a b : Bool) → (a && (b && true)) ≡ true → (a ≡ true) × (b �
 two_from true true h = (refl, refl)
 two_from true false h = cc
 two_from false b h = cc
-
-member_from : (a b : Bool) → (a && (b && (true && (true && true)))) ≡ true → (a ≡ true) × (b ≡ true)
-member_from true true h = (refl, refl)
-member_from true false h = cc
-member_from false b h = cc
 
 three_from : (a b c : Bool) → (a && (b && (c && true))) ≡ true → ((a && b) && c) ≡ true
 three_from true true true h = refl
@@ -94,6 +104,13 @@ shown t h = left_of (nat_le (length t) 255) (is_utf8 t) h
 both : (a b : Bool) → a ≡ true → b ≡ true → (a && b) ≡ true
 both a b h k = rw h k
 
+member_from : (group : List ℕ) (member : Entity) (from until : Option ℕ) → writable_dates group member from until ≡ true → formed_dates group member from until ≡ true
+member_from group member from until h =
+    let others : _ = right_of (is_name group) _ h in
+    let dates : _ = two_from (is_optional_moment from) (is_optional_moment until) (right_of (is_entity member) _ others) in
+    let who : _ = both (is_name group) (forms.is_entity member) (left_of (is_name group) _ h) (entity_from member (left_of (is_entity member) _ others)) in
+    both (is_name group && forms.is_entity member) (is_optional_moment from && is_optional_moment until) who (both (is_optional_moment from) (is_optional_moment until) dates.0 dates.1)
+
 command_from : (c : Command) → is_writable_command c ≡ true → has_form c ≡ true
 unfolding is_writable_command
 command_from (FolderAdd folder display) h = let p : _ = two_from (is_name folder) (is_display display) h in both (is_name folder) (nat_le (length display) 255) p.0 (shown display p.1)
@@ -105,8 +122,9 @@ command_from (GroupAdd group display) h = let p : _ = two_from (is_name group) (
 command_from (GroupRename group extension) h = let p : _ = two_from (is_name group) (is_extension extension) h in both (is_name group) (is_extension extension) p.0 p.1
 command_from (GroupMove group to) h = let p : _ = two_from (is_name group) (is_folder to) h in both (is_name group) (is_folder_text to) p.0 (folder_from to p.1)
 command_from (GroupDelete group) h = left_of (is_name group) true h
-command_from (MemberAdd group member) h = let p : _ = member_from (is_name group) (is_entity member) h in both (is_name group) (forms.is_entity member) p.0 (entity_from member p.1)
+command_from (MemberAdd group member from until) h = member_from group member from until h
 command_from (MemberRemove group member) h = let p : _ = two_from (is_name group) (is_entity member) h in both (is_name group) (forms.is_entity member) p.0 (entity_from member p.1)
+command_from (MemberWindow group member from until) h = member_from group member from until h
 command_from (CompositeSet group kind left right) h = three_from (is_name group) (is_name left) (is_name right) h
 command_from (CompositeClear group) h = left_of (is_name group) true h
 

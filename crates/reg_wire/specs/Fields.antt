@@ -7,6 +7,8 @@ use Rattle.reg_base.specs.declared.entity.Entity.{Entity}
 use Rattle.reg_base.specs.declared.entity.Entity.TheVariants.{Person, Group, System, Everyone}
 use Rattle.reg_facts.specs.declared.kinds.SetOp.{SetOp}
 use Rattle.reg_facts.specs.declared.kinds.SetOp.TheVariants.{Intersection, Complement}
+use Rattle.reg_facts.specs.Limits.{max_moment}
+use Rattle.reg_facts.specs.Suiting.{is_optional_moment}
 
 -- a field of a command: an object's name, a folder's name or `:`, an extension, a display text, an entity, a moment that may be left out, or the kind of a composite
 pub data Field : Type 0 where
@@ -28,12 +30,7 @@ is_display text = nat_le (length text) 255 && is_utf8 text
 
 -- up to the last microsecond of the year 9999
 abbrev pub is_moment : ℕ → Bool
-is_moment moment = nat_le moment 253402300799999999
-
--- no moment, or one
-abbrev pub is_optional_moment : Option ℕ → Bool
-is_optional_moment None = true
-is_optional_moment (Some moment) = is_moment moment
+is_moment moment = nat_le moment max_moment
 
 -- an entity that a text names
 abbrev pub is_entity : Entity → Bool

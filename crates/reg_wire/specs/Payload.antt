@@ -2,12 +2,12 @@
 use Rattle.std.specs.Prelude.{◌≡◌, ℕ, List, [], ◌∷◌, ◌++◌, Bool, true, ◌&&◌, ◌==◌, if◌then◌else◌, length, Option, Some, None}
 use Rattle.std.specs.List.{list_all, flat_map}
 use Rattle.reg_facts.specs.declared.command.Command.{Command}
-use Rattle.reg_facts.specs.declared.command.Command.TheVariants.{FolderAdd, FolderRename, FolderMove, FolderDelete, SubjectAdd, GroupAdd, GroupRename, GroupMove, GroupDelete, MemberAdd, MemberRemove, CompositeSet, CompositeClear}
+use Rattle.reg_facts.specs.declared.command.Command.TheVariants.{FolderAdd, FolderRename, FolderMove, FolderDelete, SubjectAdd, GroupAdd, GroupRename, GroupMove, GroupDelete, MemberAdd, MemberRemove, MemberWindow, CompositeSet, CompositeClear}
 use Rattle.reg_facts.specs.declared.command.Stamped.{Stamped}
 use Rattle.reg_wire.specs.Steps.{◌>>=◌}
 use Rattle.reg_wire.specs.Fields as field
 use Rattle.reg_wire.specs.Fields.{Field, is_entity, is_field, is_moment, entity_text, field_bytes, moment_bytes, text_bytes}
-use Rattle.reg_wire.specs.Reading.{byte_at, name_at, folder_at, extension_at, display_at, entity_at, moment_at, no_moment_at, kind_at}
+use Rattle.reg_wire.specs.Reading.{byte_at, name_at, folder_at, extension_at, display_at, entity_at, moment_at, optional_moment_at, kind_at}
 
 -- the code of a command's op
 abbrev pub code_of : Command → ℕ
@@ -20,8 +20,9 @@ code_of (GroupAdd group display) = 6
 code_of (GroupRename group extension) = 7
 code_of (GroupMove group to) = 8
 code_of (GroupDelete group) = 9
-code_of (MemberAdd group member) = 10
+code_of (MemberAdd group member from until) = 10
 code_of (MemberRemove group member) = 11
+code_of (MemberWindow group member from until) = 12
 code_of (CompositeSet group kind left right) = 13
 code_of (CompositeClear group) = 14
 
@@ -36,8 +37,9 @@ fields_of (GroupAdd group display) = field.Name group ∷ field.Display display 
 fields_of (GroupRename group extension) = field.Name group ∷ field.Extension extension ∷ []
 fields_of (GroupMove group to) = field.Name group ∷ field.Folder to ∷ []
 fields_of (GroupDelete group) = field.Name group ∷ []
-fields_of (MemberAdd group member) = field.Name group ∷ field.Who member ∷ field.OptionalMoment None ∷ field.OptionalMoment None ∷ []
+fields_of (MemberAdd group member from until) = field.Name group ∷ field.Who member ∷ field.OptionalMoment from ∷ field.OptionalMoment until ∷ []
 fields_of (MemberRemove group member) = field.Name group ∷ field.Who member ∷ []
+fields_of (MemberWindow group member from until) = field.Name group ∷ field.Who member ∷ field.OptionalMoment from ∷ field.OptionalMoment until ∷ []
 fields_of (CompositeSet group kind left right) = field.Name group ∷ field.Kind kind ∷ field.Name left ∷ field.Name right ∷ []
 fields_of (CompositeClear group) = field.Name group ∷ []
 
@@ -95,8 +97,9 @@ readers =
     (7, two name_at extension_at (λ group extension. GroupRename group extension)) ∷
     (8, two name_at folder_at (λ group to. GroupMove group to)) ∷
     (9, one name_at (λ group. GroupDelete group)) ∷
-    (10, four name_at entity_at no_moment_at no_moment_at (λ group member from until. MemberAdd group member)) ∷
+    (10, four name_at entity_at optional_moment_at optional_moment_at (λ group member from until. MemberAdd group member from until)) ∷
     (11, two name_at entity_at (λ group member. MemberRemove group member)) ∷
+    (12, four name_at entity_at optional_moment_at optional_moment_at (λ group member from until. MemberWindow group member from until)) ∷
     (13, four name_at kind_at name_at name_at (λ group kind left right. CompositeSet group kind left right)) ∷
     (14, one name_at (λ group. CompositeClear group)) ∷ []
 

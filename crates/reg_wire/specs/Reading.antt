@@ -75,17 +75,6 @@ optional_moment_at (suc zero ∷ rest) = do
   Some (Some moment.0, moment.1)
 optional_moment_at (suc (suc b) ∷ rest) = None
 
--- nothing where there might be a moment
-abbrev pub if_absent : Option ℕ × List ℕ → Option (Unit {0} × List ℕ)
-if_absent (None, rest) = Some (tt, rest)
-if_absent (Some moment, rest) = None
-
--- a moment that is left out
-unfoldable pub no_moment_at : List ℕ → Option (Unit {0} × List ℕ)
-no_moment_at bytes = do
-  moment ← optional_moment_at bytes
-  if_absent moment
-
 -- the kind of a composite: 1 for an intersection, 2 for a complement
 unfoldable pub kind_at : List ℕ → Option (SetOp × List ℕ)
 kind_at [] = None

@@ -26,6 +26,8 @@ pub const MEMBER_ADD: u8 = 10;
 
 pub const MEMBER_REMOVE: u8 = 11;
 
+pub const MEMBER_WINDOW: u8 = 12;
+
 pub const COMPOSITE_SET: u8 = 13;
 
 pub const COMPOSITE_CLEAR: u8 = 14;
@@ -52,6 +54,7 @@ pub fn code_of(command: &Command) -> u8
         Command::GroupDelete { .. } => GROUP_DELETE,
         Command::MemberAdd { .. } => MEMBER_ADD,
         Command::MemberRemove { .. } => MEMBER_REMOVE,
+        Command::MemberWindow { .. } => MEMBER_WINDOW,
         Command::CompositeSet { .. } => COMPOSITE_SET,
         Command::CompositeClear { .. } => COMPOSITE_CLEAR,
     }

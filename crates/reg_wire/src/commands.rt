@@ -1,13 +1,13 @@
 // Reading commands.
 ghost use Rattle.reg_wire.specs.Steps.{Gives};
-ghost use Rattle.reg_wire.specs.Reading.{name_at, folder_at, extension_at, display_at, entity_at, no_moment_at, kind_at};
+ghost use Rattle.reg_wire.specs.Reading.{name_at, folder_at, extension_at, display_at, entity_at, optional_moment_at, kind_at};
 ghost use Rattle.reg_wire.specs.Payload.{one, two, four, command_at};
-ghost use Rattle.reg_facts.specs.declared.command.Command.TheVariants.{FolderAdd, FolderRename, FolderMove, FolderDelete, SubjectAdd, GroupAdd, GroupRename, GroupMove, GroupDelete, MemberAdd, MemberRemove, CompositeSet, CompositeClear};
+ghost use Rattle.reg_facts.specs.declared.command.Command.TheVariants.{FolderAdd, FolderRename, FolderMove, FolderDelete, SubjectAdd, GroupAdd, GroupRename, GroupMove, GroupDelete, MemberAdd, MemberRemove, MemberWindow, CompositeSet, CompositeClear};
 
 use crate::codes;
 use crate::fault::ReadFault;
 use crate::fields::{
-    display_at, entity_at, extension_at, folder_at, kind_at, name_at, no_moment_at,
+    display_at, entity_at, extension_at, folder_at, kind_at, name_at, optional_moment_at,
 };
 use reg_facts::Command;
 use std::alloc::Global;
@@ -93,13 +93,25 @@ fn group_delete(alloc: Global, bytes: &[u8]) -> Result<(Command, &[u8]), ReadFau
 
 #[tactic(auto, unfolding(crate::specs::Payload::four))]
 fn member_add(alloc: Global, bytes: &[u8]) -> Result<(Command, &[u8]), ReadFault>
-    ensures { Gives (λ x. (x.0, x.1.now)) result (four name_at entity_at no_moment_at no_moment_at (λ group member from until. MemberAdd group member) bytes.now) }
+    ensures { Gives (λ x. (x.0, x.1.now)) result (four name_at entity_at optional_moment_at optional_moment_at (λ group member from until. MemberAdd group member from until) bytes.now) }
 {
     let (group, rest) = name_at(alloc, bytes)?;
     let (member, rest) = entity_at(alloc, rest)?;
-    let rest = no_moment_at(rest)?;
-    let rest = no_moment_at(rest)?;
-    Ok((Command::MemberAdd { group, member }, rest))
+    let (from, rest) = match optional_moment_at(rest) {
+        Ok(read) => read,
+        Err(fault) => return Err(fault),
+    };
+    let (until, rest) = match optional_moment_at(rest) {
+        Ok(read) => read,
+        Err(fault) => return Err(fault),
+    };
+    let command = Command::MemberAdd {
+        group,
+        member,
+        from,
+        until,
+    };
+    Ok((command, rest))
 }
 
 #[tactic(auto, unfolding(crate::specs::Payload::two))]
@@ -109,6 +121,29 @@ fn member_remove(alloc: Global, bytes: &[u8]) -> Result<(Command, &[u8]), ReadFa
     let (group, rest) = name_at(alloc, bytes)?;
     let (member, rest) = entity_at(alloc, rest)?;
     Ok((Command::MemberRemove { group, member }, rest))
+}
+
+#[tactic(auto, unfolding(crate::specs::Payload::four))]
+fn member_window(alloc: Global, bytes: &[u8]) -> Result<(Command, &[u8]), ReadFault>
+    ensures { Gives (λ x. (x.0, x.1.now)) result (four name_at entity_at optional_moment_at optional_moment_at (λ group member from until. MemberWindow group member from until) bytes.now) }
+{
+    let (group, rest) = name_at(alloc, bytes)?;
+    let (member, rest) = entity_at(alloc, rest)?;
+    let (from, rest) = match optional_moment_at(rest) {
+        Ok(read) => read,
+        Err(fault) => return Err(fault),
+    };
+    let (until, rest) = match optional_moment_at(rest) {
+        Ok(read) => read,
+        Err(fault) => return Err(fault),
+    };
+    let command = Command::MemberWindow {
+        group,
+        member,
+        from,
+        until,
+    };
+    Ok((command, rest))
 }
 
 #[tactic(auto, unfolding(crate::specs::Payload::four))]
@@ -153,6 +188,7 @@ pub fn command_at(alloc: Global, code: u8, bytes: &[u8]) -> Result<(Command, &[u
         codes::GROUP_DELETE => group_delete(alloc, bytes),
         codes::MEMBER_ADD => member_add(alloc, bytes),
         codes::MEMBER_REMOVE => member_remove(alloc, bytes),
+        codes::MEMBER_WINDOW => member_window(alloc, bytes),
         codes::COMPOSITE_SET => composite_set(alloc, bytes),
         codes::COMPOSITE_CLEAR => composite_clear(alloc, bytes),
         _ => Err(ReadFault::Malformed),

@@ -119,6 +119,21 @@ fn put_member(out: &mut Vec<u8>, group: &Name, member: &Entity) -> Result<(), Al
     put_entity(out, member)
 }
 
+fn put_membership(
+    out: &mut Vec<u8>,
+    group: &Name,
+    member: &Entity,
+    from: Option<Moment>,
+    until: Option<Moment>,
+) -> Result<(), AllocError>
+    requires { is_entity member.now ≡ true }
+    ensures { OnOk result (out.new.items ≡ out.old.items ++ (text_bytes group.now ++ (text_bytes (entity_text member.now) ++ (optional_moment_bytes from ++ optional_moment_bytes until)))) }
+{
+    put_member(out, group, member)?;
+    put_optional_moment(out, from)?;
+    put_optional_moment(out, until)
+}
+
 fn put_composite(
     out: &mut Vec<u8>,
     group: &Name,
@@ -164,11 +179,18 @@ fn put_fields(out: &mut Vec<u8>, command: &Command) -> Result<(), AllocError>
             put_folder(out, to)
         }
         Command::GroupDelete { group } | Command::CompositeClear { group } => put_name(out, group),
-        Command::MemberAdd { group, member } => {
-            put_member(out, group, member)?;
-            put_optional_moment(out, None)?;
-            put_optional_moment(out, None)
+        Command::MemberAdd {
+            group,
+            member,
+            from,
+            until,
         }
+        | Command::MemberWindow {
+            group,
+            member,
+            from,
+            until,
+        } => put_membership(out, group, member, *from, *until),
         Command::MemberRemove { group, member } => put_member(out, group, member),
         Command::CompositeSet {
             group,

@@ -3,7 +3,7 @@ ghost use Rattle.std.specs.Prelude.{◌≡◌, ◌||◌};
 ghost use Rattle.std.specs.Int.{w16, w64};
 ghost use Rattle.reg_wire.specs.Steps.{Gives};
 ghost use Rattle.reg_wire.specs.Fields.{is_folder};
-ghost use Rattle.reg_wire.specs.Reading.{byte_at, number_at, text_at, name_at, folder_at, extension_at, display_at, entity_at, moment_at, optional_moment_at, no_moment_at, kind_at};
+ghost use Rattle.reg_wire.specs.Reading.{byte_at, number_at, text_at, name_at, folder_at, extension_at, display_at, entity_at, moment_at, optional_moment_at, kind_at};
 
 use crate::codes::{COMPLEMENT, INTERSECTION};
 use crate::fault::ReadFault;
@@ -149,8 +149,9 @@ pub fn moment_at(bytes: &[u8]) -> Result<(Moment, &[u8]), ReadFault>
     }
 }
 
+/// A moment that may be left out.
 #[tactic(auto, unfolding(crate::specs::Reading::optional_moment_at))]
-fn optional_moment_at(bytes: &[u8]) -> Result<(Option<Moment>, &[u8]), ReadFault>
+pub fn optional_moment_at(bytes: &[u8]) -> Result<(Option<Moment>, &[u8]), ReadFault>
     ensures { Gives (λ x. (x.0, x.1.now)) result (optional_moment_at bytes.now) }
 {
     match bytes {
@@ -161,18 +162,6 @@ fn optional_moment_at(bytes: &[u8]) -> Result<(Option<Moment>, &[u8]), ReadFault
             Err(fault) => Err(fault),
         },
         [_, ..] => Err(ReadFault::Malformed),
-    }
-}
-
-/// A moment that is left out.
-#[tactic(auto, unfolding(crate::specs::Reading::no_moment_at))]
-pub fn no_moment_at(bytes: &[u8]) -> Result<&[u8], ReadFault>
-    ensures { Gives (λ rest. (tt, rest.now)) result (no_moment_at bytes.now) }
-{
-    match optional_moment_at(bytes) {
-        Ok((None, rest)) => Ok(rest),
-        Ok((Some(_), _)) => Err(ReadFault::Malformed),
-        Err(fault) => Err(fault),
     }
 }
 

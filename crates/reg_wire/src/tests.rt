@@ -3,6 +3,7 @@ use super::{decode, encode, is_writable};
 use reg_base::{Entity, Moment, Text};
 use reg_facts::{Command, SetOp, Stamped};
 use std::alloc::Global;
+use std::process::Abort;
 use std::test::Fail;
 
 const ANN: [u8; 44] = [
@@ -22,25 +23,35 @@ fn ann(alloc: Global) -> Result<Stamped, Fail> {
     })
 }
 
-#[test]
-fn a_payload_has_these_44_bytes(rt: HostRuntime) -> Result<(), Fail> {
-    let stamped = ann(rt.alloc())?;
+// the bytes of `ann`
+fn written(rt: &impl Abort, alloc: Global) -> Result<Vec<u8>, Fail> {
+    let stamped = ann(alloc)?;
     assert!(rt; is_writable(&stamped));
-    let bytes = encode(rt.alloc(), &stamped)?;
-    assert_eq!(rt; bytes.as_slice(), ANN.as_slice());
-    let read = decode(rt.alloc(), &ANN)?.ok_or("a payload")?;
-    assert_eq!(rt; read.at.micros(), 1_756_684_800_000_000);
-    assert!(rt; matches!(&read.by, Entity::System));
-    match &read.command {
+    Ok(encode(alloc, &stamped)?)
+}
+
+fn is_subject(command: &Command, texts: [&str; 2]) -> bool {
+    match command {
         Command::SubjectAdd {
             subject: Entity::Person(subject),
             display,
-        } => {
-            assert_eq!(rt; subject.as_str(), "uni/ann");
-            assert_eq!(rt; display.as_str(), "Ann");
-        }
-        _ => assert!(rt; false, "another command"),
+        } => [subject.as_str(), display.as_str()] == texts,
+        _ => false,
     }
+}
+
+fn is_ann(stamped: &Stamped) -> bool {
+    stamped.at.micros() == 1_756_684_800_000_000
+        && matches!(&stamped.by, Entity::System)
+        && is_subject(&stamped.command, ["uni/ann", "Ann"])
+}
+
+#[test]
+fn a_payload_has_these_44_bytes(rt: HostRuntime) -> Result<(), Fail> {
+    let bytes = written(&rt, rt.alloc())?;
+    assert_eq!(rt; bytes.as_slice(), ANN.as_slice());
+    let read = decode(rt.alloc(), &ANN)?.ok_or("a payload")?;
+    assert!(rt; is_ann(&read));
     Ok(())
 }
 
@@ -72,11 +83,15 @@ fn a_composite_has_these_46_bytes(rt: HostRuntime) -> Result<(), Fail> {
     Ok(())
 }
 
-// the op of a payload, or `none`
+// the op of a payload that is written again as it was read, or `none`
 fn op_of(alloc: Global, bytes: &[u8]) -> Result<&'static str, Fail> {
     let Some(stamped) = decode(alloc, bytes)? else {
         return Ok("none");
     };
+    let again = encode(alloc, &stamped)?;
+    if again.as_slice() != bytes {
+        return Ok("other bytes");
+    }
     Ok(match stamped.command {
         Command::FolderAdd { .. } => "folder.add",
         Command::FolderRename { .. } => "folder.rename",
@@ -89,12 +104,14 @@ fn op_of(alloc: Global, bytes: &[u8]) -> Result<&'static str, Fail> {
         Command::GroupDelete { .. } => "group.delete",
         Command::MemberAdd { .. } => "member.add",
         Command::MemberRemove { .. } => "member.remove",
+        Command::MemberWindow { until: None, .. } => "member.window without an end",
+        Command::MemberWindow { .. } => "member.window",
         Command::CompositeSet { .. } => "composite.set",
         Command::CompositeClear { .. } => "composite.clear",
     })
 }
 
-const READ: [(&str, &str); 20] = [
+const READ: [(&str, &str); 24] = [
     (
         "\x01\0\0\0\0\0\0\0\x07\0uni/ann\x01\x03\0a:b\0\0",
         "folder.add",
@@ -132,8 +149,20 @@ const READ: [(&str, &str); 20] = [
         "member.add",
     ),
     (
+        "\x01\0\0\0\0\0\0\0\x07\0uni/ann\x0a\x01\0g\x07\0uni/bob\x01\x02\0\0\0\0\0\0\0\x01\x03\0\0\0\0\0\0\0",
+        "member.add",
+    ),
+    (
         "\x01\0\0\0\0\0\0\0\x07\0g:gsa/h\x0b\x01\0g\x07\0uni/ann",
         "member.remove",
+    ),
+    (
+        "\x01\0\0\0\0\0\0\0\x07\0uni/ann\x0c\x01\0g\x07\0uni/bob\0\x01\x03\0\0\0\0\0\0\0",
+        "member.window",
+    ),
+    (
+        "\x01\0\0\0\0\0\0\0\x07\0uni/ann\x0c\x01\0g\x07\0uni/bob\x01\x02\0\0\0\0\0\0\0\0",
+        "member.window without an end",
     ),
     (
         "\x01\0\0\0\0\0\0\0\x07\0uni/ann\x0d\x01\0g\x01\x01\0l\x01\0r",
@@ -149,6 +178,10 @@ const READ: [(&str, &str); 20] = [
     ("\x01\0\0\0\0\0\0\x7f\x07\0uni/ann\x04\x01\0a", "none"),
     (
         "\x01\0\0\0\0\0\0\0\x07\0uni/ann\x0a\x01\0g\x07\0g:gsa/h\0\x02",
+        "none",
+    ),
+    (
+        "\x01\0\0\0\0\0\0\0\x07\0uni/ann\x0c\x01\0g\x07\0g:gsa/h\0\x01\0\0\0\0\0\0\0\x7f",
         "none",
     ),
     (

@@ -1,6 +1,7 @@
 // Which stamped commands have a payload.
 ghost use Rattle.std.specs.Prelude.{◌≡◌};
 ghost use Rattle.reg_base.specs.Names.{is_name};
+ghost use Rattle.reg_facts.specs.Suiting.{is_optional_moment};
 ghost use Rattle.reg_wire.specs.Fields.{is_display, is_entity, is_folder, is_moment};
 ghost use Rattle.reg_wire.specs.Payload.{is_writable, is_writable_command};
 
@@ -26,6 +27,12 @@ fn is_moment(moment: Moment) -> bool
     ensures { result ≡ is_moment moment }
 {
     Moment::new(moment.micros()).is_some()
+}
+
+fn is_optional_moment(moment: Option<Moment>) -> bool
+    ensures { result ≡ is_optional_moment moment }
+{
+    moment.is_none_or(is_moment)
 }
 
 fn is_entity(entity: &Entity) -> bool
@@ -56,7 +63,23 @@ fn is_writable_command(command: &Command) -> bool
         }
         Command::GroupMove { group, to } => names(group) && is_folder(to.bytes()),
         Command::GroupDelete { group } => names(group),
-        Command::MemberAdd { group, member } => names(group) && is_entity(member),
+        Command::MemberAdd {
+            group,
+            member,
+            from,
+            until,
+        }
+        | Command::MemberWindow {
+            group,
+            member,
+            from,
+            until,
+        } => {
+            names(group)
+                && is_entity(member)
+                && is_optional_moment(*from)
+                && is_optional_moment(*until)
+        }
         Command::MemberRemove { group, member } => names(group) && is_entity(member),
         Command::CompositeSet {
             group,

@@ -26,7 +26,7 @@ decided_keeps s by command None h = cc
 decided_keeps s by command (Some r) h = refl
 
 answered_keeps : (s : State) (by : Entity) (asked : Op) → is_accepted (requested s by asked).0 ≡ false → (requested s by asked).1 ≡ s
-answered_keeps s by (op.Command command) h = decided_keeps s by command (refusal s.history command) h
+answered_keeps s by (op.Command command) h = decided_keeps s by command (refusal s.history s.clock command) h
 answered_keeps s by (op.Query query) h = refl
 
 -- what isn't an accepted command moves the clock alone

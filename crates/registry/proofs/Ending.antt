@@ -85,7 +85,7 @@ told_query s m (Err r) = inr (refl, refl)
 
 told_name : (s : State) (m : ℕ) (name : List ℕ) (b : Bool) → is_name name ≡ b
     → (end_of_reply (turn s m (name_reading name)).0 ≡ the_end.Done) × (is_refused (turn s m (name_reading name)).0 ≡ false) ⊎ (end_of_reply (turn s m (name_reading name)).0 ≡ the_end.Refused) × (is_refused (turn s m (name_reading name)).0 ≡ true)
-told_name s m name true e = rw e (told_query s m (answer_of (query.Members name) (max s.clock m) (facts s.history)))
+told_name s m name true e = rw e (told_query s m (answer_of (query.Members name) (max s.clock m) (facts s.history (max s.clock m))))
 told_name s m name false e = rw e (inr (refl, refl))
 
 replied_file : (held moments : Option (List ℕ)) (s : State) (m : ℕ) (name : List ℕ) (b : Bool) (w w2 : Option (List ℕ)) → IfSome held (λ file. opens file ≡ Ok s)

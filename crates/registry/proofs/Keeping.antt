@@ -111,13 +111,13 @@ told_failed (Some ps) new p (inr e) = rw e refl
 
 -- after an append that failed a stop leaves the history with the command or without it
 pub stopped_one : {K : Type 0} (g : Ghosts K) (s : State) (st : Stamped) (old new : K) → IsServed s (g.payloads old) (g.has_failed old) → st.at ≡ s.clock
-    → refusal s.history st.command ≡ None → IsWritable st
+    → refusal s.history s.clock st.command ≡ None → IsWritable st
     → ((r : Result (List (List ℕ)) ℕ) → g.keep_moment old ≤ g.keep_moment new → g.stop_leaves new r → g.stopped_since new (g.keep_moment old) r)
     → IfSome (g.payloads old) (λ ps. Leaves g.keep_moment g.stopped_since (IsOneOf ps (payload st)) old new) → IfSome (g.payloads old) (λ ps. Stopped g s.history (s.history ++ st ∷ []) new)
 stopped_one g s st old new served at sure w counts leaves = stopped (g.payloads old) served.payloads leaves
   where
     again : Reopens (s.history ++ st ∷ [])
-    again = opens_more s.history st (omega (arith, served.last)) sure w served.opens
+    again = opens_more s.history st (omega (arith, served.last)) (subst (λ (n : ℕ). refusal s.history n st.command ≡ None) (sym at) sure) w served.opens
 
     stopped : (o : Option (List (List ℕ))) → IfSome o (λ ps. ps ≡ payloads_of s.history) → IfSome o (λ ps. Leaves g.keep_moment g.stopped_since (IsOneOf ps (payload st)) old new)
         → IfSome o (λ ps. Stopped g s.history (s.history ++ st ∷ []) new)
@@ -158,7 +158,7 @@ stopped_at g s k k0 h0 served now only a b =
 
 -- an accepted command that is kept is served
 pub served_one : (s m : State) (st : Stamped) (bytes : List ℕ) (told told2 : Option (List (List ℕ))) (failed failed2 : Bool) → IsServed s told failed → st.at ≡ s.clock
-    → refusal s.history st.command ≡ None → IsWritable st → m ≡ appended s st.by st.command → bytes ≡ payload st → told2 ≡ option_map (λ ps. ps ++ bytes ∷ []) told → failed2 ≡ false → IsServed m told2 failed2
+    → refusal s.history s.clock st.command ≡ None → IsWritable st → m ≡ appended s st.by st.command → bytes ≡ payload st → told2 ≡ option_map (λ ps. ps ++ bytes ∷ []) told → failed2 ≡ false → IsServed m told2 failed2
 served_one s m st bytes told told2 failed failed2 served at sure w is same kept going =
     rw is (served_more s st told told2 failed failed2 served at sure w (subst (λ (b : List ℕ). told2 ≡ option_map (λ ps. ps ++ b ∷ []) told) same kept) going)
 
@@ -179,7 +179,7 @@ kept_ok g s m st bytes old new served at is same object later kept leaves =
 
 -- an append that failed
 pub kept_err : {K : Type 0} (g : Ghosts K) (s : State) (st : Stamped) (bytes : List ℕ) (old new : K) (expected : List Stamped) → IsServed s (g.payloads old) (g.has_failed old) → st.at ≡ s.clock
-    → refusal s.history st.command ≡ None → IsWritable st → expected ≡ s.history ++ st ∷ []
+    → refusal s.history s.clock st.command ≡ None → IsWritable st → expected ≡ s.history ++ st ∷ []
     → bytes ≡ payload st → g.keep_name new ≡ g.keep_name old → g.keep_faults old ≤ g.keep_faults new → Rose (g.keep_faults old) (g.keep_faults new) → AreOneOf (g.payloads old) bytes (g.payloads new)
     → ((t : ℕ) (r : Result (List (List ℕ)) ℕ) → t ≤ g.keep_moment new → g.stop_leaves new r → g.stopped_since new t r)
     → IfSome (g.payloads old) (λ ps. Leaves g.keep_moment g.stopped_since (IsOneOf ps bytes) old new)
@@ -194,7 +194,7 @@ kept_err g s st bytes old new expected served at sure w would same object later 
     )
 
 -- what an accepted command would lead to
-pub would_keep : (s : State) (st : Stamped) → st.at ≡ s.clock → refusal s.history st.command ≡ None → (requested s st.by (op.Command st.command)).1.history ≡ s.history ++ st ∷ []
+pub would_keep : (s : State) (st : Stamped) → st.at ≡ s.clock → refusal s.history s.clock st.command ≡ None → (requested s st.by (op.Command st.command)).1.history ≡ s.history ++ st ∷ []
 would_keep s st at sure = rw (sure, ← at) refl
 
 between_first : (h0 h1 h2 more : List Stamped) (r : Result (List (List ℕ)) ℕ) → h2 ≡ h1 ++ more → IsBetween h0 h1 r → IsBetween h0 h2 r
@@ -324,7 +324,7 @@ decided_one s by command None = inr (record { at = s.clock; by = by; command = c
 decided_one s by command (Some r) = inl refl
 
 requested_one : (s : State) (by : Entity) (asked : Op) → IsOneMore s.history (requested s by asked).1.history
-requested_one s by (op.Command command) = decided_one s by command (refusal s.history command)
+requested_one s by (op.Command command) = decided_one s by command (refusal s.history s.clock command)
 requested_one s by (op.Query query) = inl refl
 
 -- a turn leads to the history, or to one command more

@@ -45,8 +45,8 @@ answered_tells s (Ok a) = nothing s (reply.Answer a) s refl (λ replies. refl)
 answered_tells s (Err r) = nothing s (reply.Refused r) s refl (λ replies. refl)
 
 requested_tells : (s : State) (by : Entity) (asked : Op) → Tells s (requested s by asked).0 (requested s by asked).1
-requested_tells s by (op.Command command) = decided_tells s by command (refusal s.history command)
-requested_tells s by (op.Query query) = answered_tells s (answer_of query s.clock (facts s.history))
+requested_tells s by (op.Command command) = decided_tells s by command (refusal s.history s.clock command)
+requested_tells s by (op.Query query) = answered_tells s (answer_of query s.clock (facts s.history s.clock))
 
 moved : (s : State) (m : ℕ) (told : Reply) (after : State) → Tells (at_moment s m) told after → Tells s told after
 moved s m told after t = record { more = t.more; grown = t.grown; tells = t.tells }

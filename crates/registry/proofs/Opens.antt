@@ -65,9 +65,9 @@ accepted_after s t bytes stamped None p e =
     })
 
 in_time_after : (s t : State) (bytes : List ℕ) (stamped : Stamped) (early : Bool) → payload stamped ≡ bytes
-    → (if early then None else accepted s stamped (refusal s.history stamped.command)) ≡ Some t → IsAfter s bytes t
+    → (if early then None else accepted s stamped (refusal s.history stamped.at stamped.command)) ≡ Some t → IsAfter s bytes t
 in_time_after s t bytes stamped true p e = absurd (cc)
-in_time_after s t bytes stamped false p e = accepted_after s t bytes stamped (refusal s.history stamped.command) p e
+in_time_after s t bytes stamped false p e = accepted_after s t bytes stamped (refusal s.history stamped.at stamped.command) p e
 
 stamped_after : (s t : State) (bytes : List ℕ) (found : Option Stamped) → stamped_of bytes ≡ found → after_stamped s found ≡ Some t → IsAfter s bytes t
 stamped_after s t bytes None is e = absurd (cc)
@@ -142,7 +142,7 @@ split_last (r ∷ rs) (q ∷ ps) p e =
     with_first : {xs : List (List ℕ)} → r.1 ≡ q → xs ≡ ps → r.1 ∷ xs ≡ q ∷ ps
     with_first a b = cc
 
-after_written : (history : List Stamped) (stamped : Stamped) → last_from 0 history ≤ stamped.at → refusal history stamped.command ≡ None → IsWritable stamped
+after_written : (history : List Stamped) (stamped : Stamped) → last_from 0 history ≤ stamped.at → refusal history stamped.at stamped.command ≡ None → IsWritable stamped
     → after_payload (at_last history) (payload stamped) ≡ Some (at_last (history ++ stamped ∷ []))
 unfolding after_payload
 after_written history stamped later sure w =
@@ -150,7 +150,7 @@ after_written history stamped later sure w =
     let clock : stamped.at ≡ last_from 0 (history ++ stamped ∷ []) = sym (last_more 0 history stamped) in
     rw (reads_back stamped w, in_time, sure) (ap (λ (n : ℕ). Some (record { history = history ++ stamped ∷ []; clock = n })) clock)
 
-pub opens_more : (history : List Stamped) (stamped : Stamped) → last_from 0 history ≤ stamped.at → refusal history stamped.command ≡ None → IsWritable stamped
+pub opens_more : (history : List Stamped) (stamped : Stamped) → last_from 0 history ≤ stamped.at → refusal history stamped.at stamped.command ≡ None → IsWritable stamped
     → ((records : Records) → texts records ≡ payloads_of history → judged start records ≡ Ok (at_last history))
     → (records : Records) → texts records ≡ payloads_of (history ++ stamped ∷ []) → judged start records ≡ Ok (at_last (history ++ stamped ∷ []))
 opens_more history stamped later sure w opens records is =
@@ -160,14 +160,14 @@ opens_more history stamped later sure w opens records is =
 
 -- an accepted command that is kept is served
 pub served_more : (s : State) (stamped : Stamped) (told told2 : Option (List (List ℕ))) (failed failed2 : Bool) → IsServed s told failed → stamped.at ≡ s.clock
-    → refusal s.history stamped.command ≡ None → IsWritable stamped → told2 ≡ option_map (λ ps. ps ++ payload stamped ∷ []) told → failed2 ≡ false
+    → refusal s.history s.clock stamped.command ≡ None → IsWritable stamped → told2 ≡ option_map (λ ps. ps ++ payload stamped ∷ []) told → failed2 ≡ false
     → IsServed (appended s stamped.by stamped.command) told2 failed2
 served_more s stamped told told2 failed failed2 served at sure w kept going =
     let same : appended s stamped.by stamped.command ≡ record { history = s.history ++ stamped ∷ []; clock = s.clock } = rw (← at) refl in
     rw same (record {
       payloads = with_one told served.payloads kept;
       going = going;
-      opens = opens_more s.history stamped (omega (arith, served.last)) sure w served.opens;
+      opens = opens_more s.history stamped (omega (arith, served.last)) (subst (λ (n : ℕ). refusal s.history n stamped.command ≡ None) (sym at) sure) w served.opens;
       last = omega (arith, last_more 0 s.history stamped);
     })
   where

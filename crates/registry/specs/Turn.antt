@@ -34,8 +34,8 @@ answered (Err r) = reply.Refused r
 
 -- the reply to what is asked at the clock, and the state after it
 abbrev pub requested : State → Entity → Op → Reply × State
-requested s by (op.Command command) = decided s by command (refusal s.history command)
-requested s by (op.Query query) = (answered (answer_of query s.clock (facts s.history)), s)
+requested s by (op.Command command) = decided s by command (refusal s.history s.clock command)
+requested s by (op.Query query) = (answered (answer_of query s.clock (facts s.history s.clock)), s)
 
 -- the reply to a reading at a moment, and the state after it
 abbrev pub turn : State → ℕ → Result Request Refusal → Reply × State

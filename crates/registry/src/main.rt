@@ -2,6 +2,8 @@
 #![tactic(auto)]
 
 #[cfg(test)]
+mod dates_tests;
+#[cfg(test)]
 mod nesting_tests;
 mod pending;
 mod perform;

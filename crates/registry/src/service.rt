@@ -62,7 +62,7 @@ fn is_refused(
     by: &Entity,
     command: &Command,
 ) -> Result<bool, AllocError>
-    ensures { IfOk result (λ b. b ≡ is_some (refusal machine.now.history command.now)) }
+    ensures { IfOk result (λ b. b ≡ is_some (refusal machine.now.history machine.now.clock command.now)) }
 {
     let found = machine.decide(alloc, by, command)?;
     Ok(found.is_some())
@@ -86,7 +86,7 @@ fn taken(
     by: &Entity,
     command: Command,
 ) -> Result<Option<Machine<Incremental>>, AllocError>
-    requires allowed { refusal machine.history command ≡ None }
+    requires allowed { refusal machine.history machine.clock command ≡ None }
     requires form { has_form command ≡ true }
     ensures { IfOk result (λ found. found ≡ Some (appended machine by.now command)) }
 {
@@ -104,7 +104,7 @@ fn decided(
     command: Command,
 ) -> Result<Option<Machine<Incremental>>, AllocError>
     requires { has_form command ≡ true }
-    ensures { IfOk result (λ found. found ≡ accepted machine (record { at = machine.clock; by = by.now; command = command }) (refusal machine.history command)) }
+    ensures { IfOk result (λ found. found ≡ accepted machine (record { at = machine.clock; by = by.now; command = command }) (refusal machine.history machine.clock command)) }
 {
     if is_refused(alloc, &machine, by, &command)? {
         return Ok(None);
@@ -122,7 +122,7 @@ fn act(
 ) -> Result<Option<Machine<Incremental>>, AllocError>
     requires form { has_form command ≡ true }
     requires later { machine.clock ≤ at }
-    ensures { IfOk result (λ found. found ≡ accepted machine (record { at = at; by = by.now; command = command }) (refusal machine.history command)) }
+    ensures { IfOk result (λ found. found ≡ accepted machine (record { at = at; by = by.now; command = command }) (refusal machine.history at command)) }
 {
     let machine = moved(machine, at)?;
     decided(alloc, machine, by, command)
@@ -226,7 +226,7 @@ fn keep<K: Keeper>(
     stamped: Stamped,
 ) -> (Reply, Next<K>)
     requires served { IsServed machine (K.payloads keeper) (K.has_failed keeper) }
-    requires accepted { refusal machine.history stamped.command ≡ None }
+    requires accepted { refusal machine.history machine.clock stamped.command ≡ None }
     requires now { stamped.at ≡ machine.clock }
     requires writable { IsWritable stamped }
     ensures turn { Carries machine (requested machine stamped.by (Op.Command stamped.command)) result }

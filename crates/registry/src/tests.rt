@@ -38,7 +38,7 @@ const EMPTY: &str = "commands 0 moment 1970-01-01T00:00:00.000000Z\n";
 
 const ONE: &str = "commands 1 moment 2025-09-01T00:00:00.000000Z\n";
 
-fn disk_of(alloc: Global, bytes: &[u8], fail: &[u64]) -> Result<MemoryDisk, Fail> {
+pub(crate) fn disk_of(alloc: Global, bytes: &[u8], fail: &[u64]) -> Result<MemoryDisk, Fail> {
     Ok(MemoryDisk::new(alloc, bytes.to_vec(alloc)?, fail.to_vec(alloc)?)?)
 }
 
@@ -50,9 +50,17 @@ fn words_of(alloc: Global, words: &[&str]) -> Result<Vec<String>, Fail> {
     Ok(list)
 }
 
-/// Runs the program at 2025-09-01T00:00:00Z over a disk and these lines, read in pieces of this
-/// many bytes, and compares its status, what it wrote and its note.
-fn expect(
+/// 2025-09-01T00:00:00Z, in microseconds.
+pub(crate) const T: u64 = 1_756_684_800_000_000;
+
+fn moment(micros: u64) -> Moment {
+    Moment::new(micros).unwrap_or(Moment::start())
+}
+
+/// Runs the program over a disk and these lines, read in pieces of this many bytes, with a clock
+/// that gives these moments in microseconds and then the last one again; and compares its status,
+/// what it wrote and its note.
+pub(crate) fn expect_at(
     rt: &impl Abort,
     alloc: Global,
     disk: &mut MemoryDisk,
@@ -60,12 +68,26 @@ fn expect(
     lines: &[u8],
     piece: usize,
     faults: Faults,
+    at: [u64; 12],
     expected: (u8, &str, &str),
 ) -> Result<(), Fail>
     requires { 0 < piece }
 {
-    let mut moments = Vec::new(alloc);
-    moments.push(Moment::new(1_756_684_800_000_000).unwrap_or(Moment::start()))?;
+    let [a, b, c, d, e, f, g, h, i, j, k, l] = at;
+    let moments = vec![in alloc;
+        moment(a),
+        moment(b),
+        moment(c),
+        moment(d),
+        moment(e),
+        moment(f),
+        moment(g),
+        moment(h),
+        moment(i),
+        moment(j),
+        moment(k),
+        moment(l),
+    ]?;
     let bytes = Vec::from_slice(alloc, lines)?;
     let mut input = MemorySource::new(bytes, piece, vec![in alloc; faults.read]?);
     let mut out = MemorySink::new(alloc, vec![in alloc; faults.write]?);
@@ -80,6 +102,24 @@ fn expect(
     assert_eq!(rt; out.written(), replies.as_bytes());
     assert_eq!(rt; notes.written(), note.as_bytes());
     Ok(())
+}
+
+/// Runs the program at 2025-09-01T00:00:00Z, as `expect_at`.
+fn expect(
+    rt: &impl Abort,
+    alloc: Global,
+    disk: &mut MemoryDisk,
+    words: &[&str],
+    lines: &[u8],
+    piece: usize,
+    faults: Faults,
+    expected: (u8, &str, &str),
+) -> Result<(), Fail>
+    requires { 0 < piece }
+{
+    expect_at(
+        rt, alloc, disk, words, lines, piece, faults, [T; 12], expected,
+    )
 }
 
 /// Begins a journal and applies these lines to it.

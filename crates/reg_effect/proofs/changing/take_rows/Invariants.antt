@@ -4,7 +4,6 @@ use Rattle.reg_effect.specs.declared.live.Change.{Change}
 use Rattle.reg_effect.specs.declared.live.Change.TheVariants.{RowOff}
 use Rattle.reg_effect.specs.Changes.{changed_by, SuitAll}
 use Rattle.reg_effect.specs.Bound.{most_steps_of}
-use Rattle.reg_effect.specs.Invariant.{IsCounted}
 use Rattle.reg_effect.proofs.changing.take_rows.Given as goal
 
 abbrev pub invariant-loop-member : goal.invariant-loop-member
@@ -14,6 +13,5 @@ invariant-loop-member g l =
     record {
       suit : SuitAll rest (g.K.Kept.held l.kept);
       changed : changed_by rest (g.K.Kept.held l.kept) ≡ changed_by all (g.K.Kept.held l.fn.kept);
-      counted : IsCounted (g.K.Kept.held l.kept) l.graph;
       cost : l.steps + most_steps_of rest (g.K.Kept.held l.kept) ≤ l.fn.steps + most_steps_of all (g.K.Kept.held l.fn.kept);
     }

@@ -1,5 +1,6 @@
 use Rattle.std.proofs.Common.{◌∙◌, ap, map}
-use Rattle.reg_effect.specs.Order.{row_at, place_of}
+use Rattle.reg_facts.specs.RowOrder.{place_of}
+use Rattle.reg_effect.specs.Order.{row_at}
 use Rattle.reg_effect.proofs.Places.{rows_inserted, places_inserted, small_place}
 use Rattle.reg_effect.proofs.rows.Rows.insert.Goals as goal
 

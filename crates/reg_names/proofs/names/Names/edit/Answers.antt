@@ -11,6 +11,9 @@ returns-in-MemberAdd c at d e = c.requires.in_step d e ∙ names_kept at c.args.
 pub returns-in-MemberRemove : goal.returns-in-MemberRemove
 returns-in-MemberRemove c at d e = c.requires.in_step d e ∙ names_kept at c.args.command.now c.args.before.now d e (rw c.in-MemberRemove.is refl)
 
+pub returns-in-MemberWindow : goal.returns-in-MemberWindow
+returns-in-MemberWindow c at d e = c.requires.in_step d e ∙ names_kept at c.args.command.now c.args.before.now d e (rw c.in-MemberWindow.is refl)
+
 pub returns-in-CompositeSet : goal.returns-in-CompositeSet
 returns-in-CompositeSet c at d e = c.requires.in_step d e ∙ names_kept at c.args.command.now c.args.before.now d e (rw c.in-CompositeSet.is refl)
 
