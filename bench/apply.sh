@@ -1,7 +1,9 @@
 #!/bin/sh
 # Times the built program on 1,000 folder.add, 2,000 group.add (two in each folder), 20,000 subject.add
 # and 40,000 member.add lines, with a members line after every hundredth once the groups stand; then, over the same
-# journal, on 50,000 renames and moves of groups and folders. Prints lines a second and the peak memory.
+# journal, on 50,000 renames and moves of groups and folders. Then it adds the same rows to another journal, each with
+# an end of its own, so that the first of them end while the last are added, and the rest before a last members line.
+# Prints lines a second and the peak memory.
 # The journal lies in memory (/dev/shm), so that the disk's syncs aren't measured: bench/durable.sh does.
 # Build the program first (./quickstart.sh). FOLDERS, SUBJECTS, GROUPS_MADE, ROWS and MOVES set other sizes.
 set -u
@@ -16,6 +18,7 @@ import os
 import subprocess
 import sys
 import tempfile
+import time
 
 from applying import Applied
 
@@ -34,7 +37,14 @@ def group(n):
     return "%s:g%04d" % (folder(n), n % groups)
 
 
-def commands():
+def moment(seconds):
+    """A moment as the program reads it, of seconds since 1970."""
+    whole = int(seconds)
+    return time.strftime("%Y-%m-%dT%H:%M:%S", time.gmtime(whole)) + ".%06dZ" % int((seconds - whole) * 1e6)
+
+
+def commands(ends=None):
+    """The end of row n is at the moment `ends(n)`."""
     for n in range(folders):
         yield {"op": "folder.add", "folder": folder(n)}
     for n in range(groups):
@@ -43,11 +53,12 @@ def commands():
         yield {"op": "subject.add", "subject": subject(n), "display": "Person %d" % n}
     # The groups take turns. Each further round moves the persons on by one group, so that no row comes twice.
     for n in range(rows):
-        yield {"op": "member.add", "group": group(n + n // subjects), "member": subject(n)}
+        until = {} if ends is None else {"until": moment(ends(n))}
+        yield {"op": "member.add", "group": group(n + n // subjects), "member": subject(n), **until}
 
 
-def lines():
-    for n, command in enumerate(commands(), 1):
+def lines(ends=None):
+    for n, command in enumerate(commands(ends), 1):
         yield command
         if n % 100 == 0 and n > folders + groups:
             yield {"op": "members", "group": group(n // 100 - 1)}
@@ -72,8 +83,8 @@ def edits():
         yield {"op": "group.move", "group": extension, "to": own.split(":")[0]}
 
 
-def measured(title, requests, journal, place):
-    run = Applied(program, journal, requests, place)
+def measured(title, requests, journal, place, **when):
+    run = Applied(program, journal, requests, place, **when)
     answered = sum("members" in r for r in run.replies)
     members = sum(len(r.get("members", [])) for r in run.replies)
     print(title)
@@ -85,14 +96,26 @@ def measured(title, requests, journal, place):
           % (run.seconds, run.processor))
     print("  lines a second     %d" % (run.count / run.seconds))
     print("  peak memory        %.1f MB" % (run.peak * 1024 / 1e6))
-    return run.status == 0 and run.accepted + answered == run.count
+    return run, run.status == 0 and run.accepted + answered == run.count
 
 
 with tempfile.TemporaryDirectory(dir="/dev/shm") as place:
-    journal = os.path.join(place, "journal")
+    journal, dated = os.path.join(place, "journal"), os.path.join(place, "dated")
     subprocess.run([program, journal, "init"], check=True)
-    added = measured("adding", lines(), journal, place)
-    edited = measured("renaming and moving", edits(), journal, place)
+    plain, added = measured("adding", lines(), journal, place)
+    _, edited = measured("renaming and moving", edits(), journal, place)
+    subprocess.run([program, dated, "init"], check=True)
+    # The lines are written before the program runs. Row n ends a bit after the time at which it is added, also where
+    # this run is twice as slow as the first.
+    spread = max(plain.seconds, 0.2)
+    begin = time.time() + 3 * plain.writing + 0.5
+    first = begin + spread + 0.2
+    last = {"op": "members", "group": group(rows - 1)}
+    run, ended = measured("adding with ends", lines(lambda n: first + n * spread / rows), dated, place,
+                          begin=begin, until=first + spread + 0.1, last=last)
+    left = run.replies[-1].get("members")
+    print("  members at the end %s" % left)
+    print("  of a processor's time without ends  %.1f" % (run.processor / plain.processor))
 print("processors         %d" % os.cpu_count())
-sys.exit(0 if added and edited else 1)
+sys.exit(0 if added and edited and ended and left == [] else 1)
 PYTHON

@@ -2,7 +2,9 @@
 import json
 import os
 import resource
+import shutil
 import subprocess
+import threading
 import time
 
 SYSTEM = "g:isa/GrouperSystem"
@@ -20,20 +22,42 @@ def peak_of(process):
     return 0
 
 
-class Applied:
-    """How many lines went in, the exit status, the replies, the seconds, those of a processor, and the peak in kB."""
+def encoded(request):
+    return json.dumps({"by": SYSTEM, **request}, separators=(",", ":")).encode() + b"\n"
 
-    def __init__(self, program, journal, requests, place):
+
+def feed(pipe, place, until, last):
+    """Writes the lines of a file, waits for a moment, and writes one line more."""
+    with open(place, "rb") as file:
+        shutil.copyfileobj(file, pipe)
+    pipe.flush()
+    time.sleep(max(0.0, until - time.time()))
+    pipe.write(encoded(last))
+    pipe.close()
+
+
+class Applied:
+    """How many lines went in, the exit status, the replies, the seconds, those of a processor, the peak in kB, and the
+    seconds that writing the lines to a file took. The program may be started no earlier than a moment, and a last
+    line may come later, at another, both in seconds."""
+
+    def __init__(self, program, journal, requests, place, begin=0, until=0, last=None):
         into, out = os.path.join(place, "lines"), os.path.join(place, "replies")
-        self.count = 0
-        with open(into, "w") as file:
+        self.count = 0 if last is None else 1
+        before = time.time()
+        with open(into, "wb") as file:
             for line in requests:
-                file.write(json.dumps({"by": SYSTEM, **line}, separators=(",", ":")) + "\n")
+                file.write(encoded(line))
                 self.count += 1
         start = resource.getrusage(resource.RUSAGE_CHILDREN)
+        self.writing = time.time() - before
+        time.sleep(max(0.0, begin - time.time()))
         before = time.time()
         with open(into, "rb") as source, open(out, "wb") as sink:
-            process = subprocess.Popen([program, journal, "apply"], stdin=source, stdout=sink)
+            given = source if last is None else subprocess.PIPE
+            process = subprocess.Popen([program, journal, "apply"], stdin=given, stdout=sink)
+            if last is not None:
+                threading.Thread(target=feed, args=(process.stdin, into, until, last)).start()
             self.peak = 0
             while process.poll() is None:
                 self.peak = max(self.peak, peak_of(process))

@@ -1,8 +1,10 @@
 #!/bin/sh
 # Acknowledged commands a second through `apply`, beside the machine's own rate of what one command
-# needs: two small writes, each synced, to a file that grows as a journal does. Prints the medians
-# of nine turns and their ratio, of which 0.9 is wanted, and the machine's own rate over bytes that the
-# file has already. Then the time and the memory that opening a journal of many commands takes.
+# needs: two small writes, each synced, to a file that grows as a journal does. The lines come from a
+# file in memory and the replies go to one, so that no other process takes part; beside it stands the
+# rate with this script at the other end of two pipes, which each reply wakes. Prints the medians of nine
+# turns and their ratio, of which 0.9 is wanted, and the machine's own rate over bytes that the file has
+# already. Then the time and the memory that opening a journal of many commands takes.
 set -u
 cd "$(dirname "$0")/.." || exit 1
 program=$(pwd)/crates/registry/out/registry
@@ -10,10 +12,11 @@ program=$(pwd)/crates/registry/out/registry
 folder=$(mktemp -d "${1:-/tmp}/durable.XXXXXX")
 trap 'rm -rf "$folder"' EXIT
 python3 - "$program" "$folder" <<'EOF'
-import os, resource, statistics, struct, subprocess, sys, time
+import os, random, resource, statistics, struct, subprocess, sys, time
 
 program, folder = sys.argv[1], sys.argv[2]
-TURNS, COUNT, MANY = 9, 2000, 100000
+# so many commands a turn that the time in which the program starts is no part of a command's
+TURNS, COUNT, MANY = 9, 10000, 100000
 
 
 def line(n):
@@ -44,24 +47,60 @@ def own_rate(path):
     return rate
 
 
-def program_rate():
+def new_journal():
     journal = removed(folder + "/journal")
     subprocess.run([program, journal, "init"], check=True)
-    lines = b"".join(line(n) for n in range(COUNT))
+    return journal
+
+
+def in_memory(name, content):
+    file = os.fdopen(os.memfd_create(name), "w+b")
+    file.write(content)
+    file.seek(0)
+    return file
+
+
+def rate_of(seconds, replies):
+    assert replies.count(b'"ok":true') == COUNT
+    return COUNT / seconds
+
+
+# over files in memory
+def program_rate():
+    journal = new_journal()
+    with in_memory("lines", LINES) as lines, in_memory("replies", b"") as replies:
+        before = time.time()
+        subprocess.run([program, journal, "apply"], stdin=lines, stdout=replies, check=True)
+        seconds = time.time() - before
+        replies.seek(0)
+        return rate_of(seconds, replies.read())
+
+
+# over pipes
+def piped_rate():
+    journal = new_journal()
     before = time.time()
-    done = subprocess.run([program, journal, "apply"], input=lines, stdout=subprocess.PIPE, check=True)
-    rate = COUNT / (time.time() - before)
-    assert done.stdout.count(b'"ok":true') == COUNT
-    return rate
+    done = subprocess.run([program, journal, "apply"], input=LINES, stdout=subprocess.PIPE, check=True)
+    return rate_of(time.time() - before, done.stdout)
 
 
-own, over, ours = [], [], []
+LINES = b"".join(line(n) for n in range(COUNT))
+measured = {
+    "own": lambda: own_rate(removed(folder + "/own")),
+    "over": lambda: own_rate(folder + "/full"),
+    "ours": program_rate,
+    "piped": piped_rate,
+}
+own_rate(folder + "/full")
+rates = {name: [] for name in measured}
 for turn in range(TURNS):
-    own.append(own_rate(removed(folder + "/own")))
-    over.append(own_rate(folder + "/own"))
-    ours.append(program_rate())
-own, over, ours = [statistics.median(rates) for rates in (own, over, ours)]
+    # in another order each turn, so that none always follows the same
+    for name in random.sample(list(measured), len(measured)):
+        rates[name].append(measured[name]())
+medians = {name: statistics.median(found) for name, found in rates.items()}
+own, over, ours, piped = (medians[name] for name in ("own", "over", "ours", "piped"))
 print("own rate %.0f a second, acknowledged commands %.0f a second, ratio %.2f (0.9 is wanted)" % (own, ours, ours / own))
+print("over pipes, acknowledged commands %.0f a second, ratio %.2f" % (piped, piped / own))
 print("own rate over bytes that the file has already %.0f a second" % over)
 
 # a journal of many commands, written here as the format says
