@@ -15,7 +15,7 @@ python3 - "$program" "$folder" <<'EOF'
 import os, random, resource, statistics, struct, subprocess, sys, time
 
 program, folder = sys.argv[1], sys.argv[2]
-# so many commands a turn that the time in which the program starts is no part of a command's
+# turns long enough that one slow sync doesn't decide a turn
 TURNS, COUNT, MANY = 9, 10000, 100000
 
 
