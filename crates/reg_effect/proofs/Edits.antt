@@ -7,10 +7,10 @@ use Rattle.std.specs.Set.{remove_key}
 use Rattle.std.specs.Ordering.{match_ordering, is_eq}
 use Rattle.std.specs.declared.cmp.Ordering.{Ordering}
 use Rattle.std.specs.declared.cmp.Ordering.TheVariants.{Less, Equal, Greater}
-use Rattle.reg_facts.specs.declared.kinds.Member.{Member}
-use Rattle.reg_facts.specs.declared.kinds.Member.TheVariants.{Person, Group}
-use Rattle.reg_facts.specs.declared.rows.CompositeRow.{CompositeRow}
-use Rattle.reg_facts.specs.Kinds.{same_member}
+use Rattle.reg_terms.specs.declared.kinds.Member.{Member}
+use Rattle.reg_terms.specs.declared.kinds.Member.TheVariants.{Person, Group}
+use Rattle.reg_terms.specs.declared.rows.CompositeRow.{CompositeRow}
+use Rattle.reg_terms.specs.Kinds.{same_member}
 use Rattle.reg_effect.specs.Order.{row_cmp, composite_cmp, is_row, has_row}
 use Rattle.reg_effect.specs.Member.{is_composite}
 use Rattle.reg_effect.proofs.Places.{at_place, at_number}

@@ -2,9 +2,9 @@
 use Rattle.std.proofs.Common.{◌≡◌, ◌≤◌, ◌+◌, ◌==◌, ◌&&◌, ◌||◌, ℕ, List, [], ◌∷◌, Bool, true, false, cond, Option, Some, None, length, arith, refl, sym, ◌∙◌, ap, inl, inr}
 use Rattle.std.proofs.lemmas.Bool.{cases_Bool, eqb-true, or_left}
 use Rattle.std.specs.List.{list_any, find}
-use Rattle.reg_facts.specs.declared.kinds.Member.{Member}
-use Rattle.reg_facts.specs.declared.kinds.Member.TheVariants.{Person, Group}
-use Rattle.reg_facts.specs.declared.rows.CompositeRow.{CompositeRow}
+use Rattle.reg_terms.specs.declared.kinds.Member.{Member}
+use Rattle.reg_terms.specs.declared.kinds.Member.TheVariants.{Person, Group}
+use Rattle.reg_terms.specs.declared.rows.CompositeRow.{CompositeRow}
 use Rattle.reg_effect.specs.declared.live.Live.{Live}
 use Rattle.reg_effect.specs.Member.{is_composite, combine, in_rows, in_factors, level}
 use Rattle.reg_effect.specs.Order.{has_row, nested}

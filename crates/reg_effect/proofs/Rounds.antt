@@ -3,7 +3,7 @@ use Rattle.std.proofs.Common.{◌≡◌, ◌≤◌, ◌<◌, ◌+◌, ◌-◌, �
 use Rattle.std.proofs.lemmas.Bool.{cases_Bool, eqb-true}
 use Rattle.std.proofs.lemmas.List.Folds.{list_any-append}
 use Rattle.std.specs.List.Sorted.{IsStrictlySortedBy}
-use Rattle.reg_facts.specs.declared.kinds.Member.{Member}
+use Rattle.reg_terms.specs.declared.kinds.Member.{Member}
 use Rattle.reg_graph.specs.Sets.{holds, pair_cmp}
 use Rattle.reg_graph.specs.Edges.{among}
 use Rattle.reg_graph.proofs.Reaching.{eq_turned}

@@ -4,10 +4,10 @@ use Rattle.std.proofs.lemmas.Bool.{cases_Bool, or_left, or_right, eqb-true}
 use Rattle.std.proofs.lemmas.List.{take_more, take-append-drop}
 use Rattle.std.specs.List.{list_any}
 use Rattle.std.specs.Set.{remove_key}
-use Rattle.reg_facts.specs.declared.kinds.Member.{Member}
-use Rattle.reg_facts.specs.declared.rows.MemberRow.{MemberRow}
-use Rattle.reg_facts.specs.declared.rows.CompositeRow.{CompositeRow}
-use Rattle.reg_facts.specs.Kinds.{same_member}
+use Rattle.reg_terms.specs.declared.kinds.Member.{Member}
+use Rattle.reg_terms.specs.declared.rows.MemberRow.{MemberRow}
+use Rattle.reg_terms.specs.declared.rows.CompositeRow.{CompositeRow}
+use Rattle.reg_terms.specs.Kinds.{same_member}
 use Rattle.reg_facts.specs.Edits as facts
 use Rattle.reg_graph.specs.Edges.{IsAcyclic}
 use Rattle.reg_effect.specs.declared.live.Live.{Live}

@@ -2,11 +2,11 @@
 use Rattle.std.proofs.Common.{◌≡◌, ◌<◌, ◌==◌, ◌⊎◌, ℕ, List, [], ◌∷◌, Bool, true, not, arith, refl, ◌∙◌, inl, inr, zero, suc}
 use Rattle.std.proofs.lemmas.Bool.{eqb-true, eq-eqb, cases_Bool, and_parts, or_cases, or_left, or_right, cases_lt}
 use Rattle.std.proofs.lemmas.List.Folds.{list_any-append}
-use Rattle.reg_facts.specs.declared.kinds.Member.{Member}
-use Rattle.reg_facts.specs.declared.kinds.Member.TheVariants.{Person, Group}
-use Rattle.reg_facts.specs.declared.rows.CompositeRow.{CompositeRow}
-use Rattle.reg_facts.specs.declared.kinds.SetOp.{SetOp}
-use Rattle.reg_facts.specs.declared.kinds.SetOp.TheVariants.{Intersection, Complement}
+use Rattle.reg_terms.specs.declared.kinds.Member.{Member}
+use Rattle.reg_terms.specs.declared.kinds.Member.TheVariants.{Person, Group}
+use Rattle.reg_terms.specs.declared.rows.CompositeRow.{CompositeRow}
+use Rattle.reg_terms.specs.declared.kinds.SetOp.{SetOp}
+use Rattle.reg_terms.specs.declared.kinds.SetOp.TheVariants.{Intersection, Complement}
 use Rattle.reg_effect.specs.declared.live.Live.{Live}
 use Rattle.reg_effect.specs.Member.{is_composite, combine, in_rows, in_factors, member, member_in, entries}
 use Rattle.reg_effect.specs.Deltas.{rows_top, composites_top, top, below, members_of}

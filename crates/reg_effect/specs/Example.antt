@@ -1,7 +1,7 @@
 -- A worked example: ann, person 1, is in the groups 1 and 4; group 1 is nested in group 2, and group 3 is who is in 2 and not in 4.
 use Rattle.std.specs.Prelude.{◌≡◌, ◌==◌, ℕ, List, [], ◌∷◌}
-use Rattle.reg_facts.specs.declared.kinds.Member.TheVariants.{Person, Group}
-use Rattle.reg_facts.specs.declared.kinds.SetOp.TheVariants.{Complement}
+use Rattle.reg_terms.specs.declared.kinds.Member.TheVariants.{Person, Group}
+use Rattle.reg_terms.specs.declared.kinds.SetOp.TheVariants.{Complement}
 use Rattle.reg_effect.specs.declared.live.Live.{Live}
 use Rattle.reg_effect.specs.declared.live.Change.{Change}
 use Rattle.reg_effect.specs.declared.live.Change.TheVariants.{RowOn, RowOff, FactorsOn}

@@ -1,6 +1,6 @@
 -- Composites as a map keeps them: by group, with their factors.
 use Rattle.std.specs.Prelude.{ℕ}
-use Rattle.reg_facts.specs.declared.rows.CompositeRow.{CompositeRow}
+use Rattle.reg_terms.specs.declared.rows.CompositeRow.{CompositeRow}
 use Rattle.reg_effect.specs.declared.composites.Factors.{Factors}
 
 -- the composite of a group and its factors

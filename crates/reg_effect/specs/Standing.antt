@@ -1,9 +1,9 @@
 -- What stands in the facts' lists of rows and composites, whether a row is on yet or not.
 use Rattle.std.specs.Prelude.{◌≡◌, ◌≤◌, ⊤, ℕ, List, [], ◌∷◌, ◌++◌, false, map}
 use Rattle.std.specs.List.{AllByRecursion}
-use Rattle.reg_facts.specs.declared.kinds.Member.{Member}
-use Rattle.reg_facts.specs.declared.rows.MemberRow.{MemberRow}
-use Rattle.reg_facts.specs.declared.rows.CompositeRow.{CompositeRow}
+use Rattle.reg_terms.specs.declared.kinds.Member.{Member}
+use Rattle.reg_terms.specs.declared.rows.MemberRow.{MemberRow}
+use Rattle.reg_terms.specs.declared.rows.CompositeRow.{CompositeRow}
 use Rattle.reg_facts.specs.Edits as facts
 use Rattle.reg_effect.specs.Edges.{row_edges, factor_edges}
 

@@ -1,6 +1,6 @@
 // Changes of the kept memberships, one after another.
 ghost use Rattle.std.specs.Prelude.{◌≡◌, ◌+◌, ◌≤◌, IfOk, OnOk, map};
-ghost use Rattle.reg_facts.specs.declared.kinds.Member.{Member};
+ghost use Rattle.reg_terms.specs.declared.kinds.Member.{Member};
 ghost use Rattle.reg_effect.specs.declared.live.Change.TheVariants.{RowOff};
 ghost use Rattle.reg_effect.specs.Order.{row_members};
 ghost use Rattle.reg_effect.specs.Changes.{changed, changed_by, all_off, all_on, Suits, SuitAll};

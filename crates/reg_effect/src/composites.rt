@@ -30,7 +30,7 @@ pub struct Composites {
 
 impl Model for Composites {
     ghost use Rattle.std.specs.Prelude.{List, map};
-    ghost use Rattle.reg_facts.specs.declared.rows.CompositeRow.{CompositeRow};
+    ghost use Rattle.reg_terms.specs.declared.rows.CompositeRow.{CompositeRow};
     ghost use Rattle.reg_effect.specs.Factors.{composite_at};
 
     ghost Value = { List CompositeRow };

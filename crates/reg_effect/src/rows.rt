@@ -25,7 +25,7 @@ pub struct Rows {
 
 impl Model for Rows {
     ghost use Rattle.std.specs.Prelude.{List, ℕ, map};
-    ghost use Rattle.reg_facts.specs.declared.kinds.Member.{Member};
+    ghost use Rattle.reg_terms.specs.declared.kinds.Member.{Member};
     ghost use Rattle.reg_effect.specs.Order.{row_at, ArePlaces};
 
     ghost Value = { List (ℕ × Member) };

@@ -1,6 +1,6 @@
 // The worked example: who is in a group that is nested in another, and not in a third.
 ghost use Rattle.std.specs.Prelude.{◌≡◌, ◌+◌, ◌≤◌, ◌<◌, IfOk, OnOk};
-ghost use Rattle.reg_facts.specs.declared.kinds.Member.TheVariants.{Person};
+ghost use Rattle.reg_terms.specs.declared.kinds.Member.TheVariants.{Person};
 ghost use Rattle.reg_effect.specs.declared.live.Change.TheVariants.{RowOn};
 ghost use Rattle.reg_effect.specs.Changes.{changed_by, Suits, SuitAll};
 ghost use Rattle.reg_effect.specs.Edges.{edges};

@@ -2,39 +2,29 @@
 #![tactic(auto)]
 
 mod accessors;
-mod attr_values;
 mod by_extension;
 mod by_id;
 mod children;
 mod climbing;
-mod command;
 mod composite_index;
 mod editing;
 mod facts;
-mod kinds;
 mod list_edits;
 mod members;
 mod memberships;
 mod naming;
-mod refusal;
 mod row_set;
 mod row_table;
-mod rows;
 mod tables;
+mod taking;
 mod text_index;
-mod texts;
 
-pub use attr_values::AttrValues;
 pub use children::Children;
-pub use command::{Command, Stamped};
 pub use facts::Facts;
-pub use kinds::{
-    AttrValue, DefKind, Holder, InheritKind, Member, Object, Owners, RuleForm, Scope, SetOp,
-};
 pub use naming::{extension_of, home_of, name_in, name_length};
-pub use refusal::Refusal;
-pub use rows::{
-    AssignRow, AttributeRow, CompositeRow, ConsumerRow, DefinitionRow, FolderRow, GrantRow,
-    GroupRow, InheritRow, JobRow, Made, MemberRow, RuleRow, SubjectRow,
+pub use reg_terms::{
+    AssignRow, AttrValue, AttrValues, AttributeRow, Command, CompositeRow, ConsumerRow, DefKind,
+    DefinitionRow, Event, FolderRow, GrantRow, GroupRow, Holder, InheritKind, InheritRow, JobRow,
+    Made, Member, MemberRow, Object, Owners, Refusal, RuleForm, RuleRow, Scope, SetOp, Stamped,
+    SubjectRow, Texts,
 };
-pub use texts::Texts;

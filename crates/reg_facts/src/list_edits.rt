@@ -1,33 +1,26 @@
 // Edits of one list.
-ghost use Rattle.std.specs.Prelude.{◌≡◌, ◌==◌, map, filter, not, OnOk};
-ghost use Rattle.reg_facts.specs.Kinds.{same_object};
+ghost use Rattle.std.specs.Prelude.{◌≡◌, ◌==◌, map, filter, not};
+ghost use Rattle.reg_terms.specs.Kinds.{same_object};
 ghost use Rattle.reg_facts.specs.Ascending.{FoldersAscend, GroupsAscend};
 ghost use Rattle.reg_facts.specs.Edits.{folder_renamed, folder_moved, group_renamed, group_moved};
-ghost use Rattle.reg_facts.specs.declared.rows.FolderRow.{FolderRow};
-ghost use Rattle.reg_facts.specs.declared.rows.GroupRow.{GroupRow};
-ghost use Rattle.reg_facts.specs.declared.rows.GrantRow.{GrantRow};
-ghost use Rattle.reg_facts.specs.declared.rows.InheritRow.{InheritRow};
-ghost use Rattle.reg_facts.specs.declared.rows.AssignRow.{AssignRow};
+ghost use Rattle.reg_terms.specs.declared.rows.FolderRow.{FolderRow};
+ghost use Rattle.reg_terms.specs.declared.rows.GroupRow.{GroupRow};
+ghost use Rattle.reg_terms.specs.declared.rows.GrantRow.{GrantRow};
+ghost use Rattle.reg_terms.specs.declared.rows.InheritRow.{InheritRow};
+ghost use Rattle.reg_terms.specs.declared.rows.AssignRow.{AssignRow};
 
 use crate::by_id::{folder_at, group_at};
 use crate::{AssignRow, FolderRow, GrantRow, GroupRow, InheritRow, Object};
 use reg_base::{FolderId, GroupId, Text};
-use std::alloc::{AllocError, Global};
 
 /// Gives a folder another extension.
-pub fn rename_folder(
-    alloc: Global,
-    rows: &mut [FolderRow],
-    id: FolderId,
-    extension: &Text,
-) -> Result<(), AllocError>
+pub fn rename_folder(rows: &mut [FolderRow], id: FolderId, extension: Text)
     requires { FoldersAscend rows.old }
-    ensures { OnOk result (rows.new ≡ map (folder_renamed id extension.now) rows.old) }
+    ensures { rows.new ≡ map (folder_renamed id extension) rows.old }
 {
     if let Some(at) = folder_at(rows, id) {
-        rows[at].extension = extension.copy(alloc)?;
+        rows[at].extension = extension;
     }
-    Ok(())
 }
 
 /// Puts a folder into another.
@@ -41,19 +34,13 @@ pub fn move_folder(rows: &mut [FolderRow], id: FolderId, to: FolderId)
 }
 
 /// Gives a group another extension.
-pub fn rename_group(
-    alloc: Global,
-    rows: &mut [GroupRow],
-    id: GroupId,
-    extension: &Text,
-) -> Result<(), AllocError>
+pub fn rename_group(rows: &mut [GroupRow], id: GroupId, extension: Text)
     requires { GroupsAscend rows.old }
-    ensures { OnOk result (rows.new ≡ map (group_renamed id extension.now) rows.old) }
+    ensures { rows.new ≡ map (group_renamed id extension) rows.old }
 {
     if let Some(at) = group_at(rows, id) {
-        rows[at].extension = extension.copy(alloc)?;
+        rows[at].extension = extension;
     }
-    Ok(())
 }
 
 /// Puts a group into another folder.

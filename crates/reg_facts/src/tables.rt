@@ -1,13 +1,17 @@
 // The lists of the facts.
-ghost use Rattle.std.specs.Prelude.{◌≡◌, ◌∷◌, ◌++◌, [], IfOk, OnOk, List, ℕ, Some, map, filter, not, false, ◌==◌};
+ghost use Rattle.std.specs.Prelude.{◌≡◌, IfOk, OnOk, List, ℕ, Some, false};
 ghost use Rattle.reg_facts.specs.Lists.{Lists, start};
-ghost use Rattle.reg_facts.specs.Edits.{folder_renamed, folder_moved, group_renamed, group_moved, folder_deleted, group_deleted, is_row, has_row, windowed, composite_set, composite_cleared};
+ghost use Rattle.reg_facts.specs.Edits.{has_row};
+ghost use Rattle.reg_facts.specs.Events.{happened};
+ghost use Rattle.reg_terms.specs.declared.event.Event.TheVariants.{FolderMade, FolderRenamed, FolderMoved, FolderGone, SubjectMade, GroupMade, GroupRenamed, GroupMoved, GroupGone, RowAdded, RowRemoved, RowRedated, Composed, Decomposed};
+ghost use Rattle.reg_facts.specs.Naming.{placed, place_of};
+ghost use Rattle.reg_facts.specs.Sound.{IsSound};
+ghost use Rattle.reg_facts.specs.Suiting.{IsPlaced};
+ghost use Rattle.reg_terms.specs.declared.kinds.Object.TheVariants.{Folder, Group};
 ghost use Rattle.reg_facts.specs.Ascending.{FoldersAscend, GroupsAscend};
 ghost use Rattle.reg_facts.specs.CompositeStamps.{FindsComposites};
-ghost use Rattle.reg_facts.specs.declared.rows.FolderRow.{FolderRow};
-ghost use Rattle.reg_facts.specs.declared.rows.GroupRow.{GroupRow};
-ghost use Rattle.reg_facts.specs.declared.rows.MemberRow.{MemberRow};
 
+use crate::by_id::{folder_at, group_at};
 use crate::composite_index::CompositeIndex;
 use crate::row_table::RowTable;
 use crate::{
@@ -107,7 +111,7 @@ impl Tables {
 
     /// Adds a folder of the next id.
     pub fn push_folder(&mut self, row: FolderRow) -> Result<(), AllocError>
-        ensures { OnOk result (self.new ≡ record self.old { folders = self.old.folders ++ row ∷ []; made = record self.old.made { folders = row.id } }) }
+        ensures { OnOk result (self.new ≡ happened (FolderMade row) self.old) }
     {
         let number = row.id.number();
         self.folder_rows.push(row)?;
@@ -117,7 +121,7 @@ impl Tables {
 
     /// Adds a group of the next id.
     pub fn push_group(&mut self, row: GroupRow) -> Result<(), AllocError>
-        ensures { OnOk result (self.new ≡ record self.old { groups = self.old.groups ++ row ∷ []; made = record self.old.made { groups = row.id } }) }
+        ensures { OnOk result (self.new ≡ happened (GroupMade row) self.old) }
     {
         let number = row.id.number();
         self.group_rows.push(row)?;
@@ -127,7 +131,7 @@ impl Tables {
 
     /// Adds a subject of the next id.
     pub fn push_subject(&mut self, row: SubjectRow) -> Result<(), AllocError>
-        ensures { OnOk result (self.new ≡ record self.old { subjects = self.old.subjects ++ row ∷ []; made = record self.old.made { subjects = row.id } }) }
+        ensures { OnOk result (self.new ≡ happened (SubjectMade row) self.old) }
     {
         let number = row.id.number();
         self.subject_rows.push(row)?;
@@ -139,7 +143,7 @@ impl Tables {
     /// are gone.
     pub fn with_row(self, row: MemberRow) -> Result<Tables, AllocError>
         requires { has_row row.group row.member self.rows ≡ false }
-        ensures { IfOk result (λ t. t ≡ record self { rows = self.rows ++ row ∷ [] }) }
+        ensures { IfOk result (λ t. t ≡ happened (RowAdded row) self) }
     {
         let mut tables = self;
         tables.member_rows = tables.member_rows.with(row)?;
@@ -148,7 +152,7 @@ impl Tables {
 
     /// Adds a composite.
     pub fn push_composite(&mut self, row: CompositeRow) -> Result<(), AllocError>
-        ensures { OnOk result (self.new ≡ composite_set row.group row.op row.left row.right self.old) }
+        ensures { OnOk result (self.new ≡ happened (Composed row) self.old) }
     {
         self.composite_rows.push(row)?;
         Ok(())
@@ -157,50 +161,40 @@ impl Tables {
     /// Takes a composite's factors away.
     pub fn remove_composite(&mut self, index: &mut CompositeIndex, group: GroupId)
         requires { FindsComposites index.old self.old.composites }
-        ensures lists { self.new ≡ composite_cleared group self.old }
+        ensures lists { self.new ≡ happened (Decomposed group) self.old }
         ensures found { FindsComposites index.new self.new.composites }
     {
         index.remove(&mut self.composite_rows, group);
     }
 
     /// Gives a folder another extension.
-    pub fn rename_folder(
-        &mut self,
-        alloc: Global,
-        id: FolderId,
-        extension: &Text,
-    ) -> Result<(), AllocError>
+    pub fn rename_folder(&mut self, id: FolderId, extension: Text)
         requires { FoldersAscend self.old.folders }
-        ensures { OnOk result (self.new ≡ record self.old { folders = map (folder_renamed id extension.now) self.old.folders }) }
+        ensures { self.new ≡ happened (FolderRenamed id extension) self.old }
     {
-        list_edits::rename_folder(alloc, self.folder_rows.as_mut_slice(), id, extension)
+        list_edits::rename_folder(self.folder_rows.as_mut_slice(), id, extension);
     }
 
     /// Puts a folder into another.
     pub fn move_folder(&mut self, id: FolderId, to: FolderId)
         requires { FoldersAscend self.old.folders }
-        ensures { self.new ≡ record self.old { folders = map (folder_moved id to) self.old.folders } }
+        ensures { self.new ≡ happened (FolderMoved id to) self.old }
     {
         list_edits::move_folder(self.folder_rows.as_mut_slice(), id, to);
     }
 
     /// Gives a group another extension.
-    pub fn rename_group(
-        &mut self,
-        alloc: Global,
-        id: GroupId,
-        extension: &Text,
-    ) -> Result<(), AllocError>
+    pub fn rename_group(&mut self, id: GroupId, extension: Text)
         requires { GroupsAscend self.old.groups }
-        ensures { OnOk result (self.new ≡ record self.old { groups = map (group_renamed id extension.now) self.old.groups }) }
+        ensures { self.new ≡ happened (GroupRenamed id extension) self.old }
     {
-        list_edits::rename_group(alloc, self.group_rows.as_mut_slice(), id, extension)
+        list_edits::rename_group(self.group_rows.as_mut_slice(), id, extension);
     }
 
     /// Puts a group into another folder.
     pub fn move_group(&mut self, id: GroupId, to: FolderId)
         requires { GroupsAscend self.old.groups }
-        ensures { self.new ≡ record self.old { groups = map (group_moved id to) self.old.groups } }
+        ensures { self.new ≡ happened (GroupMoved id to) self.old }
     {
         list_edits::move_group(self.group_rows.as_mut_slice(), id, to);
     }
@@ -208,7 +202,7 @@ impl Tables {
     /// Takes away a folder, and the grants, inherits and assignments on it.
     pub fn delete_folder(&mut self, id: FolderId)
         requires { FoldersAscend self.old.folders }
-        ensures { self.new ≡ folder_deleted id self.old }
+        ensures { self.new ≡ happened (FolderGone id) self.old }
     {
         let object = Object::Folder(id);
         list_edits::drop_folder(&mut self.folder_rows, id);
@@ -217,24 +211,20 @@ impl Tables {
         list_edits::drop_assigns(&mut self.assign_rows, &object);
     }
 
-    /// Takes away a group, its rows and factors, and the grants and assignments on it.
-    pub fn delete_group(&mut self, index: &mut CompositeIndex, id: GroupId)
-        requires ascend { GroupsAscend self.old.groups }
-        requires composites { FindsComposites index.old self.old.composites }
-        ensures lists { self.new ≡ group_deleted id self.old }
-        ensures composites { FindsComposites index.new self.new.composites }
+    /// Takes away a group, and the grants and assignments on it.
+    pub fn delete_group(&mut self, id: GroupId)
+        requires { GroupsAscend self.old.groups }
+        ensures { self.new ≡ happened (GroupGone id) self.old }
     {
         let object = Object::Group(id);
         list_edits::drop_group(&mut self.group_rows, id);
-        self.member_rows.remove_group(id);
-        index.remove(&mut self.composite_rows, id);
         list_edits::drop_grants(&mut self.grant_rows, &object);
         list_edits::drop_assigns(&mut self.assign_rows, &object);
     }
 
     /// Takes an immediate membership away.
     pub fn remove_row(&mut self, group: GroupId, member: &Member)
-        ensures { self.new ≡ record self.old { rows = filter (λ (row : MemberRow). not (is_row group member.now row)) self.old.rows } }
+        ensures { self.new ≡ happened (RowRemoved group member.now) self.old }
     {
         self.member_rows.remove(group, member);
     }
@@ -247,8 +237,32 @@ impl Tables {
         from: Moment,
         until: Option<Moment>,
     )
-        ensures { self.new ≡ record self.old { rows = map (windowed from until group member.now) self.old.rows } }
+        ensures { self.new ≡ happened (RowRedated group member.now from until) self.old }
     {
         self.member_rows.window(group, member, from, until);
+    }
+
+    /// The folder in which a folder stands, and its extension. It is a binary search over the folders.
+    pub fn place_of_folder(&self, id: FolderId) -> (FolderId, &str)
+        requires sound { IsSound self.now }
+        requires stands { IsPlaced (Folder id) self.now }
+        ensures { place_of (Folder id) (placed self.now) ≡ Some (record { object = Folder id; folder = result.0; extension = result.1.now }) }
+    {
+        let rows = self.folder_rows.as_slice();
+        let at = folder_at(rows, id).unwrap();
+        let row = &rows[at];
+        (row.parent.unwrap(), row.extension.as_str())
+    }
+
+    /// The folder in which a group stands, and its extension. It is a binary search over the groups.
+    pub fn place_of_group(&self, id: GroupId) -> (FolderId, &str)
+        requires sound { IsSound self.now }
+        requires stands { IsPlaced (Group id) self.now }
+        ensures { place_of (Group id) (placed self.now) ≡ Some (record { object = Group id; folder = result.0; extension = result.1.now }) }
+    {
+        let rows = self.group_rows.as_slice();
+        let at = group_at(rows, id).unwrap();
+        let row = &rows[at];
+        (row.folder, row.extension.as_str())
     }
 }

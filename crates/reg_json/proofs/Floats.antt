@@ -1,14 +1,14 @@
 -- No reply has a float.
 use Rattle.std.proofs.Common.{◌≡◌, false, refl, List, ℕ, Option, None, Some, [], ◌∷◌}
 use Rattle.serde_json.specs.Written.{has_float, items_have_float}
-use Rattle.reg_facts.specs.declared.refusal.Refusal.{Refusal}
-use Rattle.reg_facts.specs.declared.refusal.Refusal.TheVariants as refusal
-use Rattle.reg_view.specs.declared.query.Answer.{Answer}
-use Rattle.reg_view.specs.declared.query.Answer.TheVariants as answer
-use Rattle.reg_view.specs.declared.shown.FactorsShown.{FactorsShown}
-use Rattle.reg_view.specs.declared.shown.RowShown.{RowShown}
-use Rattle.reg_view.specs.declared.reply.Reply.{Reply}
-use Rattle.reg_view.specs.declared.reply.Reply.TheVariants as reply
+use Rattle.reg_terms.specs.declared.refusal.Refusal.{Refusal}
+use Rattle.reg_terms.specs.declared.refusal.Refusal.TheVariants as refusal
+use Rattle.reg_terms.specs.declared.query.Answer.{Answer}
+use Rattle.reg_terms.specs.declared.query.Answer.TheVariants as answer
+use Rattle.reg_terms.specs.declared.shown.FactorsShown.{FactorsShown}
+use Rattle.reg_terms.specs.declared.shown.RowShown.{RowShown}
+use Rattle.reg_terms.specs.declared.reply.Reply.{Reply}
+use Rattle.reg_terms.specs.declared.reply.Reply.TheVariants as reply
 use Rattle.reg_json.specs.Replies.{bare, naming, refusal_data, moment_data, row_items, factors_data, answer_data, reply_data, strings}
 
 pub refusal_no_float : (r : Refusal) → has_float (refusal_data r) ≡ false

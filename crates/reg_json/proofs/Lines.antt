@@ -6,8 +6,8 @@ use Rattle.std.proofs.lemmas.Bool.{le-leb, lt-leb}
 use Rattle.serde_json.specs.Data.{Data}
 use Rattle.serde_json.specs.Read.{read}
 use Rattle.serde_json.specs.Find.{as_object}
-use Rattle.reg_facts.specs.declared.refusal.Refusal.{Refusal}
-use Rattle.reg_facts.specs.declared.refusal.Refusal.TheVariants.{BadRequest, TooLong}
+use Rattle.reg_terms.specs.declared.refusal.Refusal.{Refusal}
+use Rattle.reg_terms.specs.declared.refusal.Refusal.TheVariants.{BadRequest, TooLong}
 use Rattle.reg_json.specs.Reading.{max_line, data_of, object_of, reading_of}
 
 object_ok : (d : Data) → is_some (as_object d) ≡ true → object_of (Some d) ≡ Ok d

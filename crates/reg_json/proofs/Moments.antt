@@ -9,7 +9,7 @@ use Rattle.std.proofs.lemmas.Str.Ascii.{IsAscii-nil, IsAscii-cons}
 use Rattle.reg_base.proofs.Days.{number_back}
 use Rattle.reg_base.specs.Calendar.{day_micros}
 use Rattle.reg_base.specs.MomentText.{full_text, digit, two_at, year_at, is_time, day_at, time_at, moment_in_full, moment_of, stamp, text_of}
-use Rattle.reg_facts.specs.Limits.{max_moment}
+use Rattle.reg_terms.specs.Limits.{max_moment}
 use Rattle.reg_json.proofs.Options.{some_tested, either}
 
 digit_small : (b : ℕ) → digit b ≤ 9

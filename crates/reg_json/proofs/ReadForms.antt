@@ -9,12 +9,12 @@ use Rattle.reg_base.specs.Names.{is_extension, is_name, is_person, name_of}
 use Rattle.reg_base.specs.Entities.{entity_of}
 use Rattle.reg_base.specs.MomentText.{moment_of}
 use Rattle.reg_base.specs.declared.entity.Entity.TheVariants.{Person, Group}
-use Rattle.reg_facts.specs.Limits.{max_moment}
-use Rattle.reg_facts.specs.Suiting.{is_display, is_entity, is_folder_text, is_optional_moment}
-use Rattle.reg_facts.specs.declared.kinds.SetOp.{SetOp}
-use Rattle.reg_facts.specs.declared.refusal.Refusal.{Refusal}
-use Rattle.reg_facts.specs.declared.refusal.Refusal.TheVariants.{BadMoment, BadName, BadRequest}
-use Rattle.reg_view.specs.declared.request.Request.{Request}
+use Rattle.reg_terms.specs.Limits.{max_moment}
+use Rattle.reg_terms.specs.Forms.{is_display, is_entity, is_folder_text, is_optional_moment}
+use Rattle.reg_terms.specs.declared.kinds.SetOp.{SetOp}
+use Rattle.reg_terms.specs.declared.refusal.Refusal.{Refusal}
+use Rattle.reg_terms.specs.declared.refusal.Refusal.TheVariants.{BadMoment, BadName, BadRequest}
+use Rattle.reg_terms.specs.declared.request.Request.{Request}
 use Rattle.reg_json.specs.declared.op_kind.OpKind.{OpKind}
 use Rattle.reg_json.specs.declared.op_kind.OpKind.TheVariants as kind
 use Rattle.reg_json.specs.Steps.{◌>>=◌, ensured}

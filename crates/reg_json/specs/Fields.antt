@@ -8,11 +8,11 @@ use Rattle.reg_base.specs.Names.{is_extension, name_of}
 use Rattle.reg_base.specs.Entities.{entity_of}
 use Rattle.reg_base.specs.MomentText.{moment_of}
 use Rattle.reg_base.specs.declared.entity.Entity.{Entity}
-use Rattle.reg_facts.specs.Suiting.{is_display, is_folder_text}
-use Rattle.reg_facts.specs.declared.kinds.SetOp.{SetOp}
-use Rattle.reg_facts.specs.declared.kinds.SetOp.TheVariants.{Intersection, Complement}
-use Rattle.reg_facts.specs.declared.refusal.Refusal.{Refusal}
-use Rattle.reg_facts.specs.declared.refusal.Refusal.TheVariants.{BadRequest, BadName, BadMoment}
+use Rattle.reg_terms.specs.Forms.{is_display, is_folder_text}
+use Rattle.reg_terms.specs.declared.kinds.SetOp.{SetOp}
+use Rattle.reg_terms.specs.declared.kinds.SetOp.TheVariants.{Intersection, Complement}
+use Rattle.reg_terms.specs.declared.refusal.Refusal.{Refusal}
+use Rattle.reg_terms.specs.declared.refusal.Refusal.TheVariants.{BadRequest, BadName, BadMoment}
 use Rattle.reg_json.specs.Steps.{◌>>=◌, ensured}
 
 -- an object's keys

@@ -2,12 +2,12 @@
 use Rattle.std.specs.Prelude.{◌≡◌, Bool, true}
 use Rattle.reg_base.specs.Names.{is_name}
 use Rattle.reg_base.specs.declared.entity.Entity.TheVariants.{System}
-use Rattle.reg_facts.specs.Suiting.{has_form, is_folder_text}
-use Rattle.reg_view.specs.declared.query.Query.{Query}
-use Rattle.reg_view.specs.declared.query.Query.TheVariants.{GroupGet, FolderList, Members, Rows}
-use Rattle.reg_view.specs.declared.request.Request.{Request}
-use Rattle.reg_view.specs.declared.request.Op.{Op}
-use Rattle.reg_view.specs.declared.request.Op.TheVariants as op
+use Rattle.reg_terms.specs.Forms.{has_form, is_folder_text}
+use Rattle.reg_terms.specs.declared.query.Query.{Query}
+use Rattle.reg_terms.specs.declared.query.Query.TheVariants.{GroupGet, FolderList, Members, Rows}
+use Rattle.reg_terms.specs.declared.request.Request.{Request}
+use Rattle.reg_terms.specs.declared.request.Op.{Op}
+use Rattle.reg_terms.specs.declared.request.Op.TheVariants as op
 
 -- whether the field of a query has its form
 abbrev pub query_form : Query → Bool

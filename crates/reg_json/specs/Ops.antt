@@ -2,11 +2,11 @@
 use Rattle.std.specs.Prelude.{[], ◌∷◌, Result, Ok, codes}
 use Rattle.serde_json.specs.Data.{Data}
 use Rattle.serde_json.specs.Find.{as_object}
-use Rattle.reg_view.specs.declared.request.Op.{Op}
-use Rattle.reg_view.specs.declared.request.Op.TheVariants as op
-use Rattle.reg_view.specs.declared.query.Query.TheVariants as query
-use Rattle.reg_facts.specs.declared.command.Command.TheVariants.{FolderAdd, FolderRename, FolderMove, FolderDelete, SubjectAdd, GroupAdd, GroupRename, GroupMove, GroupDelete, MemberAdd, MemberRemove, MemberWindow, CompositeSet, CompositeClear}
-use Rattle.reg_facts.specs.declared.refusal.Refusal.{Refusal}
+use Rattle.reg_terms.specs.declared.request.Op.{Op}
+use Rattle.reg_terms.specs.declared.request.Op.TheVariants as op
+use Rattle.reg_terms.specs.declared.query.Query.TheVariants as query
+use Rattle.reg_terms.specs.declared.command.Command.TheVariants.{FolderAdd, FolderRename, FolderMove, FolderDelete, SubjectAdd, GroupAdd, GroupRename, GroupMove, GroupDelete, MemberAdd, MemberRemove, MemberWindow, CompositeSet, CompositeClear}
+use Rattle.reg_terms.specs.declared.refusal.Refusal.{Refusal}
 use Rattle.reg_json.specs.declared.membership.Membership.{Membership}
 use Rattle.reg_json.specs.Steps.{◌>>=◌}
 use Rattle.reg_json.specs.Fields.{no_other, text_at, optional_text_at, display_at, kind_at, name_from, folder_from, extension_from, entity_from, moment_from}

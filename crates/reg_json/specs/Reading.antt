@@ -4,13 +4,13 @@ use Rattle.std.specs.Str.{bytes_eq, is_utf8}
 use Rattle.serde_json.specs.Data.{Data}
 use Rattle.serde_json.specs.Read.{read}
 use Rattle.serde_json.specs.Find.{as_object}
-use Rattle.reg_view.specs.declared.request.Request.{Request}
-use Rattle.reg_view.specs.declared.request.Op.{Op}
+use Rattle.reg_terms.specs.declared.request.Request.{Request}
+use Rattle.reg_terms.specs.declared.request.Op.{Op}
 use Rattle.reg_base.specs.declared.entity.Entity.TheVariants.{System}
 use Rattle.reg_json.specs.declared.op_kind.OpKind.{OpKind}
 use Rattle.reg_json.specs.declared.op_kind.OpKind.TheVariants as kind
-use Rattle.reg_facts.specs.declared.refusal.Refusal.{Refusal}
-use Rattle.reg_facts.specs.declared.refusal.Refusal.TheVariants.{BadRequest, TooLong}
+use Rattle.reg_terms.specs.declared.refusal.Refusal.{Refusal}
+use Rattle.reg_terms.specs.declared.refusal.Refusal.TheVariants.{BadRequest, TooLong}
 use Rattle.reg_json.specs.Steps.{◌>>=◌, ensured}
 use Rattle.reg_json.specs.Fields.{text_at}
 use Rattle.reg_json.specs.Ops.{folder_add, folder_rename, folder_move, folder_delete, subject_add, group_add, group_rename, group_move, group_delete, member_add, member_remove, member_window, composite_set, composite_clear, group_get, folder_list, members, rows}

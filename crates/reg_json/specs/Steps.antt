@@ -1,7 +1,7 @@
 -- Reading in steps, with the first fault that is met.
 use Rattle.std.specs.Prelude.{◌≡◌, ℕ, List, Bool, true, Result, Ok, Err, if◌then◌else◌}
-use Rattle.reg_facts.specs.declared.refusal.Refusal.{Refusal}
-use Rattle.reg_facts.specs.declared.refusal.Refusal.TheVariants.{BadRequest, BadName, BadMoment}
+use Rattle.reg_terms.specs.declared.refusal.Refusal.{Refusal}
+use Rattle.reg_terms.specs.declared.refusal.Refusal.TheVariants.{BadRequest, BadName, BadMoment}
 use Rattle.reg_json.specs.declared.fault.ReadFault.{ReadFault}
 use Rattle.reg_json.specs.declared.fault.ReadFault.TheVariants.{Memory, Refused}
 

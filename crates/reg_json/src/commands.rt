@@ -9,8 +9,7 @@ use crate::fields::{display_at, kind_at, no_other, text_at};
 use crate::forms::{entity_from, extension_from, folder_from, name_from};
 use crate::membership::{Membership, membership_at};
 use reg_base::Text;
-use reg_facts::Command;
-use reg_view::Op;
+use reg_terms::{Command, Op};
 use serde_json::Value;
 use std::alloc::Global;
 

@@ -2,7 +2,7 @@
 ghost use Rattle.std.specs.Prelude.{◌≡◌};
 
 use reg_base::Text;
-use reg_facts::Refusal;
+use reg_terms::Refusal;
 use std::alloc::{AllocError, Global};
 
 /// Why a request wasn't read.

@@ -7,7 +7,7 @@ ghost use Rattle.reg_json.specs.Ops.{group_get, folder_list, members, rows};
 use crate::fault::ReadFault;
 use crate::fields::{no_other, text_at};
 use crate::forms::{folder_from, name_from};
-use reg_view::{Op, Query};
+use reg_terms::{Op, Query};
 use serde_json::Value;
 use std::alloc::Global;
 

@@ -4,7 +4,7 @@ ghost use Rattle.serde_json.specs.View.{view};
 ghost use Rattle.reg_json.specs.Replies.{bare, naming, refusal_data};
 
 use reg_base::Text;
-use reg_facts::Refusal;
+use reg_terms::Refusal;
 use serde_json::{Value, json};
 use std::alloc::{AllocError, Global};
 

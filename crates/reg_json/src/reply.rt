@@ -7,7 +7,7 @@ ghost use Rattle.reg_json.specs.Replies.{strings, answer_data, reply_data, text}
 use crate::refusal::refusal_value;
 use crate::shown::{factors_value, rows_value};
 use reg_base::Text;
-use reg_view::{Answer, Reply};
+use reg_terms::{Answer, Reply};
 use serde_json::{Value, json};
 use std::alloc::{AllocError, Global};
 

@@ -16,8 +16,7 @@ use crate::op_kind::OpKind;
 use crate::queries::{folder_list, group_get, members, rows};
 use crate::words::kind_of;
 use reg_base::Entity;
-use reg_facts::Refusal;
-use reg_view::{Op, Request};
+use reg_terms::{Op, Refusal, Request};
 use serde_json::Value;
 use std::alloc::{AllocError, Global};
 

@@ -6,8 +6,7 @@ ghost use Rattle.serde_json.specs.View.{view};
 ghost use Rattle.reg_json.specs.Replies.{kind_word, moment_data, row_data, row_items, factors_data};
 
 use reg_base::Moment;
-use reg_facts::SetOp;
-use reg_view::{FactorsShown, RowShown};
+use reg_terms::{FactorsShown, RowShown, SetOp};
 use serde_json::{Value, json};
 use std::alloc::{AllocError, Global};
 

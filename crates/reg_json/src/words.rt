@@ -4,7 +4,7 @@ ghost use Rattle.reg_json.specs.Fields.{composite_kind};
 ghost use Rattle.reg_json.specs.Reading.{kind_of};
 
 use crate::op_kind::OpKind;
-use reg_facts::SetOp;
+use reg_terms::SetOp;
 
 /// The kind of op that a word names.
 pub fn kind_of(word: &str) -> Option<OpKind>

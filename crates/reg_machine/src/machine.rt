@@ -2,22 +2,21 @@
 ghost use Rattle.std.specs.Prelude.{◌≡◌, ◌≤◌, ◌+◌, ◌++◌, ◌∷◌, ◌&&◌, [], ℕ, IfOk, OnOk, None, Some, true};
 ghost use Rattle.std.specs.List.{list_any};
 ghost use Rattle.reg_base.specs.declared.entity.Entity.{Entity};
-ghost use Rattle.reg_facts.specs.declared.command.Command.{Command};
-ghost use Rattle.reg_facts.specs.declared.kinds.Member.{Member};
-ghost use Rattle.reg_facts.specs.declared.rows.MemberRow.{MemberRow};
+ghost use Rattle.reg_terms.specs.declared.command.Command.{Command};
+ghost use Rattle.reg_terms.specs.declared.kinds.Member.{Member};
+ghost use Rattle.reg_terms.specs.declared.rows.MemberRow.{MemberRow};
 ghost use Rattle.reg_facts.specs.Edits.{is_row};
 ghost use Rattle.reg_effect.specs.Order.{has_row};
-ghost use Rattle.reg_facts.specs.Suiting.{has_form};
+ghost use Rattle.reg_terms.specs.Forms.{has_form};
 ghost use Rattle.reg_machine.specs.Dates.{due, is_on, pass_steps};
 ghost use Rattle.reg_machine.specs.History.{State, start, refusal, acted, appended};
 ghost use Rattle.reg_machine.specs.Live.{live};
-ghost use Rattle.reg_machine.specs.Steps.{changes_of};
-ghost use Rattle.reg_effect.specs.Bound.{most_steps_of};
+ghost use Rattle.reg_facts.specs.Events.{events_of};
+ghost use Rattle.reg_machine.specs.Steps.{events_steps};
 
-use crate::beside::carry_beside;
-use crate::changes::turn_rows;
 use crate::dates::Dates;
-use crate::ending::{end_rows, unlink_rows};
+use crate::ending::rows_gone;
+use crate::stand::Stand;
 use reg_base::{Entity, Moment, Steps};
 use reg_effect::Kept;
 use reg_facts::{Command, Facts, Refusal, Stamped};
@@ -142,30 +141,49 @@ impl<K: Kept> Machine<K> {
 
     /// The machine at the next date: the rows that end there go, and those that begin there come on.
     /// It takes at most the steps that the dates after it leave of those up to any later moment.
-    fn come_to<L: Ledger>(self, date: Moment, steps: &mut Steps<L>) -> Result<Machine<K>, Spent>
+    fn come_to<L: Ledger>(
+        self,
+        alloc: Global,
+        date: Moment,
+        steps: &mut Steps<L>,
+    ) -> Result<Machine<K>, Spent>
         requires { due self.clock date (facts self.history self.clock).rows ≡ Some date }
         ensures moved { IfOk result (λ m. m ≡ record { history = self.history; clock = date }) }
         ensures cost { OnOk result ((u : ℕ) → due self.clock u (facts self.history self.clock).rows ≡ Some date → steps.new + pass_steps date u (facts self.history date) ≤ steps.old + pass_steps self.clock u (facts self.history self.clock)) }
     {
-        let mut machine = self;
+        let machine = self;
         machine.known.sound();
         machine.graph.acyclic();
         let ending = machine.dates.ending(date)?;
-        let beginning = machine.dates.beginning(date)?;
-        unlink_rows(&mut machine.graph, &machine.known, date, &ending);
-        let sets = turn_rows(machine.sets, &ending, &beginning, steps)?;
-        let known = end_rows(machine.known, date, &ending)?;
-        machine.dates.pass(date);
-        machine.sets = sets;
-        machine.known = known;
-        machine.moment = date;
-        Ok(machine)
+        let events = rows_gone(alloc, &ending)?;
+        let stand = Stand {
+            moment: machine.moment,
+            known: machine.known,
+            sets: machine.sets,
+            graph: machine.graph,
+            dates: machine.dates,
+        };
+        let stand = stand.carry_all(alloc, events, steps)?;
+        let stand = stand.begin(date, steps)?;
+        Ok(Machine {
+            stamped: machine.stamped,
+            moment: date,
+            known: stand.known,
+            sets: stand.sets,
+            graph: stand.graph,
+            dates: stand.dates,
+        })
     }
 
     /// Sets the clock forward, and changes nothing else: the dates of memberships up to the new
     /// moment come, one after another. It takes at most the steps of what these dates change, and
     /// where no date comes it is a look at the first dates to come.
-    pub fn advance<L: Ledger>(self, to: Moment, steps: &mut Steps<L>) -> Result<Machine<K>, Spent>
+    pub fn advance<L: Ledger>(
+        self,
+        alloc: Global,
+        to: Moment,
+        steps: &mut Steps<L>,
+    ) -> Result<Machine<K>, Spent>
         requires { self.clock ≤ to }
         ensures moved { IfOk result (λ m. m ≡ record { history = self.history; clock = to }) }
         ensures cost { OnOk result (steps.new ≤ steps.old + pass_steps self.clock to (facts self.history self.clock)) }
@@ -178,7 +196,7 @@ impl<K: Kept> Machine<K> {
         let mut machine = self;
         machine.stays();
         while let Some(date) = machine.next_date(to) {
-            machine = machine.come_to(date, steps)?;
+            machine = machine.come_to(alloc, date, steps)?;
         }
         machine.moment = to;
         Ok(machine)
@@ -235,7 +253,6 @@ impl<K: Kept> Machine<K> {
 
     /// Takes a command that isn't refused into the history, at the clock. It takes at most the steps
     /// of the changes of live data that the command makes.
-    #[tactic(auto, using(crate::proofs::Allowed::can_edit, crate::proofs::Circles::circles_refused))]
     pub fn apply<L: Ledger>(
         self,
         alloc: Global,
@@ -246,27 +263,30 @@ impl<K: Kept> Machine<K> {
         requires allowed { refusal self.history self.clock command ≡ None }
         requires form { has_form command ≡ true }
         ensures appended { IfOk result (λ m. m ≡ appended self by.now command) }
-        ensures cost { OnOk result (steps.new ≤ steps.old + most_steps_of (changes_of self.clock command (facts self.history self.clock) (live self.clock (facts self.history self.clock))) (live self.clock (facts self.history self.clock))) }
+        ensures cost { OnOk result (steps.new ≤ steps.old + events_steps self.clock (events_of self.clock command (facts self.history self.clock)) (facts self.history self.clock)) }
     {
-        let mut machine = self;
+        let machine = self;
         let by = by.copy(alloc)?;
         let at = machine.moment;
         machine.known.sound();
-        machine.graph.acyclic();
-        let sets = carry_beside(
-            alloc,
-            machine.sets,
-            &mut machine.graph,
-            &mut machine.dates,
-            &machine.known,
-            at,
-            &command,
-            steps,
-        )?;
-        let known = machine.known.edit(alloc, at, &by, &command)?;
-        machine.known = known;
-        machine.sets = sets;
-        machine.stamped.push(Stamped { at, by, command })?;
-        Ok(machine)
+        let events = machine.known.events_of(alloc, at, &command)?;
+        let stand = Stand {
+            moment: at,
+            known: machine.known,
+            sets: machine.sets,
+            graph: machine.graph,
+            dates: machine.dates,
+        };
+        let stand = stand.carry_all(alloc, events, steps)?;
+        let mut stamped = machine.stamped;
+        stamped.push(Stamped { at, by, command })?;
+        Ok(Machine {
+            stamped,
+            moment: at,
+            known: stand.known,
+            sets: stand.sets,
+            graph: stand.graph,
+            dates: stand.dates,
+        })
     }
 }

@@ -4,8 +4,8 @@ use Rattle.std.proofs.lemmas.Bool.{both_ways}
 use Rattle.std.proofs.lemmas.List.{map-append, take_more, take-append-drop}
 use Rattle.std.proofs.Math.Seq.{drop-cons}
 use Rattle.reg_facts.specs.declared.children.Children.{Children}
-use Rattle.reg_facts.specs.declared.kinds.Object.TheVariants.{Folder}
-use Rattle.reg_facts.specs.declared.rows.FolderRow.{FolderRow}
+use Rattle.reg_terms.specs.declared.kinds.Object.TheVariants.{Folder}
+use Rattle.reg_terms.specs.declared.rows.FolderRow.{FolderRow}
 use Rattle.reg_facts.specs.Index.{found_child}
 use Rattle.reg_facts.specs.Lists.{Lists}
 use Rattle.reg_facts.specs.Naming.{Placed, placed, placed_folders, placed_group, placed_definition, placed_attribute, found_in, is_there}

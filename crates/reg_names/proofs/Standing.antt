@@ -2,13 +2,13 @@
 use Rattle.std.proofs.Common.{◌≡◌, ◌==◌, ◌++◌, ◌∷◌, ℕ, List, [], Bool, true, false, Option, Some, None, inl, inr, refl, sym, ap, ◌∙◌, map, option_map}
 use Rattle.std.specs.List.{find}
 use Rattle.std.proofs.lemmas.Bool.{cases_Bool, eqb-true}
-use Rattle.reg_facts.specs.declared.kinds.Object.{Object}
-use Rattle.reg_facts.specs.declared.kinds.Object.TheVariants.{Folder, Group, Def, Attr, Subject}
-use Rattle.reg_facts.specs.declared.rows.FolderRow.{FolderRow}
-use Rattle.reg_facts.specs.declared.rows.GroupRow.{GroupRow}
-use Rattle.reg_facts.specs.declared.rows.DefinitionRow.{DefinitionRow}
-use Rattle.reg_facts.specs.declared.rows.AttributeRow.{AttributeRow}
-use Rattle.reg_facts.specs.Kinds.{same_object}
+use Rattle.reg_terms.specs.declared.kinds.Object.{Object}
+use Rattle.reg_terms.specs.declared.kinds.Object.TheVariants.{Folder, Group, Def, Attr, Subject}
+use Rattle.reg_terms.specs.declared.rows.FolderRow.{FolderRow}
+use Rattle.reg_terms.specs.declared.rows.GroupRow.{GroupRow}
+use Rattle.reg_terms.specs.declared.rows.DefinitionRow.{DefinitionRow}
+use Rattle.reg_terms.specs.declared.rows.AttributeRow.{AttributeRow}
+use Rattle.reg_terms.specs.Kinds.{same_object}
 use Rattle.reg_facts.specs.Lists.{Lists}
 use Rattle.reg_facts.specs.Naming.{Placed, placed, placed_folders, placed_group, placed_definition, placed_attribute, place_of, folder_row}
 use Rattle.reg_facts.specs.Sound.{IsSound}

@@ -1,6 +1,6 @@
 -- Where an object stands, put together from its parts.
 use Rattle.std.specs.Prelude.{ℕ, List}
-use Rattle.reg_facts.specs.declared.kinds.Object.{Object}
+use Rattle.reg_terms.specs.declared.kinds.Object.{Object}
 use Rattle.reg_facts.specs.Naming.{Placed}
 
 -- an object that stands in a folder with an extension

@@ -1,8 +1,8 @@
 -- Which objects an inherit on a folder reaches.
 use Rattle.std.specs.Prelude.{ℕ, Bool, false, ◌==◌, Option, None, Some}
-use Rattle.reg_facts.specs.declared.kinds.Object.{Object}
-use Rattle.reg_facts.specs.declared.kinds.Scope.{Scope}
-use Rattle.reg_facts.specs.declared.kinds.Scope.TheVariants.{One, Sub}
+use Rattle.reg_terms.specs.declared.kinds.Object.{Object}
+use Rattle.reg_terms.specs.declared.kinds.Scope.{Scope}
+use Rattle.reg_terms.specs.declared.kinds.Scope.TheVariants.{One, Sub}
 use Rattle.reg_facts.specs.Lists.{Lists}
 use Rattle.reg_facts.specs.Naming.{Placed, placed, place_of, lies_in, most_levels}
 

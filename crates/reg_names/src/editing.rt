@@ -1,10 +1,10 @@
 // What each command changes in the index of names.
 ghost use Rattle.std.specs.Prelude.{◌≡◌, ◌<◌, IfOk, ℕ, List};
-ghost use Rattle.reg_facts.specs.Limits.{max_folders, max_groups};
+ghost use Rattle.reg_terms.specs.Limits.{max_folders, max_groups};
 ghost use Rattle.reg_facts.specs.Naming.{folder_id, group_id};
 ghost use Rattle.reg_facts.specs.Edits.{edit, folder_added, folder_renamed_in, folder_moved_in, folder_deleted, group_added, group_renamed_in, group_moved_in, group_deleted, the_id};
 ghost use Rattle.reg_facts.specs.Suiting.{CanEdit, CanName};
-ghost use Rattle.reg_facts.specs.declared.command.Command.TheVariants.{FolderRename, FolderMove, FolderDelete, GroupRename, GroupMove, GroupDelete};
+ghost use Rattle.reg_terms.specs.declared.command.Command.TheVariants.{FolderRename, FolderMove, FolderDelete, GroupRename, GroupMove, GroupDelete};
 ghost use Rattle.reg_names.specs.Indexes.{Indexes};
 
 use crate::Names;

@@ -2,7 +2,7 @@
 ghost use Rattle.std.specs.Prelude.{◌≡◌, ◌==◌, option_map};
 ghost use Rattle.std.specs.List.{find};
 ghost use Rattle.reg_facts.specs.Naming.{Placed, placed, place_of};
-ghost use Rattle.reg_facts.specs.declared.kinds.Object.TheVariants.{Folder, Group, Def, Attr};
+ghost use Rattle.reg_terms.specs.declared.kinds.Object.TheVariants.{Folder, Group, Def, Attr};
 ghost use Rattle.reg_names.specs.Places.{place_as};
 
 use reg_base::{AttrDefId, AttrId, FolderId, GroupId};

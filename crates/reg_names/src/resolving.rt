@@ -3,7 +3,7 @@ ghost use Rattle.std.specs.Prelude.{◌≡◌, IfSome, Some, true, false, codes}
 ghost use Rattle.std.specs.Str.{bytes_eq};
 ghost use Rattle.reg_facts.specs.Naming.{step, resolve, name_of};
 ghost use Rattle.reg_facts.specs.Sound.{is_named};
-ghost use Rattle.reg_facts.specs.declared.kinds.Object.{Object};
+ghost use Rattle.reg_terms.specs.declared.kinds.Object.{Object};
 ghost use Rattle.reg_names.specs.Indexes.{Indexes};
 
 use crate::Names;

@@ -1,7 +1,7 @@
 // A machine takes commands that it doesn't refuse, each by the system, at its clock.
 ghost use Rattle.std.specs.Prelude.{◌≡◌, None, IfOk, OnOk, true};
 ghost use Rattle.reg_base.specs.declared.entity.Entity.TheVariants.{System};
-ghost use Rattle.reg_facts.specs.Suiting.{has_form};
+ghost use Rattle.reg_terms.specs.Forms.{has_form};
 ghost use Rattle.reg_machine.specs.History.{appended, refusal};
 
 use reg_base::{Entity, Name, Steps};

@@ -5,26 +5,26 @@ use Rattle.reg_facts.specs.Climbing.{is_parent}
 use Rattle.reg_facts.specs.Lists.{Lists}
 use Rattle.reg_facts.specs.Members.{subject_row, texts_where}
 use Rattle.reg_facts.specs.RowOrder.{rows_of}
-use Rattle.reg_facts.specs.declared.kinds.Member.{Member}
-use Rattle.reg_facts.specs.declared.kinds.Member.TheVariants.{Person, Group}
-use Rattle.reg_facts.specs.declared.kinds.Object.TheVariants as object
-use Rattle.reg_facts.specs.declared.rows.MemberRow.{MemberRow}
-use Rattle.reg_facts.specs.declared.rows.CompositeRow.{CompositeRow}
+use Rattle.reg_terms.specs.declared.kinds.Member.{Member}
+use Rattle.reg_terms.specs.declared.kinds.Member.TheVariants.{Person, Group}
+use Rattle.reg_terms.specs.declared.kinds.Object.TheVariants as object
+use Rattle.reg_terms.specs.declared.rows.MemberRow.{MemberRow}
+use Rattle.reg_terms.specs.declared.rows.CompositeRow.{CompositeRow}
 use Rattle.reg_effect.specs.Member.{member}
 use Rattle.reg_machine.specs.Live.{live}
 use Rattle.reg_facts.specs.Naming.{folder_id, group_id, name_in, name_of}
-use Rattle.reg_facts.specs.declared.refusal.Refusal.{Refusal}
-use Rattle.reg_facts.specs.declared.refusal.Refusal.TheVariants.{NotFound}
-use Rattle.reg_facts.specs.declared.rows.FolderRow.{FolderRow}
-use Rattle.reg_facts.specs.declared.rows.GroupRow.{GroupRow}
-use Rattle.reg_facts.specs.declared.rows.DefinitionRow.{DefinitionRow}
-use Rattle.reg_facts.specs.declared.rows.AttributeRow.{AttributeRow}
-use Rattle.reg_view.specs.declared.query.Query.{Query}
-use Rattle.reg_view.specs.declared.query.Query.TheVariants as query
-use Rattle.reg_view.specs.declared.query.Answer.{Answer}
-use Rattle.reg_view.specs.declared.query.Answer.TheVariants as answer
-use Rattle.reg_view.specs.declared.shown.FactorsShown.{FactorsShown}
-use Rattle.reg_view.specs.declared.shown.RowShown.{RowShown}
+use Rattle.reg_terms.specs.declared.refusal.Refusal.{Refusal}
+use Rattle.reg_terms.specs.declared.refusal.Refusal.TheVariants.{NotFound}
+use Rattle.reg_terms.specs.declared.rows.FolderRow.{FolderRow}
+use Rattle.reg_terms.specs.declared.rows.GroupRow.{GroupRow}
+use Rattle.reg_terms.specs.declared.rows.DefinitionRow.{DefinitionRow}
+use Rattle.reg_terms.specs.declared.rows.AttributeRow.{AttributeRow}
+use Rattle.reg_terms.specs.declared.query.Query.{Query}
+use Rattle.reg_terms.specs.declared.query.Query.TheVariants as query
+use Rattle.reg_terms.specs.declared.query.Answer.{Answer}
+use Rattle.reg_terms.specs.declared.query.Answer.TheVariants as answer
+use Rattle.reg_terms.specs.declared.shown.FactorsShown.{FactorsShown}
+use Rattle.reg_terms.specs.declared.shown.RowShown.{RowShown}
 use Rattle.reg_view.specs.Ordered.{ordered}
 
 -- the display text of the group of this id

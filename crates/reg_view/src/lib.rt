@@ -4,14 +4,9 @@
 mod asking;
 mod listing;
 mod ordered;
-mod query;
-mod reply;
-mod request;
 mod rows;
-mod shown;
 
 pub use asking::ask;
-pub use query::{Answer, Query};
-pub use reply::Reply;
-pub use request::{Op, Request};
-pub use shown::{FactorsShown, RowShown, RowsShown};
+pub use reg_terms::{
+    Answer, FactorsShown, Op, Query, Reply, Request, RowShown, RowsShown,
+};

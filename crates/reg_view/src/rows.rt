@@ -4,8 +4,8 @@ ghost use Rattle.std.specs.List.{AllByRecursion};
 ghost use Rattle.reg_facts.specs.Naming.{name_of};
 ghost use Rattle.reg_facts.specs.RowOrder.{rows_of};
 ghost use Rattle.reg_facts.specs.Sound.{has_group, MemberStands, RowStands};
-ghost use Rattle.reg_facts.specs.declared.kinds.Object.TheVariants as object;
-ghost use Rattle.reg_facts.specs.declared.rows.MemberRow.{MemberRow};
+ghost use Rattle.reg_terms.specs.declared.kinds.Object.TheVariants as object;
+ghost use Rattle.reg_terms.specs.declared.rows.MemberRow.{MemberRow};
 ghost use Rattle.reg_view.specs.Answers.{composite_shown, member_text, row_shown, rows_of_group};
 
 use crate::asking::not_found;

@@ -7,10 +7,10 @@ use Rattle.std.proofs.lemmas.Bool.Decides.{nat_tests}
 use Rattle.std.proofs.lemmas.List.{take_at, drop_at, take-append-drop, length-append, length-take}
 use Rattle.std.proofs.lemmas.Nat.{le_bytes_2, le_bytes_8, from_le_bytes-to_le_bytes_2, from_le_bytes-to_le_bytes_8}
 use Rattle.std.proofs.lemmas.Option.{cond_some, same_Some}
-use Rattle.reg_facts.specs.declared.kinds.SetOp.{SetOp}
-use Rattle.reg_facts.specs.declared.kinds.SetOp.TheVariants.{Intersection, Complement}
+use Rattle.reg_terms.specs.declared.kinds.SetOp.{SetOp}
+use Rattle.reg_terms.specs.declared.kinds.SetOp.TheVariants.{Intersection, Complement}
 use Rattle.reg_wire.specs.Steps.{◌>>=◌}
-use Rattle.reg_facts.specs.Suiting.{is_optional_moment}
+use Rattle.reg_terms.specs.Forms.{is_optional_moment}
 use Rattle.reg_wire.specs.Fields.{is_moment, text_bytes, moment_bytes, optional_moment_bytes, kind_bytes}
 use Rattle.reg_wire.specs.Reading.{is_byte, number_at, text_at, tested_at, moment_at, optional_moment_at, kind_at}
 

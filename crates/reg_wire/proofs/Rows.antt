@@ -5,10 +5,10 @@ use Rattle.std.proofs.lemmas.Bool.{and_parts, eqb-true}
 use Rattle.std.proofs.lemmas.Option.{same_Some}
 use Rattle.reg_base.specs.Names.{is_extension, is_name}
 use Rattle.reg_base.specs.declared.entity.Entity.{Entity}
-use Rattle.reg_facts.specs.declared.command.Command.{Command}
-use Rattle.reg_facts.specs.declared.command.Command.TheVariants.{FolderAdd, FolderRename, FolderMove, FolderDelete, SubjectAdd, GroupAdd, GroupRename, GroupMove, GroupDelete, MemberAdd, MemberRemove, MemberWindow, CompositeSet, CompositeClear}
-use Rattle.reg_facts.specs.declared.kinds.SetOp.{SetOp}
-use Rattle.reg_facts.specs.Suiting.{is_optional_moment}
+use Rattle.reg_terms.specs.declared.command.Command.{Command}
+use Rattle.reg_terms.specs.declared.command.Command.TheVariants.{FolderAdd, FolderRename, FolderMove, FolderDelete, SubjectAdd, GroupAdd, GroupRename, GroupMove, GroupDelete, MemberAdd, MemberRemove, MemberWindow, CompositeSet, CompositeClear}
+use Rattle.reg_terms.specs.declared.kinds.SetOp.{SetOp}
+use Rattle.reg_terms.specs.Forms.{is_optional_moment}
 use Rattle.reg_wire.specs.Steps.{◌>>=◌}
 use Rattle.reg_wire.specs.Fields.{is_folder, is_display, is_entity, is_field, field_bytes, kind_bytes, optional_moment_bytes, text_bytes}
 use Rattle.reg_wire.specs.Reading.{name_at, folder_at, extension_at, display_at, entity_at, optional_moment_at, kind_at}

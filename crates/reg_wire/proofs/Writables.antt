@@ -6,11 +6,11 @@ use Rattle.std.proofs.lemmas.Bool.{and_parts, and_from}
 use Rattle.reg_base.specs.Names.{is_name, is_extension}
 use Rattle.reg_base.specs.declared.entity.Entity.{Entity}
 use Rattle.reg_base.specs.declared.entity.Entity.TheVariants as entity
-use Rattle.reg_facts.specs.declared.command.Command.{Command}
-use Rattle.reg_facts.specs.declared.command.Command.TheVariants.{FolderAdd, FolderRename, FolderMove, FolderDelete, SubjectAdd, GroupAdd, GroupRename, GroupMove, GroupDelete, MemberAdd, MemberRemove, MemberWindow, CompositeSet, CompositeClear}
-use Rattle.reg_facts.specs.declared.command.Stamped.{Stamped}
-use Rattle.reg_facts.specs.Suiting as forms
-use Rattle.reg_facts.specs.Suiting.{has_form, is_folder_text, is_optional_moment}
+use Rattle.reg_terms.specs.declared.command.Command.{Command}
+use Rattle.reg_terms.specs.declared.command.Command.TheVariants.{FolderAdd, FolderRename, FolderMove, FolderDelete, SubjectAdd, GroupAdd, GroupRename, GroupMove, GroupDelete, MemberAdd, MemberRemove, MemberWindow, CompositeSet, CompositeClear}
+use Rattle.reg_terms.specs.declared.command.Stamped.{Stamped}
+use Rattle.reg_terms.specs.Forms as forms
+use Rattle.reg_terms.specs.Forms.{has_form, is_folder_text, is_optional_moment}
 use Rattle.reg_wire.specs.Fields.{is_folder, is_display, is_moment, is_entity}
 use Rattle.reg_wire.specs.Payload.{is_writable, is_writable_command, IsWritable}
 use Rattle.reg_wire.specs.Formed.{AreUtf8}

@@ -5,10 +5,10 @@ use Rattle.std.specs.Str.{bytes_eq, is_utf8}
 use Rattle.reg_base.specs.Names.{is_extension, is_name, is_person}
 use Rattle.reg_base.specs.declared.entity.Entity.{Entity}
 use Rattle.reg_base.specs.declared.entity.Entity.TheVariants.{Person, Group, System, Everyone}
-use Rattle.reg_facts.specs.declared.kinds.SetOp.{SetOp}
-use Rattle.reg_facts.specs.declared.kinds.SetOp.TheVariants.{Intersection, Complement}
-use Rattle.reg_facts.specs.Limits.{max_moment}
-use Rattle.reg_facts.specs.Suiting.{is_optional_moment}
+use Rattle.reg_terms.specs.declared.kinds.SetOp.{SetOp}
+use Rattle.reg_terms.specs.declared.kinds.SetOp.TheVariants.{Intersection, Complement}
+use Rattle.reg_terms.specs.Limits.{max_moment}
+use Rattle.reg_terms.specs.Forms.{is_optional_moment}
 
 -- a field of a command: an object's name, a folder's name or `:`, an extension, a display text, an entity, a moment that may be left out, or the kind of a composite
 pub data Field : Type 0 where

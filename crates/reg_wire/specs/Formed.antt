@@ -1,8 +1,8 @@
 -- The display texts of a command, which have to be UTF-8 beside the form of its fields.
 use Rattle.std.specs.Prelude.{◌≡◌, true}
 use Rattle.std.specs.Str.{is_utf8}
-use Rattle.reg_facts.specs.declared.command.Command.{Command}
-use Rattle.reg_facts.specs.declared.command.Command.TheVariants.{FolderAdd, FolderRename, FolderMove, FolderDelete, SubjectAdd, GroupAdd, GroupRename, GroupMove, GroupDelete, MemberAdd, MemberRemove, MemberWindow, CompositeSet, CompositeClear}
+use Rattle.reg_terms.specs.declared.command.Command.{Command}
+use Rattle.reg_terms.specs.declared.command.Command.TheVariants.{FolderAdd, FolderRename, FolderMove, FolderDelete, SubjectAdd, GroupAdd, GroupRename, GroupMove, GroupDelete, MemberAdd, MemberRemove, MemberWindow, CompositeSet, CompositeClear}
 
 -- the display texts of a command are UTF-8
 abbrev pub AreUtf8 : Command → Type 0

@@ -1,9 +1,9 @@
 -- The payload of a stamped command: its moment, who gave it, its op's code and its fields, one behind the other.
 use Rattle.std.specs.Prelude.{◌≡◌, ℕ, List, [], ◌∷◌, ◌++◌, Bool, true, ◌&&◌, ◌==◌, if◌then◌else◌, length, Option, Some, None}
 use Rattle.std.specs.List.{list_all, flat_map}
-use Rattle.reg_facts.specs.declared.command.Command.{Command}
-use Rattle.reg_facts.specs.declared.command.Command.TheVariants.{FolderAdd, FolderRename, FolderMove, FolderDelete, SubjectAdd, GroupAdd, GroupRename, GroupMove, GroupDelete, MemberAdd, MemberRemove, MemberWindow, CompositeSet, CompositeClear}
-use Rattle.reg_facts.specs.declared.command.Stamped.{Stamped}
+use Rattle.reg_terms.specs.declared.command.Command.{Command}
+use Rattle.reg_terms.specs.declared.command.Command.TheVariants.{FolderAdd, FolderRename, FolderMove, FolderDelete, SubjectAdd, GroupAdd, GroupRename, GroupMove, GroupDelete, MemberAdd, MemberRemove, MemberWindow, CompositeSet, CompositeClear}
+use Rattle.reg_terms.specs.declared.command.Stamped.{Stamped}
 use Rattle.reg_wire.specs.Steps.{◌>>=◌}
 use Rattle.reg_wire.specs.Fields as field
 use Rattle.reg_wire.specs.Fields.{Field, is_entity, is_field, is_moment, entity_text, field_bytes, moment_bytes, text_bytes}

@@ -5,8 +5,8 @@ use Rattle.std.specs.Int.{Width, w16, w64, byte_len, from_le_bytes}
 use Rattle.reg_base.specs.Names.{is_extension, is_name}
 use Rattle.reg_base.specs.Entities.{entity_of}
 use Rattle.reg_base.specs.declared.entity.Entity.{Entity}
-use Rattle.reg_facts.specs.declared.kinds.SetOp.{SetOp}
-use Rattle.reg_facts.specs.declared.kinds.SetOp.TheVariants.{Intersection, Complement}
+use Rattle.reg_terms.specs.declared.kinds.SetOp.{SetOp}
+use Rattle.reg_terms.specs.declared.kinds.SetOp.TheVariants.{Intersection, Complement}
 use Rattle.reg_wire.specs.Steps.{◌>>=◌}
 use Rattle.reg_wire.specs.Fields.{is_folder, is_display, is_moment}
 

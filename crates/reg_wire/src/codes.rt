@@ -2,7 +2,7 @@
 ghost use Rattle.std.specs.Prelude.{◌≡◌};
 ghost use Rattle.reg_wire.specs.Payload.{code_of};
 
-use reg_facts::Command;
+use reg_terms::Command;
 
 pub const FOLDER_ADD: u8 = 1;
 

@@ -2,14 +2,14 @@
 ghost use Rattle.reg_wire.specs.Steps.{Gives};
 ghost use Rattle.reg_wire.specs.Reading.{name_at, folder_at, extension_at, display_at, entity_at, optional_moment_at, kind_at};
 ghost use Rattle.reg_wire.specs.Payload.{one, two, four, command_at};
-ghost use Rattle.reg_facts.specs.declared.command.Command.TheVariants.{FolderAdd, FolderRename, FolderMove, FolderDelete, SubjectAdd, GroupAdd, GroupRename, GroupMove, GroupDelete, MemberAdd, MemberRemove, MemberWindow, CompositeSet, CompositeClear};
+ghost use Rattle.reg_terms.specs.declared.command.Command.TheVariants.{FolderAdd, FolderRename, FolderMove, FolderDelete, SubjectAdd, GroupAdd, GroupRename, GroupMove, GroupDelete, MemberAdd, MemberRemove, MemberWindow, CompositeSet, CompositeClear};
 
 use crate::codes;
 use crate::fault::ReadFault;
 use crate::fields::{
     display_at, entity_at, extension_at, folder_at, kind_at, name_at, optional_moment_at,
 };
-use reg_facts::Command;
+use reg_terms::Command;
 use std::alloc::Global;
 
 #[tactic(auto, unfolding(crate::specs::Payload::two))]

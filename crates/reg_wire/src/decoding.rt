@@ -2,13 +2,13 @@
 ghost use Rattle.std.specs.Prelude.{◌≡◌, IfOk, IfSome, IfNone};
 ghost use Rattle.reg_wire.specs.Steps.{Gives};
 ghost use Rattle.reg_wire.specs.Payload.{payload, stamped_at, stamped_of, IsWritable};
-ghost use Rattle.reg_facts.specs.declared.command.Stamped.{Stamped};
+ghost use Rattle.reg_terms.specs.declared.command.Stamped.{Stamped};
 
 use crate::commands::command_at;
 use crate::fault::ReadFault;
 use crate::fields::{byte_at, entity_at, moment_at};
 use reg_base::Moment;
-use reg_facts::Stamped;
+use reg_terms::Stamped;
 use std::alloc::{AllocError, Global};
 
 #[tactic(auto, unfolding(crate::specs::Payload::stamped_at))]

@@ -7,7 +7,7 @@ ghost use Rattle.reg_wire.specs.Payload.{fields_of, is_writable_command, payload
 
 use crate::codes::{COMPLEMENT, INTERSECTION, code_of};
 use reg_base::{Entity, Moment, Name, Text};
-use reg_facts::{Command, SetOp, Stamped};
+use reg_terms::{Command, SetOp, Stamped};
 use std::alloc::{AllocError, Global};
 
 fn put_text(out: &mut Vec<u8>, text: &[u8]) -> Result<(), AllocError>

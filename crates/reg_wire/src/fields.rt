@@ -8,7 +8,7 @@ ghost use Rattle.reg_wire.specs.Reading.{byte_at, number_at, text_at, name_at, f
 use crate::codes::{COMPLEMENT, INTERSECTION};
 use crate::fault::ReadFault;
 use reg_base::{Entity, Moment, Name, Text, is_extension, is_name};
-use reg_facts::SetOp;
+use reg_terms::SetOp;
 use std::alloc::Global;
 
 /// One byte.

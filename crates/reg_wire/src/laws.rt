@@ -1,14 +1,14 @@
 // What holds of payloads, for crates above to cite: each law is the clause of a function that does nothing.
 ghost use Rattle.std.specs.Prelude.{◌≡◌, ◌<◌, ◌^◌, ℕ, List, Some, length};
-ghost use Rattle.reg_facts.specs.declared.command.Stamped.{Stamped};
+ghost use Rattle.reg_terms.specs.declared.command.Stamped.{Stamped};
 ghost use Rattle.std.specs.Prelude.{true};
 ghost use Rattle.std.specs.Str.{is_utf8};
-ghost use Rattle.reg_facts.specs.Suiting.{has_form};
+ghost use Rattle.reg_terms.specs.Forms.{has_form};
 ghost use Rattle.reg_wire.specs.Formed.{AreUtf8};
 ghost use Rattle.reg_wire.specs.Payload.{payload, stamped_of, IsWritable};
 
 use reg_base::Text;
-use reg_facts::Command;
+use reg_terms::Command;
 
 /// The payload of a writable command reads back as that command.
 #[tactic(auto, using(crate::proofs::Payloads::reads_back))]

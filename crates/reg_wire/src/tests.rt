@@ -1,7 +1,7 @@
 // Payloads byte by byte.
 use super::{decode, encode, is_writable};
 use reg_base::{Entity, Moment, Text};
-use reg_facts::{Command, SetOp, Stamped};
+use reg_terms::{Command, SetOp, Stamped};
 use std::alloc::Global;
 use std::process::Abort;
 use std::test::Fail;

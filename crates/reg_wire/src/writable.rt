@@ -1,13 +1,13 @@
 // Which stamped commands have a payload.
 ghost use Rattle.std.specs.Prelude.{◌≡◌};
 ghost use Rattle.reg_base.specs.Names.{is_name};
-ghost use Rattle.reg_facts.specs.Suiting.{is_optional_moment};
+ghost use Rattle.reg_terms.specs.Forms.{is_optional_moment};
 ghost use Rattle.reg_wire.specs.Fields.{is_display, is_entity, is_folder, is_moment};
 ghost use Rattle.reg_wire.specs.Payload.{is_writable, is_writable_command};
 
 use crate::fields::is_folder;
 use reg_base::{Entity, Moment, Name, Text, is_extension, is_name, is_person};
-use reg_facts::{Command, Stamped};
+use reg_terms::{Command, Stamped};
 
 fn names(name: &Name) -> bool
     ensures { result ≡ is_name name.now }

@@ -3,15 +3,15 @@ use Rattle.std.proofs.Common.{◌≡◌, ◌≢◌, ◌++◌, ◌∷◌, [], Lis
 use Rattle.std.specs.Prelude.{IfSome, All}
 use Rattle.std.proofs.lemmas.List.Elements.{All-head, All-tail}
 use Rattle.reg_outside.specs.Streams.{first_moment, later_moments}
-use Rattle.reg_facts.specs.declared.refusal.Refusal.{Refusal}
+use Rattle.reg_terms.specs.declared.refusal.Refusal.{Refusal}
 use Rattle.reg_base.specs.declared.entity.Entity.{Entity}
-use Rattle.reg_facts.specs.declared.command.Command.{Command}
+use Rattle.reg_terms.specs.declared.command.Command.{Command}
 use Rattle.reg_machine.specs.History.{State, refusal}
-use Rattle.reg_view.specs.declared.request.Request.{Request}
-use Rattle.reg_view.specs.declared.request.Op.{Op}
-use Rattle.reg_view.specs.declared.request.Op.TheVariants as op
-use Rattle.reg_view.specs.declared.reply.Reply.{Reply}
-use Rattle.reg_view.specs.declared.reply.Reply.TheVariants as reply
+use Rattle.reg_terms.specs.declared.request.Request.{Request}
+use Rattle.reg_terms.specs.declared.request.Op.{Op}
+use Rattle.reg_terms.specs.declared.request.Op.TheVariants as op
+use Rattle.reg_terms.specs.declared.reply.Reply.{Reply}
+use Rattle.reg_terms.specs.declared.reply.Reply.TheVariants as reply
 use Rattle.reg_json.specs.Reading.{reading_of}
 use Rattle.registry.specs.Lines.{is_skipped}
 use Rattle.registry.specs.Turn.{at_moment, decided, requested, turn, Turns, Follows, last_reply}

@@ -4,7 +4,7 @@ use Rattle.std.specs.Prelude.{IfSome, Bool, true, false, ◌||◌, is_ok, nat_lt
 use Rattle.std.proofs.lemmas.List.{take_all, take_at}
 use Rattle.std.proofs.Math.Seq.{take-append-add}
 use Rattle.reg_outside.specs.Disk.{Changes, Same, After, Leaves, Only}
-use Rattle.reg_facts.specs.declared.command.Stamped.{Stamped}
+use Rattle.reg_terms.specs.declared.command.Stamped.{Stamped}
 use Rattle.reg_machine.specs.History.{State, start}
 use Rattle.reg_outside.specs.declared.disk.Disk.{Ghosts}
 use Rattle.reg_keep.specs.Begin.{is_taken, Begun}

@@ -5,12 +5,12 @@ use Rattle.std.specs.Io.KnownBytes.{append_known}
 use Rattle.reg_outside.specs.Faults.{Rose}
 use Rattle.reg_outside.specs.Streams.{first_moment}
 use Rattle.reg_base.specs.Names.{is_name}
-use Rattle.reg_facts.specs.declared.refusal.Refusal.{Refusal}
+use Rattle.reg_terms.specs.declared.refusal.Refusal.{Refusal}
 use Rattle.reg_machine.specs.History.{State, facts}
 use Rattle.reg_view.specs.Answers.{answer_of}
-use Rattle.reg_view.specs.declared.query.Query.TheVariants as query
-use Rattle.reg_view.specs.declared.query.Answer.{Answer}
-use Rattle.reg_view.specs.declared.reply.Reply.{Reply}
+use Rattle.reg_terms.specs.declared.query.Query.TheVariants as query
+use Rattle.reg_terms.specs.declared.query.Answer.{Answer}
+use Rattle.reg_terms.specs.declared.reply.Reply.{Reply}
 use Rattle.registry.specs.Opening.{opens, at_last}
 use Rattle.registry.specs.Run.{Written, Took, line_of}
 use Rattle.registry.specs.Turn.{turn, Turns, answered}

@@ -5,7 +5,7 @@ use Rattle.std.specs.Result.{IsErrAnd}
 use Rattle.std.proofs.lemmas.List.{take_all, take_at}
 use Rattle.std.proofs.lemmas.List.{take-append-le}
 use Rattle.reg_outside.specs.Disk.{Leaves}
-use Rattle.reg_facts.specs.declared.command.Stamped.{Stamped}
+use Rattle.reg_terms.specs.declared.command.Stamped.{Stamped}
 use Rattle.reg_machine.specs.History.{State, appended, refusal}
 use Rattle.reg_outside.specs.Faults.{Rose}
 use Rattle.reg_wire.specs.Payload.{payload, IsWritable}
@@ -16,13 +16,13 @@ use Rattle.registry.specs.Opening.{payloads_of, IsServed, Served, Reopens}
 use Rattle.registry.specs.Kept.{KeptOn, IsBetween, IsOneMore, Stopped, Halted, KeepsNext, Began, RoseAt}
 use Rattle.registry.specs.Stops.{stop_of}
 use Rattle.registry.specs.Turn.{requested, decided, turn, at_moment}
-use Rattle.reg_view.specs.declared.request.Request.{Request}
-use Rattle.reg_view.specs.declared.request.Op.{Op}
-use Rattle.reg_view.specs.declared.request.Op.TheVariants as op
+use Rattle.reg_terms.specs.declared.request.Request.{Request}
+use Rattle.reg_terms.specs.declared.request.Op.{Op}
+use Rattle.reg_terms.specs.declared.request.Op.TheVariants as op
 use Rattle.reg_base.specs.declared.entity.Entity.{Entity}
-use Rattle.reg_facts.specs.declared.command.Command.{Command}
-use Rattle.reg_facts.specs.declared.refusal.Refusal.{Refusal}
-use Rattle.reg_facts.specs.declared.refusal.Refusal.TheVariants.{BadWindow}
+use Rattle.reg_terms.specs.declared.command.Command.{Command}
+use Rattle.reg_terms.specs.declared.refusal.Refusal.{Refusal}
+use Rattle.reg_terms.specs.declared.refusal.Refusal.TheVariants.{BadWindow}
 use Rattle.registry.specs.Pending.{Tells}
 use Rattle.registry.specs.declared.pending.LineReading.{LineReading}
 use Rattle.registry.specs.declared.pending.LineReading.TheVariants as read

@@ -1,6 +1,6 @@
 -- Lines that are too long.
 use Rattle.std.proofs.Common.{◌≡◌, ◌<◌, ◌∷◌, ◌++◌, append-nil, [], List, ℕ, false, Err, arith, length, refl}
-use Rattle.reg_facts.specs.declared.refusal.Refusal.TheVariants.{TooLong}
+use Rattle.reg_terms.specs.declared.refusal.Refusal.TheVariants.{TooLong}
 use Rattle.reg_json.specs.Reading.{max_line, reading_of}
 use Rattle.reg_json.proofs.Lines.{reading_long}
 use Rattle.registry.specs.Lines.{is_skipped}

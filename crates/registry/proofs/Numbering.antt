@@ -6,17 +6,17 @@ use Rattle.std.proofs.lemmas.List.{take_all}
 use Rattle.std.proofs.Math.Seq.{drop-append_seam}
 use Rattle.reg_outside.specs.Streams.{first_moment, later_moments, WritesFront}
 use Rattle.reg_base.specs.declared.entity.Entity.{Entity}
-use Rattle.reg_facts.specs.declared.command.Command.{Command}
-use Rattle.reg_facts.specs.declared.command.Stamped.{Stamped}
-use Rattle.reg_facts.specs.declared.refusal.Refusal.{Refusal}
+use Rattle.reg_terms.specs.declared.command.Command.{Command}
+use Rattle.reg_terms.specs.declared.command.Stamped.{Stamped}
+use Rattle.reg_terms.specs.declared.refusal.Refusal.{Refusal}
 use Rattle.reg_machine.specs.History.{State, refusal, facts}
 use Rattle.reg_view.specs.Answers.{answer_of}
-use Rattle.reg_view.specs.declared.query.Answer.{Answer}
-use Rattle.reg_view.specs.declared.request.Request.{Request}
-use Rattle.reg_view.specs.declared.request.Op.{Op}
-use Rattle.reg_view.specs.declared.request.Op.TheVariants as op
-use Rattle.reg_view.specs.declared.reply.Reply.{Reply}
-use Rattle.reg_view.specs.declared.reply.Reply.TheVariants as reply
+use Rattle.reg_terms.specs.declared.query.Answer.{Answer}
+use Rattle.reg_terms.specs.declared.request.Request.{Request}
+use Rattle.reg_terms.specs.declared.request.Op.{Op}
+use Rattle.reg_terms.specs.declared.request.Op.TheVariants as op
+use Rattle.reg_terms.specs.declared.reply.Reply.{Reply}
+use Rattle.reg_terms.specs.declared.reply.Reply.TheVariants as reply
 use Rattle.registry.specs.Turn.{turn, requested, decided, answered, at_moment, Turns, last_reply}
 use Rattle.registry.specs.Run.{Answers, Written, Told, ToldFront, WritesReply, numbers, places, line_of, lines_of}
 use Rattle.registry.specs.declared.service.Cause.{Cause}

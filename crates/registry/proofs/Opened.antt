@@ -2,7 +2,7 @@
 use Rattle.std.proofs.Common.{◌≡◌, List, ℕ, Bool, Option, Some, None, Result, Ok, Err, refl, ap, ◌∙◌}
 use Rattle.std.specs.Prelude.{IfSome}
 use Rattle.reg_outside.specs.Faults.{Rose}
-use Rattle.reg_facts.specs.declared.command.Stamped.{Stamped}
+use Rattle.reg_terms.specs.declared.command.Stamped.{Stamped}
 use Rattle.reg_machine.specs.History.{State, start}
 use Rattle.reg_keep.specs.Frames.{opened, payloads_in, only_payloads}
 use Rattle.reg_keep.specs.Stops.{Stop}

@@ -5,14 +5,14 @@ use Rattle.reg_outside.specs.Faults.{Rose}
 use Rattle.reg_outside.specs.Streams.{first_moment}
 use Rattle.reg_base.specs.Names.{is_name}
 use Rattle.reg_base.specs.declared.entity.Entity.TheVariants.{System}
-use Rattle.reg_facts.specs.declared.refusal.Refusal.{Refusal}
-use Rattle.reg_facts.specs.declared.refusal.Refusal.TheVariants.{BadName}
+use Rattle.reg_terms.specs.declared.refusal.Refusal.{Refusal}
+use Rattle.reg_terms.specs.declared.refusal.Refusal.TheVariants.{BadName}
 use Rattle.reg_machine.specs.History.{State}
-use Rattle.reg_view.specs.declared.request.Request.{Request}
-use Rattle.reg_view.specs.declared.request.Op.TheVariants as op
-use Rattle.reg_view.specs.declared.query.Query.TheVariants as query
-use Rattle.reg_view.specs.declared.reply.Reply.{Reply}
-use Rattle.reg_view.specs.declared.reply.Reply.TheVariants as reply
+use Rattle.reg_terms.specs.declared.request.Request.{Request}
+use Rattle.reg_terms.specs.declared.request.Op.TheVariants as op
+use Rattle.reg_terms.specs.declared.query.Query.TheVariants as query
+use Rattle.reg_terms.specs.declared.reply.Reply.{Reply}
+use Rattle.reg_terms.specs.declared.reply.Reply.TheVariants as reply
 use Rattle.reg_keep.specs.Begin.{is_taken}
 use Rattle.reg_keep.specs.Frames.{journal_bytes}
 use Rattle.registry.specs.Opening.{opens, at_last}

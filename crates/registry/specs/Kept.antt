@@ -2,7 +2,7 @@
 use Rattle.std.specs.Prelude.{◌≡◌, ◌⊎◌, ◌≤◌, ℕ, List, [], ◌∷◌, ◌++◌, Option, Result, Ok, IfSome, is_some, true, length, take}
 use Rattle.reg_outside.specs.Disk.{Leaves}
 use Rattle.reg_outside.specs.Faults.{Rose}
-use Rattle.reg_facts.specs.declared.command.Stamped.{Stamped}
+use Rattle.reg_terms.specs.declared.command.Stamped.{Stamped}
 use Rattle.reg_keep.specs.declared.keeper.Keeper.{Ghosts}
 use Rattle.registry.specs.declared.service.Next.{Next}
 use Rattle.registry.specs.declared.service.Next.TheVariants as next

@@ -1,8 +1,8 @@
 -- The lines of bytes, and what they ask.
 use Rattle.std.specs.Prelude.{◌≡◌, ◌≢◌, ℕ, List, [], ◌∷◌, ◌++◌, ◌==◌, All, Bool, true, false, Result, if◌then◌else◌}
 use Rattle.std.specs.List.{join_with_byte}
-use Rattle.reg_view.specs.declared.request.Request.{Request}
-use Rattle.reg_facts.specs.declared.refusal.Refusal.{Refusal}
+use Rattle.reg_terms.specs.declared.request.Request.{Request}
+use Rattle.reg_terms.specs.declared.refusal.Refusal.{Refusal}
 use Rattle.reg_json.specs.Reading.{reading_of}
 
 -- the bytes cut at each LF, where the first line goes on from the bytes before

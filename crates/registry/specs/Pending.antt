@@ -1,7 +1,7 @@
 -- What is kept of the line that is being read.
 use Rattle.std.specs.Prelude.{◌≡◌, ◌<◌, ℕ, List, length, Result, Ok, Err}
-use Rattle.reg_facts.specs.declared.refusal.Refusal.{Refusal}
-use Rattle.reg_view.specs.declared.request.Request.{Request}
+use Rattle.reg_terms.specs.declared.refusal.Refusal.{Refusal}
+use Rattle.reg_terms.specs.declared.request.Request.{Request}
 use Rattle.reg_json.specs.Reading.{reading_of, max_line}
 use Rattle.registry.specs.Lines.{is_skipped}
 use Rattle.registry.specs.Turn.{CanKeep}

@@ -2,12 +2,12 @@
 use Rattle.std.specs.Prelude.{◌≡◌, ◌≢◌, ◌⊎◌, ◌≤◌, ℕ, List, [], ◌∷◌, ◌++◌, ◌+◌, All, Option, Some, None, Result, Bool, true, false, length}
 use Rattle.std.specs.Io.KnownBytes.{prepend_known, append_known}
 use Rattle.reg_outside.specs.Streams.{first_moment, later_moments, WritesFront}
-use Rattle.reg_facts.specs.declared.command.Stamped.{Stamped}
-use Rattle.reg_facts.specs.declared.refusal.Refusal.{Refusal}
+use Rattle.reg_terms.specs.declared.command.Stamped.{Stamped}
+use Rattle.reg_terms.specs.declared.refusal.Refusal.{Refusal}
 use Rattle.reg_machine.specs.History.{State}
-use Rattle.reg_view.specs.declared.request.Request.{Request}
-use Rattle.reg_view.specs.declared.reply.Reply.{Reply}
-use Rattle.reg_view.specs.declared.reply.Reply.TheVariants as reply
+use Rattle.reg_terms.specs.declared.request.Request.{Request}
+use Rattle.reg_terms.specs.declared.reply.Reply.{Reply}
+use Rattle.reg_terms.specs.declared.reply.Reply.TheVariants as reply
 use Rattle.reg_json.specs.Replies.{text}
 use Rattle.registry.specs.Lines.{IsCutAtLineFeeds, lines, lines_from, readings, asked}
 use Rattle.registry.specs.Pending.{Holds}

@@ -1,6 +1,6 @@
 -- The texts of what is asked.
-use Rattle.reg_view.specs.declared.request.Op.{Op}
-use Rattle.reg_view.specs.declared.request.Op.TheVariants as op
+use Rattle.reg_terms.specs.declared.request.Op.{Op}
+use Rattle.reg_terms.specs.declared.request.Op.TheVariants as op
 use Rattle.reg_wire.specs.Formed.{AreUtf8}
 
 -- the display texts of a command that is asked are UTF-8

@@ -3,8 +3,8 @@ ghost use Rattle.std.specs.Prelude.{◌≡◌, ◌≤◌, is_some, true, ℕ, Li
 ghost use Rattle.reg_machine.specs.History.{State, start, refusal, appended};
 ghost use Rattle.reg_keep.specs.Frames.{payloads_of_records};
 ghost use Rattle.reg_keep.specs.declared.open.OpenFault.TheVariants.{Damaged};
-ghost use Rattle.reg_facts.specs.declared.command.Stamped.{Stamped};
-ghost use Rattle.reg_facts.specs.Suiting.{has_form};
+ghost use Rattle.reg_terms.specs.declared.command.Stamped.{Stamped};
+ghost use Rattle.reg_terms.specs.Forms.{has_form};
 ghost use Rattle.reg_wire.specs.Payload.{payload, stamped_of, IsWritable};
 ghost use Rattle.registry.specs.Opening.{payloads_of, judged, or_place, accepted, after_stamped, after_payload, IsServed};
 ghost use Rattle.registry.specs.Kept.{KeepsNext, KeptOn};

@@ -3,9 +3,9 @@ ghost use Rattle.std.specs.Prelude.{◌≡◌, ◌≢◌, ◌≤◌, ◌<◌, �
 ghost use Rattle.std.specs.Io.KnownBytes.{append_known};
 ghost use Rattle.reg_outside.specs.Faults.{Rose};
 ghost use Rattle.reg_outside.specs.Streams.{WritesFront};
-ghost use Rattle.reg_view.specs.declared.reply.Reply.{Reply};
-ghost use Rattle.reg_view.specs.declared.request.Request.{Request};
-ghost use Rattle.reg_facts.specs.declared.refusal.Refusal.{Refusal};
+ghost use Rattle.reg_terms.specs.declared.reply.Reply.{Reply};
+ghost use Rattle.reg_terms.specs.declared.request.Request.{Request};
+ghost use Rattle.reg_terms.specs.declared.refusal.Refusal.{Refusal};
 ghost use Rattle.registry.specs.Kept.{KeptOn, KeepsNext, HaltedAt};
 ghost use Rattle.registry.specs.Pending.{Holds, Tells, AsksWritable};
 ghost use Rattle.registry.specs.Run.{line_of, Told, is_accepted, WritesReply, AnswersLine, Feeds};

@@ -1,6 +1,6 @@
 // The machine for a caller that counts no steps.
 ghost use Rattle.std.specs.Prelude.{◌≡◌, ◌≤◌, ◌<◌, IfOk, None, true};
-ghost use Rattle.reg_facts.specs.Suiting.{has_form};
+ghost use Rattle.reg_terms.specs.Forms.{has_form};
 ghost use Rattle.reg_machine.specs.History.{refusal, appended};
 
 use reg_base::{Entity, Moment, Steps};

@@ -1,5 +1,5 @@
 use Rattle.std.proofs.Common.{◌≡◌, sym, Some, None}
-use Rattle.reg_facts.specs.declared.kinds.Object.TheVariants.{Folder}
+use Rattle.reg_terms.specs.declared.kinds.Object.TheVariants.{Folder}
 use Rattle.reg_facts.specs.Naming.{Placed, placed, place_of}
 use Rattle.reg_names.specs.Places.{place_as}
 use Rattle.reg_names.proofs.Climbing.{name_begins, name_from, name_from_root, name_nowhere, levels_fall}

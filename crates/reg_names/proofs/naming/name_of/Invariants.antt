@@ -1,5 +1,5 @@
 use Rattle.std.proofs.Common.{◌≡◌, length, string_bytes}
-use Rattle.reg_facts.specs.declared.kinds.Object.TheVariants.{Folder}
+use Rattle.reg_terms.specs.declared.kinds.Object.TheVariants.{Folder}
 use Rattle.reg_facts.specs.Naming.{path, most_levels, name_of, name_in}
 use Rattle.reg_facts.specs.Sound.{IsSound}
 use Rattle.reg_names.proofs.naming.name_of.Given as goal

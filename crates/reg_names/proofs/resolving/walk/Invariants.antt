@@ -2,7 +2,7 @@ use Rattle.std.proofs.Common.{◌≡◌, Some, length}
 use Rattle.std.specs.Str.{IsUtf8}
 use Rattle.reg_base.specs.Names.{extensions_of}
 use Rattle.reg_base.specs.NameParts.{front_of, last_of}
-use Rattle.reg_facts.specs.declared.kinds.Object.TheVariants.{Folder}
+use Rattle.reg_terms.specs.declared.kinds.Object.TheVariants.{Folder}
 use Rattle.reg_facts.specs.Lists.{root}
 use Rattle.reg_facts.specs.Naming.{walk}
 use Rattle.reg_names.proofs.resolving.walk.Given as goal

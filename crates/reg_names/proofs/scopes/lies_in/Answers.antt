@@ -1,5 +1,5 @@
 use Rattle.std.proofs.Common.{◌≡◌, ◌==◌, ◌∙◌, sym, rules, Some, None, true, false}
-use Rattle.reg_facts.specs.declared.kinds.Object.TheVariants.{Folder}
+use Rattle.reg_terms.specs.declared.kinds.Object.TheVariants.{Folder}
 use Rattle.reg_facts.specs.Naming.{Placed, placed, place_of}
 use Rattle.reg_names.specs.Places.{place_as}
 use Rattle.reg_names.proofs.Climbing.{levels_fall, lies_from, lies_nowhere, lies_here}

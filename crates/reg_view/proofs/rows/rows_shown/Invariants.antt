@@ -1,7 +1,7 @@
 use Rattle.std.proofs.Common.{◌≡◌, ◌++◌, drop, map}
 use Rattle.std.specs.List.{AllByRecursion}
 use Rattle.reg_facts.specs.Sound.{RowStands}
-use Rattle.reg_facts.specs.declared.rows.MemberRow.{MemberRow}
+use Rattle.reg_terms.specs.declared.rows.MemberRow.{MemberRow}
 use Rattle.reg_view.specs.Answers.{row_shown}
 use Rattle.reg_view.proofs.rows.rows_shown.Given as goal
 

@@ -1,6 +1,6 @@
 use Rattle.std.proofs.Common.{◌≡◌, ◌∙◌, sym, ap, Some}
 use Rattle.reg_base.specs.NameParts.{extension_of}
-use Rattle.reg_facts.specs.declared.kinds.Object.TheVariants.{Folder}
+use Rattle.reg_terms.specs.declared.kinds.Object.TheVariants.{Folder}
 use Rattle.reg_facts.specs.Naming.{child, folder_id}
 use Rattle.reg_facts.specs.Edits.{the_id}
 use Rattle.reg_facts.proofs.Walking.{folder_name, folder_home, and_left}

@@ -1,7 +1,7 @@
 use Rattle.std.proofs.Common.{◌≡◌, ◌∙◌, ℕ, ap, subst, max, Ok}
 use Rattle.reg_machine.specs.History.{State}
 use Rattle.registry.specs.Kept.{KeepsNext}
-use Rattle.reg_view.specs.declared.request.Op.TheVariants as op
+use Rattle.reg_terms.specs.declared.request.Op.TheVariants as op
 use Rattle.registry.specs.Turn.{turn, requested, at_moment}
 use Rattle.registry.specs.Opening.{Served}
 use Rattle.registry.proofs.Keeping.{stopped_at}

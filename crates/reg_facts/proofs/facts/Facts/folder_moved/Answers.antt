@@ -1,0 +1,17 @@
+use Rattle.std.proofs.Common.{◌≡◌, rules}
+use Rattle.reg_terms.specs.declared.event.Event.TheVariants.{FolderMoved}
+use Rattle.reg_facts.specs.Events.{happened}
+use Rattle.reg_facts.proofs.Searched.{folders_ascend}
+use Rattle.reg_facts.proofs.Indexing.{folder_moved_indexed}
+use Rattle.reg_facts.proofs.facts.Facts.folder_moved.Goals as goal
+
+-- the maps find what the lists hold after the event
+pub invariant_of-facts : goal.invariant_of-facts
+invariant_of-facts c =
+    let is : c.move_folder.new.self ≡ happened (FolderMoved c.args.id c.args.to) c.args.self = search rules in
+    rw is (folder_moved_indexed c.facts.inside.subject_index c.facts.inside.children c.take.new.self c.put.new.self c.facts.inside.composite_index c.args.id c.args.to _ c.args.self
+    (rw c.facts.view_is at c.facts.invariant) c.requires (rw c.facts.view_is at c.place_of_folder-home.ensures) (λ x y. rw (← c.number.ensures) (c.take.ensures x y)) (λ x y. rw (← c.number-2.ensures) (c.in_ok-put.ensures x y)))
+
+-- ids of sound facts ascend
+pub move_folder-requires : goal.move_folder-requires
+move_folder-requires c = folders_ascend _ c.facts.invariant.sound

@@ -1,0 +1,78 @@
+-- What happens to the facts, event by event, and the events that a command makes.
+use Rattle.std.specs.Prelude.{ℕ, ◌+◌, ◌==◌, List, [], ◌∷◌, ◌++◌, not, Option, None, Some, map, filter, if◌then◌else◌}
+use Rattle.reg_base.specs.NameParts.{extension_of}
+use Rattle.reg_terms.specs.declared.command.Command.{Command}
+use Rattle.reg_terms.specs.declared.command.Command.TheVariants.{FolderAdd, FolderRename, FolderMove, FolderDelete, SubjectAdd, GroupAdd, GroupRename, GroupMove, GroupDelete, MemberAdd, MemberRemove, MemberWindow, CompositeSet, CompositeClear}
+use Rattle.reg_terms.specs.declared.event.Event.{Event}
+use Rattle.reg_terms.specs.declared.event.Event.TheVariants.{FolderMade, FolderRenamed, FolderMoved, FolderGone, SubjectMade, GroupMade, GroupRenamed, GroupMoved, GroupGone, RowAdded, RowRemoved, RowRedated, Composed, Decomposed}
+use Rattle.reg_terms.specs.declared.kinds.Member.{Member}
+use Rattle.reg_terms.specs.declared.kinds.Object.TheVariants.{Folder, Group}
+use Rattle.reg_terms.specs.declared.rows.FolderRow.{FolderRow}
+use Rattle.reg_terms.specs.declared.rows.GroupRow.{GroupRow}
+use Rattle.reg_terms.specs.declared.rows.MemberRow.{MemberRow}
+use Rattle.reg_terms.specs.declared.rows.CompositeRow.{CompositeRow}
+use Rattle.reg_terms.specs.declared.rows.InheritRow.{InheritRow}
+use Rattle.reg_facts.specs.Edits.{member_of, is_row, is_composite, the_id, person_text, from_or, folder_renamed, folder_moved, group_renamed, group_moved, windowed, without_notes}
+use Rattle.reg_facts.specs.Lists.{Lists}
+use Rattle.reg_facts.specs.Naming.{folder_id, group_id, home_id}
+use Rattle.reg_facts.specs.RowOrder.{rows_of}
+
+-- the facts after an event
+abbrev pub happened : Event → Lists → Lists
+happened (FolderMade row) f = record f { folders = f.folders ++ row ∷ []; made = record f.made { folders = row.id } }
+happened (FolderRenamed id extension) f = record f { folders = map (folder_renamed id extension) f.folders }
+happened (FolderMoved id to) f = record f { folders = map (folder_moved id to) f.folders }
+happened (FolderGone id) f = record (without_notes (Folder id) f) { folders = filter (λ (row : FolderRow). not (row.id == id)) f.folders; inherits = filter (λ (row : InheritRow). not (row.folder == id)) f.inherits }
+happened (SubjectMade row) f = record f { subjects = f.subjects ++ row ∷ []; made = record f.made { subjects = row.id } }
+happened (GroupMade row) f = record f { groups = f.groups ++ row ∷ []; made = record f.made { groups = row.id } }
+happened (GroupRenamed id extension) f = record f { groups = map (group_renamed id extension) f.groups }
+happened (GroupMoved id to) f = record f { groups = map (group_moved id to) f.groups }
+happened (GroupGone id) f = record (without_notes (Group id) f) { groups = filter (λ (row : GroupRow). not (row.id == id)) f.groups }
+happened (RowAdded row) f = record f { rows = f.rows ++ row ∷ [] }
+happened (RowRemoved g m) f = record f { rows = filter (λ (row : MemberRow). not (is_row g m row)) f.rows }
+happened (RowRedated g m from until) f = record f { rows = map (windowed from until g m) f.rows }
+happened (Composed row) f = record f { composites = f.composites ++ row ∷ [] }
+happened (Decomposed g) f = record f { composites = filter (λ (row : CompositeRow). not (row.group == g)) f.composites }
+
+-- the facts after some events, one after another
+abbrev pub all_happened : List Event → Lists → Lists
+all_happened [] f = f
+all_happened (e ∷ es) f = all_happened es (happened e f)
+
+-- a member that stands makes an event, and none makes none
+abbrev pub on_member : (Member → Event) → Option Member → List Event
+on_member event None = []
+on_member event (Some m) = event m ∷ []
+
+-- a row goes
+abbrev pub row_gone : MemberRow → Event
+row_gone row = RowRemoved row.group row.member
+
+-- a group's factors go, if it is a composite
+abbrev pub factors_gone : ℕ → List CompositeRow → List Event
+factors_gone g composites = if is_composite g composites then Decomposed g ∷ [] else []
+
+-- a group goes after its rows, those of persons before those of groups, and its factors
+abbrev pub group_gone : ℕ → Lists → List Event
+group_gone g f = map row_gone (rows_of g f.rows) ++ factors_gone g f.composites ++ GroupGone g ∷ []
+
+-- the events of a command that acts at a moment, in order
+unfoldable pub events_of : ℕ → Command → Lists → List Event
+events_of at (FolderAdd folder display) f = FolderMade (record { id = f.made.folders + 1; parent = home_id folder f; extension = extension_of folder; display = display }) ∷ []
+events_of at (FolderRename folder extension) f = FolderRenamed (the_id (folder_id folder f)) extension ∷ []
+events_of at (FolderMove folder to) f = FolderMoved (the_id (folder_id folder f)) (the_id (folder_id to f)) ∷ []
+events_of at (FolderDelete folder) f = FolderGone (the_id (folder_id folder f)) ∷ []
+events_of at (SubjectAdd subject display) f = SubjectMade (record { id = f.made.subjects + 1; text = person_text subject; display = display }) ∷ []
+events_of at (GroupAdd group display) f = GroupMade (record { id = f.made.groups + 1; folder = the_id (home_id group f); extension = extension_of group; display = display }) ∷ []
+events_of at (GroupRename group extension) f = GroupRenamed (the_id (group_id group f)) extension ∷ []
+events_of at (GroupMove group to) f = GroupMoved (the_id (group_id group f)) (the_id (folder_id to f)) ∷ []
+events_of at (GroupDelete group) f = group_gone (the_id (group_id group f)) f
+events_of at (MemberAdd group member from until) f = on_member (λ m. RowAdded (record { group = the_id (group_id group f); member = m; from = from_or at from; until = until })) (member_of member f)
+events_of at (MemberRemove group member) f = on_member (λ m. RowRemoved (the_id (group_id group f)) m) (member_of member f)
+events_of at (MemberWindow group member from until) f = on_member (λ m. RowRedated (the_id (group_id group f)) m (from_or at from) until) (member_of member f)
+events_of at (CompositeSet group kind left right) f = Composed (record { group = the_id (group_id group f); op = kind; left = the_id (group_id left f); right = the_id (group_id right f) }) ∷ []
+events_of at (CompositeClear group) f = Decomposed (the_id (group_id group f)) ∷ []
+
+-- the facts after a command that acts at a moment
+abbrev pub edit : ℕ → Command → Lists → Lists
+edit at command f = all_happened (events_of at command f) f

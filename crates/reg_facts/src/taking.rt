@@ -1,0 +1,219 @@
+// Events, taken into the facts.
+ghost use Rattle.std.specs.Prelude.{◌≡◌, IfOk, Some, true, false};
+ghost use Rattle.reg_facts.specs.Events.{happened};
+ghost use Rattle.reg_facts.specs.Suiting.{Suits};
+ghost use Rattle.reg_terms.specs.declared.event.Event.TheVariants.{FolderMade, FolderRenamed, FolderMoved, FolderGone, SubjectMade, GroupMade, GroupRenamed, GroupMoved, GroupGone, RowAdded, RowRemoved, RowRedated, Composed, Decomposed};
+
+use crate::{
+    CompositeRow, Event, Facts, FolderRow, GroupRow, Member, MemberRow, Object, SubjectRow,
+};
+use reg_base::{FolderId, GroupId, Moment, Text};
+use std::alloc::{AllocError, Global};
+
+impl Facts {
+    /// The facts after an event. Where there is no memory they are gone.
+    pub fn take(self, alloc: Global, event: Event) -> Result<Facts, AllocError>
+        requires { Suits event self }
+        ensures { IfOk result (λ f. f ≡ happened event self) }
+    {
+        match event {
+            Event::FolderMade { row } => self.folder_made(alloc, row),
+            Event::FolderRenamed { folder, extension } => {
+                self.folder_renamed(alloc, folder, extension)
+            }
+            Event::FolderMoved { folder, to } => self.folder_moved(alloc, folder, to),
+            Event::FolderGone { folder } => Ok(self.folder_gone(folder)),
+            Event::SubjectMade { row } => self.subject_made(alloc, row),
+            Event::GroupMade { row } => self.group_made(alloc, row),
+            Event::GroupRenamed { group, extension } => self.group_renamed(alloc, group, extension),
+            Event::GroupMoved { group, to } => self.group_moved(alloc, group, to),
+            Event::GroupGone { group } => Ok(self.group_gone(group)),
+            Event::RowAdded { row } => self.row_added(row),
+            Event::RowRemoved { group, member } => Ok(self.row_removed(group, &member)),
+            Event::RowRedated {
+                group,
+                member,
+                from,
+                until,
+            } => Ok(self.row_redated(group, &member, from, until)),
+            Event::Composed { row } => self.composed(row),
+            Event::Decomposed { group } => Ok(self.decomposed(group)),
+        }
+    }
+
+    fn folder_made(self, alloc: Global, row: FolderRow) -> Result<Facts, AllocError>
+        requires { Suits (FolderMade row) self }
+        ensures { IfOk result (λ f. f ≡ happened (FolderMade row) self) }
+    {
+        let parent = row.parent.unwrap();
+        let object = Object::Folder(row.id);
+        let mut facts = self;
+        facts
+            .children
+            .put(alloc, parent.number(), row.extension.as_str(), object)?;
+        facts.tables.push_folder(row)?;
+        Ok(facts)
+    }
+
+    fn folder_renamed(
+        self,
+        alloc: Global,
+        id: FolderId,
+        extension: Text,
+    ) -> Result<Facts, AllocError>
+        requires { Suits (FolderRenamed id extension) self }
+        ensures { IfOk result (λ f. f ≡ happened (FolderRenamed id extension) self) }
+    {
+        let object = Object::Folder(id);
+        let mut facts = self;
+        let (home, old) = facts.tables.place_of_folder(id);
+        facts.children.take(home.number(), old);
+        facts
+            .children
+            .put(alloc, home.number(), extension.as_str(), object)?;
+        facts.tables.rename_folder(id, extension);
+        Ok(facts)
+    }
+
+    fn folder_moved(self, alloc: Global, id: FolderId, to: FolderId) -> Result<Facts, AllocError>
+        requires { Suits (FolderMoved id to) self }
+        ensures { IfOk result (λ f. f ≡ happened (FolderMoved id to) self) }
+    {
+        let object = Object::Folder(id);
+        let mut facts = self;
+        let (home, extension) = facts.tables.place_of_folder(id);
+        facts.children.take(home.number(), extension);
+        facts.children.put(alloc, to.number(), extension, object)?;
+        facts.tables.move_folder(id, to);
+        Ok(facts)
+    }
+
+    fn folder_gone(self, id: FolderId) -> Facts
+        requires { Suits (FolderGone id) self }
+        ensures { result ≡ happened (FolderGone id) self }
+    {
+        let mut facts = self;
+        let (home, extension) = facts.tables.place_of_folder(id);
+        facts.children.take(home.number(), extension);
+        facts.tables.delete_folder(id);
+        facts
+    }
+
+    fn subject_made(self, alloc: Global, row: SubjectRow) -> Result<Facts, AllocError>
+        requires { Suits (SubjectMade row) self }
+        ensures { IfOk result (λ f. f ≡ happened (SubjectMade row) self) }
+    {
+        let mut facts = self;
+        facts
+            .subject_index
+            .insert(alloc, row.text.as_str(), row.id.number())?;
+        facts.tables.push_subject(row)?;
+        Ok(facts)
+    }
+
+    fn group_made(self, alloc: Global, row: GroupRow) -> Result<Facts, AllocError>
+        requires { Suits (GroupMade row) self }
+        ensures { IfOk result (λ f. f ≡ happened (GroupMade row) self) }
+    {
+        let object = Object::Group(row.id);
+        let mut facts = self;
+        facts
+            .children
+            .put(alloc, row.folder.number(), row.extension.as_str(), object)?;
+        facts.tables.push_group(row)?;
+        Ok(facts)
+    }
+
+    fn group_renamed(self, alloc: Global, id: GroupId, extension: Text) -> Result<Facts, AllocError>
+        requires { Suits (GroupRenamed id extension) self }
+        ensures { IfOk result (λ f. f ≡ happened (GroupRenamed id extension) self) }
+    {
+        let object = Object::Group(id);
+        let mut facts = self;
+        let (home, old) = facts.tables.place_of_group(id);
+        facts.children.take(home.number(), old);
+        facts
+            .children
+            .put(alloc, home.number(), extension.as_str(), object)?;
+        facts.tables.rename_group(id, extension);
+        Ok(facts)
+    }
+
+    fn group_moved(self, alloc: Global, id: GroupId, to: FolderId) -> Result<Facts, AllocError>
+        requires { Suits (GroupMoved id to) self }
+        ensures { IfOk result (λ f. f ≡ happened (GroupMoved id to) self) }
+    {
+        let object = Object::Group(id);
+        let mut facts = self;
+        let (home, extension) = facts.tables.place_of_group(id);
+        facts.children.take(home.number(), extension);
+        facts.children.put(alloc, to.number(), extension, object)?;
+        facts.tables.move_group(id, to);
+        Ok(facts)
+    }
+
+    fn group_gone(self, id: GroupId) -> Facts
+        requires { Suits (GroupGone id) self }
+        ensures { result ≡ happened (GroupGone id) self }
+    {
+        let mut facts = self;
+        let (home, extension) = facts.tables.place_of_group(id);
+        facts.children.take(home.number(), extension);
+        facts.tables.delete_group(id);
+        facts
+    }
+
+    fn row_added(self, row: MemberRow) -> Result<Facts, AllocError>
+        requires { Suits (RowAdded row) self }
+        ensures { IfOk result (λ f. f ≡ happened (RowAdded row) self) }
+    {
+        let mut facts = self;
+        facts.tables = facts.tables.with_row(row)?;
+        Ok(facts)
+    }
+
+    fn row_removed(self, group: GroupId, member: &Member) -> Facts
+        requires { Suits (RowRemoved group member.now) self }
+        ensures { result ≡ happened (RowRemoved group member.now) self }
+    {
+        let mut facts = self;
+        facts.tables.remove_row(group, member);
+        facts
+    }
+
+    fn row_redated(
+        self,
+        group: GroupId,
+        member: &Member,
+        from: Moment,
+        until: Option<Moment>,
+    ) -> Facts
+        requires { Suits (RowRedated group member.now from until) self }
+        ensures { result ≡ happened (RowRedated group member.now from until) self }
+    {
+        let mut facts = self;
+        facts.tables.window_row(group, member, from, until);
+        facts
+    }
+
+    fn composed(self, row: CompositeRow) -> Result<Facts, AllocError>
+        requires { Suits (Composed row) self }
+        ensures { IfOk result (λ f. f ≡ happened (Composed row) self) }
+    {
+        let mut facts = self;
+        facts.composite_index.insert(row.group)?;
+        facts.tables.push_composite(row)?;
+        Ok(facts)
+    }
+
+    fn decomposed(self, group: GroupId) -> Facts
+        requires { Suits (Decomposed group) self }
+        ensures { result ≡ happened (Decomposed group) self }
+    {
+        let mut facts = self;
+        facts
+            .tables
+            .remove_composite(&mut facts.composite_index, group);
+        facts
+    }
+}

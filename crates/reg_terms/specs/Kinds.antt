@@ -1,0 +1,40 @@
+-- What rows speak of: when two objects or members are one.
+use Rattle.std.specs.Prelude.{ℕ, ◌==◌, Bool, false, Option, Some, None}
+use Rattle.reg_terms.specs.declared.kinds.Object.{Object}
+use Rattle.reg_terms.specs.declared.kinds.Object.TheVariants as object
+use Rattle.reg_terms.specs.declared.kinds.Member.{Member}
+use Rattle.reg_terms.specs.declared.kinds.Member.TheVariants as member
+
+-- the two objects are one
+abbrev pub same_object : Object → Object → Bool
+same_object (object.Folder a) (object.Folder b) = a == b
+same_object (object.Group a) (object.Group b) = a == b
+same_object (object.Def a) (object.Def b) = a == b
+same_object (object.Attr a) (object.Attr b) = a == b
+same_object (object.Subject a) (object.Subject b) = a == b
+same_object _ _ = false
+
+-- the two members are one
+abbrev pub same_member : Member → Member → Bool
+same_member (member.Person a) (member.Person b) = a == b
+same_member (member.Person a) (member.Group b) = false
+same_member (member.Group a) (member.Person b) = false
+same_member (member.Group a) (member.Group b) = a == b
+
+-- a folder's id, if the object is one
+abbrev pub as_folder : Option Object → Option ℕ
+as_folder None = None
+as_folder (Some (object.Folder d)) = Some d
+as_folder (Some (object.Group g)) = None
+as_folder (Some (object.Def a)) = None
+as_folder (Some (object.Attr a)) = None
+as_folder (Some (object.Subject s)) = None
+
+-- a group's id, if the object is one
+abbrev pub as_group : Option Object → Option ℕ
+as_group None = None
+as_group (Some (object.Folder d)) = None
+as_group (Some (object.Group g)) = Some g
+as_group (Some (object.Def a)) = None
+as_group (Some (object.Attr a)) = None
+as_group (Some (object.Subject s)) = None

@@ -1,0 +1,3 @@
+pub mod Kinds
+pub mod Limits
+pub mod Forms

@@ -1,0 +1,150 @@
+// What rows speak of.
+ghost use Rattle.std.specs.Prelude.{◌≡◌};
+ghost use Rattle.reg_terms.specs.Kinds.{same_member, same_object, as_folder, as_group};
+
+use reg_base::{AttrDefId, AttrId, FolderId, GroupId, Moment, SubjectId, Text};
+
+/// What stands in the registry under an id.
+#[derive(Clone, Copy, Debug)]
+pub enum Object {
+    Folder(FolderId),
+    Group(GroupId),
+    Def(AttrDefId),
+    Attr(AttrId),
+    Subject(SubjectId),
+}
+
+impl Object {
+    /// The folder's id, if it is one.
+    pub fn folder(&self) -> Option<FolderId>
+        ensures { result ≡ as_folder (Some self.now) }
+    {
+        match self {
+            Object::Folder(id) => Some(*id),
+            Object::Group(_) | Object::Def(_) | Object::Attr(_) | Object::Subject(_) => None,
+        }
+    }
+
+    /// The group's id, if it is one.
+    pub fn group(&self) -> Option<GroupId>
+        ensures { result ≡ as_group (Some self.now) }
+    {
+        match self {
+            Object::Group(id) => Some(*id),
+            Object::Folder(_) | Object::Def(_) | Object::Attr(_) | Object::Subject(_) => None,
+        }
+    }
+
+    /// Whether the two are one.
+    pub fn is(&self, other: &Object) -> bool
+        ensures { result ≡ same_object self.now other.now }
+    {
+        match self {
+            Object::Folder(a) => matches!(other, Object::Folder(b) if a.number() == b.number()),
+            Object::Group(a) => matches!(other, Object::Group(b) if a.number() == b.number()),
+            Object::Def(a) => matches!(other, Object::Def(b) if a.number() == b.number()),
+            Object::Attr(a) => matches!(other, Object::Attr(b) if a.number() == b.number()),
+            Object::Subject(a) => matches!(other, Object::Subject(b) if a.number() == b.number()),
+        }
+    }
+}
+
+/// The member of an immediate membership.
+#[derive(Clone, Copy, Debug)]
+pub enum Member {
+    Person(SubjectId),
+    Group(GroupId),
+}
+
+impl Member {
+    /// Whether the two are one.
+    pub fn is(&self, other: &Member) -> bool
+        ensures { result ≡ same_member self.now other.now }
+    {
+        match self {
+            Member::Person(a) => matches!(other, Member::Person(b) if a.number() == b.number()),
+            Member::Group(a) => matches!(other, Member::Group(b) if a.number() == b.number()),
+        }
+    }
+}
+
+/// Who holds a privilege.
+#[derive(Clone, Copy, Debug)]
+pub enum Holder {
+    Everyone,
+    Person(SubjectId),
+    Group(GroupId),
+}
+
+/// How a composite group is made of its two factors.
+#[derive(Clone, Copy, Debug, PartialEq, Eq)]
+pub enum SetOp {
+    /// Who is in both.
+    Intersection,
+    /// Who is in the left and not in the right.
+    Complement,
+}
+
+/// How far an inherit reaches: objects directly in its folder, or at any depth below it.
+#[derive(Clone, Copy, Debug, PartialEq, Eq)]
+pub enum Scope {
+    One,
+    Sub,
+}
+
+/// The kind of objects for which an inherit gives its privilege.
+#[derive(Clone, Copy, Debug, PartialEq, Eq)]
+pub enum InheritKind {
+    Folder,
+    Group,
+    Definition,
+}
+
+/// The kind of values that attributes of a definition take.
+#[derive(Clone, Copy, Debug, PartialEq, Eq)]
+pub enum DefKind {
+    Marker,
+    Integer,
+    Text,
+    Timestamp,
+}
+
+/// The kinds of owner that a definition suits.
+#[derive(Clone, Copy, Debug, PartialEq, Eq)]
+pub struct Owners {
+    pub folder: bool,
+    pub group: bool,
+    pub subject: bool,
+}
+
+/// A value of an assignment.
+#[derive(Debug, Drop)]
+pub enum AttrValue {
+    Int(i64),
+    Text(Text),
+    Moment(Moment),
+}
+
+/// What a rule does (`docs/REGISTRY.md`).
+#[derive(Clone, Copy, Debug)]
+pub enum RuleForm {
+    RemoveLost {
+        check: GroupId,
+        owner: GroupId,
+    },
+    EndLost {
+        check: GroupId,
+        owner: GroupId,
+        days: u32,
+    },
+    Veto {
+        owner: GroupId,
+        condition: GroupId,
+    },
+    OnCreate {
+        folder: FolderId,
+        scope: Scope,
+        privilege: reg_base::Privilege,
+        holder: Holder,
+    },
+}

@@ -1,0 +1,32 @@
+//! What all crates speak of: commands, the rows that they make, the events that these bring, refusals,
+//! requests and replies.
+#![tactic(auto)]
+
+mod attr_values;
+mod command;
+mod event;
+mod kinds;
+mod query;
+mod refusal;
+mod reply;
+mod request;
+mod rows;
+mod shown;
+mod texts;
+
+pub use attr_values::AttrValues;
+pub use command::{Command, Stamped};
+pub use event::Event;
+pub use kinds::{
+    AttrValue, DefKind, Holder, InheritKind, Member, Object, Owners, RuleForm, Scope, SetOp,
+};
+pub use query::{Answer, Query};
+pub use refusal::Refusal;
+pub use reply::Reply;
+pub use request::{Op, Request};
+pub use rows::{
+    AssignRow, AttributeRow, CompositeRow, ConsumerRow, DefinitionRow, FolderRow, GrantRow,
+    GroupRow, InheritRow, JobRow, Made, MemberRow, RuleRow, SubjectRow,
+};
+pub use shown::{FactorsShown, RowShown, RowsShown};
+pub use texts::Texts;

@@ -1,0 +1,68 @@
+// What the query of memberships shows.
+ghost use Rattle.std.specs.Prelude.{◌≡◌, [], ◌∷◌, ◌++◌, OnOk, OnErr};
+ghost use Rattle.reg_terms.specs.declared.shown.RowShown.{RowShown};
+
+use crate::SetOp;
+use reg_base::{Moment, Text};
+use std::alloc::{AllocError, Global};
+use std::marker::Model;
+
+/// The factors of a composite group, by their names.
+#[derive(Debug, Drop)]
+pub struct FactorsShown {
+    pub kind: SetOp,
+    pub left: Text,
+    pub right: Text,
+}
+
+/// An immediate membership, with the text of its member.
+#[derive(Debug, Drop)]
+pub struct RowShown {
+    /// From this moment on it counts.
+    pub from: Moment,
+    pub member: Text,
+    /// At this moment it ends, if it does.
+    pub until: Option<Moment>,
+}
+
+/// A list of immediate memberships. Contracts see the list.
+#[derive(Debug, Drop)]
+pub struct RowsShown {
+    items: Vec<RowShown>,
+}
+
+impl Model for RowsShown {
+    ghost use Rattle.std.specs.Prelude.{List};
+    ghost use Rattle.reg_terms.specs.declared.shown.RowShown.{RowShown};
+
+    ghost Value = { List RowShown };
+
+    ghost view = { λ r. r.items.items };
+}
+
+impl RowsShown {
+    /// The empty list.
+    pub fn new(alloc: Global) -> RowsShown
+        ensures { result ≡ [] }
+    {
+        RowsShown {
+            items: Vec::new(alloc),
+        }
+    }
+
+    /// Adds a membership at the end. Where there is no memory the list stays as it was.
+    pub fn push(&mut self, item: RowShown) -> Result<(), AllocError>
+        ensures ok { OnOk result (self.new ≡ self.old ++ item ∷ []) }
+        ensures err { OnErr result (self.new ≡ self.old) }
+    {
+        self.items.push(item)?;
+        Ok(())
+    }
+
+    /// The memberships.
+    pub fn list(&self) -> &[RowShown]
+        ensures { result.now ≡ self.now }
+    {
+        &self.items
+    }
+}
