@@ -36,6 +36,25 @@ def feed(pipe, place, until, last):
     pipe.close()
 
 
+class Measured:
+    """One run of a command over a file of input: its exit status, the seconds, those of a processor, and the peak in
+    kB."""
+
+    def __init__(self, words, into, out):
+        start = resource.getrusage(resource.RUSAGE_CHILDREN)
+        before = time.time()
+        with open(into, "rb") as source, open(out, "wb") as sink:
+            process = subprocess.Popen(words, stdin=source, stdout=sink)
+            self.peak = 0
+            while process.poll() is None:
+                self.peak = max(self.peak, peak_of(process))
+                time.sleep(0.02)
+        self.status = process.returncode
+        self.seconds = time.time() - before
+        used = resource.getrusage(resource.RUSAGE_CHILDREN)
+        self.processor = used.ru_utime + used.ru_stime - start.ru_utime - start.ru_stime
+
+
 class Applied:
     """How many lines went in, the exit status, the replies, the seconds, those of a processor, the peak in kB, and the
     seconds that writing the lines to a file took. The program may be started no earlier than a moment, and a last
