@@ -6,7 +6,7 @@ use Rattle.reg_base.specs.declared.entity.Entity.{Entity}
 use Rattle.reg_base.specs.declared.entity.Entity.TheVariants as entity
 use Rattle.reg_terms.specs.declared.command.Command.{Command}
 use Rattle.reg_terms.specs.declared.command.Command.TheVariants.{FolderAdd, FolderRename, FolderMove, FolderDelete, SubjectAdd, GroupAdd, GroupRename, GroupMove, GroupDelete, MemberAdd, MemberRemove, MemberWindow, CompositeSet, CompositeClear}
-use Rattle.reg_terms.specs.Limits.{max_moment}
+use Rattle.reg_terms.specs.Limits.{max_display, max_moment}
 
 -- a folder's name, or `:` for the root
 abbrev pub is_folder_text : List ℕ → Bool
@@ -14,7 +14,7 @@ is_folder_text text = bytes_eq text (codes ":") || is_name text
 
 -- at most 255 bytes
 abbrev pub is_display : List ℕ → Bool
-is_display text = nat_le (length text) 255
+is_display text = nat_le (length text) max_display
 
 -- an entity's parts have their form
 abbrev pub is_entity : Entity → Bool

@@ -6,6 +6,7 @@ mod attr_values;
 mod command;
 mod event;
 mod kinds;
+mod limits;
 mod query;
 mod refusal;
 mod reply;
@@ -19,6 +20,9 @@ pub use command::{Command, Stamped};
 pub use event::Event;
 pub use kinds::{
     AttrValue, DefKind, Holder, InheritKind, Member, Object, Owners, RuleForm, Scope, SetOp,
+};
+pub use limits::{
+    MAX_DISPLAY, MAX_FOLDERS, MAX_GROUPS, MAX_HISTORY, MAX_LINE, MAX_NAME, MAX_ROWS, MAX_SUBJECTS,
 };
 pub use query::{Answer, Query};
 pub use refusal::Refusal;

@@ -1,0 +1,25 @@
+// How many may ever be made, how many may stand, and how long texts may be.
+
+/// Folders but the root that may ever be made.
+pub const MAX_FOLDERS: u32 = 10_000;
+
+/// Groups that may ever be made.
+pub const MAX_GROUPS: u32 = 100_000;
+
+/// Subjects that may ever be made.
+pub const MAX_SUBJECTS: u32 = 500_000;
+
+/// Immediate memberships that may stand.
+pub const MAX_ROWS: usize = 2_000_000;
+
+/// Commands that a history may have.
+pub const MAX_HISTORY: usize = 4_000_000;
+
+/// Bytes of a name.
+pub const MAX_NAME: usize = 1_000;
+
+/// Bytes of a display text.
+pub const MAX_DISPLAY: usize = 255;
+
+/// Bytes of a line that asks something.
+pub const MAX_LINE: usize = 8_388_608;
