@@ -5,7 +5,7 @@ ghost use Rattle.reg_terms.specs.Kinds.{same_member, same_object, as_folder, as_
 use reg_base::{AttrDefId, AttrId, FolderId, GroupId, Moment, SubjectId, Text};
 
 /// What stands in the registry under an id.
-#[derive(Clone, Copy, Debug)]
+#[derive(Clone, Copy, Debug, PartialEq, Eq, PartialOrd, Ord)]
 pub enum Object {
     Folder(FolderId),
     Group(GroupId),
@@ -50,7 +50,7 @@ impl Object {
 }
 
 /// The member of an immediate membership.
-#[derive(Clone, Copy, Debug)]
+#[derive(Clone, Copy, Debug, PartialEq, Eq, PartialOrd, Ord)]
 pub enum Member {
     Person(SubjectId),
     Group(GroupId),
@@ -69,7 +69,7 @@ impl Member {
 }
 
 /// Who holds a privilege.
-#[derive(Clone, Copy, Debug)]
+#[derive(Clone, Copy, Debug, PartialEq, Eq, PartialOrd, Ord)]
 pub enum Holder {
     Everyone,
     Person(SubjectId),
