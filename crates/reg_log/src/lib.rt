@@ -1,0 +1,12 @@
+//! The change log: a numbered list of what commands, dates and rules changed, and how far each consumer of it has read.
+#![tactic(auto)]
+
+mod consumers;
+mod entries;
+mod kinds;
+mod log;
+
+pub use consumers::{Place, Places};
+pub use entries::{Entry, Line};
+pub use kinds::EntryKind;
+pub use log::ChangeLog;
