@@ -1,3 +1,4 @@
 pub mod Kinds
 pub mod Limits
 pub mod Forms
+pub mod Pieces

@@ -33,4 +33,4 @@ pub use rows::{
     GroupRow, InheritRow, JobRow, Made, MemberRow, RuleRow, SubjectRow,
 };
 pub use shown::{FactorsShown, RowShown, RowsShown};
-pub use texts::Texts;
+pub use texts::{Pieces, Texts};
