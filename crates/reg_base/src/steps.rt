@@ -41,32 +41,3 @@ impl<L: Ledger> Steps<L> {
         self.book.add(&mut self.share, 1);
     }
 }
-
-#[cfg(test)]
-mod tests {
-    use super::Steps;
-    use std::marker::Brand;
-    use std::sync::ledger::{Blank, Ledger};
-
-    // the contract states the number, since code can't read it
-    fn tick_twice<L: Ledger>(steps: &mut Steps<L>)
-        ensures { steps.new ≡ steps.old + 2 }
-    {
-        steps.tick();
-        steps.tick();
-    }
-
-    fn counted<L: Ledger>(blank: Blank)
-        requires name { blank.name ≡ L.name }
-        requires parts { blank.parts ≡ L.parts }
-        requires some { 0 < blank.parts }
-    {
-        let mut steps = Steps::<L>::open(blank);
-        tick_twice(&mut steps);
-    }
-
-    #[test]
-    fn two_steps_are_counted() {
-        counted::<Brand>(Blank::new(1));
-    }
-}

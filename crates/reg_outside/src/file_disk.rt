@@ -143,30 +143,3 @@ impl<'a> Disk for FileDisk<'a> {
         Err(self.fault())
     }
 }
-
-#[cfg(test)]
-mod tests {
-    use super::*;
-    use std::fs::remove_file;
-    use std::test::Fail;
-
-    #[test]
-    fn a_file_reads_what_was_written(rt: HostRuntime) -> Result<(), Fail> {
-        let _ = remove_file(&rt, "file_disk_test");
-        let mut disk = FileDisk::new(&rt, "file_disk_test");
-        let mut buf = [0u8; 8];
-        assert!(rt; disk.len() == Ok(0));
-        assert!(rt; disk.write_at(0, b"abc") == Ok(()));
-        assert!(rt; disk.write_at(2, b"de") == Ok(()));
-        assert!(rt; disk.sync() == Ok(()));
-        assert!(rt; disk.len() == Ok(4));
-        assert!(rt; disk.read_at(1, &mut buf) == Ok(3));
-        assert!(rt; buf.starts_with(b"bde"));
-        assert!(rt; disk.read_at(4, &mut buf) == Ok(0));
-        assert!(rt; disk.write_at(END - 1, b"f").is_err());
-        assert!(rt; remove_file(&rt, "file_disk_test").is_ok());
-        let mut absent = FileDisk::new(&rt, "no_folder/file_disk_test");
-        assert!(rt; absent.sync().is_err());
-        Ok(())
-    }
-}

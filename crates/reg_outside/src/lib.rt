@@ -15,8 +15,6 @@ mod record;
 mod sink;
 mod source;
 mod sure;
-#[cfg(test)]
-mod tests;
 
 pub use adapters::{StdSink, StdSource, SystemClock};
 pub use calls::Calls;

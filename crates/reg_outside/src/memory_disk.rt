@@ -143,25 +143,3 @@ impl Disk for MemoryDisk {
         Ok(())
     }
 }
-
-#[cfg(test)]
-mod tests {
-    use super::*;
-    use std::test::Fail;
-
-    #[test]
-    fn a_listed_write_fails_and_the_bytes_stay(rt: HostRuntime) -> Result<(), Fail> {
-        let alloc = rt.alloc();
-        let fail = [2].to_vec(alloc)?;
-        let mut disk = MemoryDisk::new(alloc, b"abc".to_vec(alloc)?, fail)?;
-        let mut buf = [0u8; 8];
-        assert!(rt; disk.write_at(2, b"de") == Ok(()));
-        assert!(rt; disk.write_at(0, b"x") == Err(Failed));
-        assert!(rt; disk.sync() == Ok(()));
-        assert!(rt; disk.len() == Ok(4));
-        assert!(rt; disk.read_at(1, &mut buf) == Ok(3));
-        assert!(rt; buf.starts_with(b"bde"));
-        assert_eq!(rt; disk.bytes(), b"abde".as_slice());
-        Ok(())
-    }
-}
