@@ -1,3 +1,5 @@
 pub mod Kinds
 pub mod Limits
+pub mod Parts
+pub mod Table
 pub mod Forms

@@ -1,0 +1,3 @@
+mod Makes
+mod Lists
+mod Displays
