@@ -1,1 +1,4 @@
 pub mod Cutting
+mod Makes
+mod Lists
+mod Displays

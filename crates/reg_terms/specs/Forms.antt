@@ -1,20 +1,24 @@
--- The form that each field of a command has.
+-- The form that each field has, and whether a command's or a query's fields have theirs.
 use Rattle.std.specs.Prelude.{ℕ, ◌&&◌, ◌||◌, List, Bool, true, Option, None, Some, length, codes, nat_le}
-use Rattle.std.specs.Str.{bytes_eq}
+use Rattle.std.specs.List.{list_all}
+use Rattle.std.specs.Str.{bytes_eq, is_utf8}
 use Rattle.reg_base.specs.Names.{is_extension, is_name, is_person}
 use Rattle.reg_base.specs.declared.entity.Entity.{Entity}
 use Rattle.reg_base.specs.declared.entity.Entity.TheVariants as entity
 use Rattle.reg_terms.specs.declared.command.Command.{Command}
-use Rattle.reg_terms.specs.declared.command.Command.TheVariants.{FolderAdd, FolderRename, FolderMove, FolderDelete, SubjectAdd, GroupAdd, GroupRename, GroupMove, GroupDelete, MemberAdd, MemberRemove, MemberWindow, CompositeSet, CompositeClear}
+use Rattle.reg_terms.specs.declared.request.Op.{Op}
+use Rattle.reg_terms.specs.declared.field.Field.{Field}
+use Rattle.reg_terms.specs.declared.field.Field.TheVariants as field
 use Rattle.reg_terms.specs.Limits.{max_display, max_moment}
+use Rattle.reg_terms.specs.Table.{fields_of, op_fields}
 
 -- a folder's name, or `:` for the root
 abbrev pub is_folder_text : List ℕ → Bool
 is_folder_text text = bytes_eq text (codes ":") || is_name text
 
--- at most 255 bytes
+-- at most 255 bytes of UTF-8
 abbrev pub is_display : List ℕ → Bool
-is_display text = nat_le (length text) max_display
+is_display text = nat_le (length text) max_display && is_utf8 text
 
 -- an entity's parts have their form
 abbrev pub is_entity : Entity → Bool
@@ -23,24 +27,29 @@ is_entity (entity.Group name) = is_name name
 is_entity entity.System = true
 is_entity entity.Everyone = true
 
+-- a moment up to the greatest
+abbrev pub is_moment : ℕ → Bool
+is_moment moment = nat_le moment max_moment
+
 -- no moment, or one up to the greatest
 abbrev pub is_optional_moment : Option ℕ → Bool
 is_optional_moment None = true
-is_optional_moment (Some moment) = nat_le moment max_moment
+is_optional_moment (Some moment) = is_moment moment
+
+-- what may stand in a field
+abbrev pub is_field : Field → Bool
+is_field (field.Name text) = is_name text
+is_field (field.Folder text) = is_folder_text text
+is_field (field.Extension text) = is_extension text
+is_field (field.Display text) = is_display text
+is_field (field.Entity entity) = is_entity entity
+is_field (field.OptionalMoment moment) = is_optional_moment moment
+is_field (field.SetOp kind) = true
 
 -- whether each field of a command has its form
-abbrev pub has_form : Command → Bool
-has_form (FolderAdd folder display) = is_name folder && is_display display
-has_form (FolderRename folder extension) = is_folder_text folder && is_extension extension
-has_form (FolderMove folder to) = is_folder_text folder && is_folder_text to
-has_form (FolderDelete folder) = is_folder_text folder
-has_form (SubjectAdd subject display) = is_entity subject && is_display display
-has_form (GroupAdd group display) = is_name group && is_display display
-has_form (GroupRename group extension) = is_name group && is_extension extension
-has_form (GroupMove group to) = is_name group && is_folder_text to
-has_form (GroupDelete group) = is_name group
-has_form (MemberAdd group member from until) = (is_name group && is_entity member) && (is_optional_moment from && is_optional_moment until)
-has_form (MemberRemove group member) = is_name group && is_entity member
-has_form (MemberWindow group member from until) = (is_name group && is_entity member) && (is_optional_moment from && is_optional_moment until)
-has_form (CompositeSet group kind left right) = is_name group && is_name left && is_name right
-has_form (CompositeClear group) = is_name group
+unfoldable pub has_form : Command → Bool
+has_form c = list_all is_field (fields_of c)
+
+-- whether each field of a command or query has its form
+unfoldable pub op_has_form : Op → Bool
+op_has_form o = list_all is_field (op_fields o)

@@ -1,4 +1,6 @@
 pub mod Kinds
 pub mod Limits
+pub mod Parts
+pub mod Table
 pub mod Forms
 pub mod Pieces

@@ -5,25 +5,36 @@
 mod attr_values;
 mod command;
 mod event;
+mod field;
+mod forms;
 mod kinds;
+mod laws;
 mod limits;
+mod making;
+mod parts;
 mod query;
 mod refusal;
 mod reply;
 mod request;
 mod rows;
 mod shown;
+mod table;
 mod texts;
 
 pub use attr_values::AttrValues;
 pub use command::{Command, Stamped};
 pub use event::Event;
+pub use field::{Field, FieldKind};
+pub use forms::{has_form, is_folder_text};
 pub use kinds::{
     AttrValue, DefKind, Holder, InheritKind, Member, Object, Owners, RuleForm, Scope, SetOp,
 };
+pub use laws::{law_commands, law_ops};
 pub use limits::{
     MAX_DISPLAY, MAX_FOLDERS, MAX_GROUPS, MAX_HISTORY, MAX_LINE, MAX_NAME, MAX_ROWS, MAX_SUBJECTS,
 };
+pub use making::{made, made_command};
+pub use parts::{FieldRef, fields_of, kind_of};
 pub use query::{Answer, Query};
 pub use refusal::Refusal;
 pub use reply::Reply;
@@ -33,4 +44,8 @@ pub use rows::{
     GroupRow, InheritRow, JobRow, Made, MemberRow, RuleRow, SubjectRow,
 };
 pub use shown::{FactorsShown, RowShown, RowsShown};
+pub use table::{
+    CommandKind, CommandRow, OpKind, QueryKind, Row, command_coded, command_row, kind_named,
+    query_row, row_of,
+};
 pub use texts::{Pieces, Texts};

@@ -1,0 +1,249 @@
+-- The table of ops: each with its word, its code and its fields, and a command or query taken apart and made of them.
+use Rattle.std.specs.Prelude.{◌≡◌, ℕ, List, [], ◌∷◌, ◌==◌, if◌then◌else◌, Option, Some, None, option_map, codes, map}
+use Rattle.std.specs.Str.{bytes_eq}
+use Rattle.reg_terms.specs.declared.command.Command.{Command}
+use Rattle.reg_terms.specs.declared.command.Command.TheVariants.{FolderAdd, FolderRename, FolderMove, FolderDelete, SubjectAdd, GroupAdd, GroupRename, GroupMove, GroupDelete, MemberAdd, MemberRemove, MemberWindow, CompositeSet, CompositeClear}
+use Rattle.reg_terms.specs.declared.query.Query.{Query}
+use Rattle.reg_terms.specs.declared.query.Query.TheVariants.{GroupGet, FolderList, Members, Rows}
+use Rattle.reg_terms.specs.declared.request.Op.{Op}
+use Rattle.reg_terms.specs.declared.request.Op.TheVariants as asked
+use Rattle.reg_terms.specs.declared.table.CommandKind.{CommandKind}
+use Rattle.reg_terms.specs.declared.table.CommandKind.TheVariants as command
+use Rattle.reg_terms.specs.declared.table.QueryKind.{QueryKind}
+use Rattle.reg_terms.specs.declared.table.QueryKind.TheVariants as query
+use Rattle.reg_terms.specs.declared.table.OpKind.{OpKind}
+use Rattle.reg_terms.specs.declared.table.OpKind.TheVariants as op
+use Rattle.reg_terms.specs.declared.field.FieldKind.{FieldKind}
+use Rattle.reg_terms.specs.declared.field.FieldKind.TheVariants as kind
+use Rattle.reg_terms.specs.declared.field.Field.{Field}
+use Rattle.reg_terms.specs.declared.field.Field.TheVariants as field
+use Rattle.reg_terms.specs.Parts.{◌>>=◌, field_kind, name_in, folder_in, extension_in, display_in, entity_in, moment_in, set_op_in, whole}
+
+-- ---- the table
+
+-- an op's word, and its fields in order, each with its key
+pub record Row : Type 0 where
+  pub word : List ℕ
+  pub fields : List (List ℕ × FieldKind)
+
+-- a command's code, and its row
+pub record CommandRow : Type 0 where
+  pub code : ℕ
+  pub op : Row
+
+-- the row of a command
+abbrev pub command_row : CommandKind → CommandRow
+command_row command.FolderAdd = record { code = 1; op = record { word = codes "folder.add"; fields = (codes "folder", kind.Name) ∷ (codes "display", kind.Display) ∷ [] } }
+command_row command.FolderRename = record { code = 2; op = record { word = codes "folder.rename"; fields = (codes "folder", kind.Folder) ∷ (codes "extension", kind.Extension) ∷ [] } }
+command_row command.FolderMove = record { code = 3; op = record { word = codes "folder.move"; fields = (codes "folder", kind.Folder) ∷ (codes "to", kind.Folder) ∷ [] } }
+command_row command.FolderDelete = record { code = 4; op = record { word = codes "folder.delete"; fields = (codes "folder", kind.Folder) ∷ [] } }
+command_row command.SubjectAdd = record { code = 5; op = record { word = codes "subject.add"; fields = (codes "subject", kind.Entity) ∷ (codes "display", kind.Display) ∷ [] } }
+command_row command.GroupAdd = record { code = 6; op = record { word = codes "group.add"; fields = (codes "group", kind.Name) ∷ (codes "display", kind.Display) ∷ [] } }
+command_row command.GroupRename = record { code = 7; op = record { word = codes "group.rename"; fields = (codes "group", kind.Name) ∷ (codes "extension", kind.Extension) ∷ [] } }
+command_row command.GroupMove = record { code = 8; op = record { word = codes "group.move"; fields = (codes "group", kind.Name) ∷ (codes "to", kind.Folder) ∷ [] } }
+command_row command.GroupDelete = record { code = 9; op = record { word = codes "group.delete"; fields = (codes "group", kind.Name) ∷ [] } }
+command_row command.MemberAdd = record { code = 10; op = record { word = codes "member.add"; fields = (codes "group", kind.Name) ∷ (codes "member", kind.Entity) ∷ (codes "from", kind.OptionalMoment) ∷ (codes "until", kind.OptionalMoment) ∷ [] } }
+command_row command.MemberRemove = record { code = 11; op = record { word = codes "member.remove"; fields = (codes "group", kind.Name) ∷ (codes "member", kind.Entity) ∷ [] } }
+command_row command.MemberWindow = record { code = 12; op = record { word = codes "member.window"; fields = (codes "group", kind.Name) ∷ (codes "member", kind.Entity) ∷ (codes "from", kind.OptionalMoment) ∷ (codes "until", kind.OptionalMoment) ∷ [] } }
+command_row command.CompositeSet = record { code = 13; op = record { word = codes "composite.set"; fields = (codes "group", kind.Name) ∷ (codes "kind", kind.SetOp) ∷ (codes "left", kind.Name) ∷ (codes "right", kind.Name) ∷ [] } }
+command_row command.CompositeClear = record { code = 14; op = record { word = codes "composite.clear"; fields = (codes "group", kind.Name) ∷ [] } }
+
+-- the row of a query
+abbrev pub query_row : QueryKind → Row
+query_row query.GroupGet = record { word = codes "group.get"; fields = (codes "group", kind.Name) ∷ [] }
+query_row query.FolderList = record { word = codes "folder.list"; fields = (codes "folder", kind.Folder) ∷ [] }
+query_row query.Members = record { word = codes "members"; fields = (codes "group", kind.Name) ∷ [] }
+query_row query.Rows = record { word = codes "rows"; fields = (codes "group", kind.Name) ∷ [] }
+
+-- the row of an op
+abbrev pub row_of : OpKind → Row
+row_of (op.Command k) = (command_row k).op
+row_of (op.Query k) = query_row k
+
+-- every command
+abbrev pub commands : List CommandKind
+commands = command.FolderAdd ∷ command.FolderRename ∷ command.FolderMove ∷ command.FolderDelete ∷ command.SubjectAdd ∷ command.GroupAdd ∷ command.GroupRename ∷ command.GroupMove ∷ command.GroupDelete ∷ command.MemberAdd ∷ command.MemberRemove ∷ command.MemberWindow ∷ command.CompositeSet ∷ command.CompositeClear ∷ []
+
+-- every query
+abbrev pub queries : List QueryKind
+queries = query.GroupGet ∷ query.FolderList ∷ query.Members ∷ query.Rows ∷ []
+
+-- the kinds of a row's fields
+abbrev pub field_kinds : Row → List FieldKind
+field_kinds row = map (λ (f : List ℕ × FieldKind). f.1) row.fields
+
+-- the first of these commands with a code
+abbrev pub coded : List CommandKind → ℕ → Option CommandKind
+coded [] code = None
+coded (k ∷ ks) code = if code == (command_row k).code then Some k else coded ks code
+
+-- the first of these commands that a word names
+abbrev pub command_named : List CommandKind → List ℕ → Option CommandKind
+command_named [] word = None
+command_named (k ∷ ks) word = if bytes_eq (command_row k).op.word word then Some k else command_named ks word
+
+-- the first of these queries that a word names
+abbrev pub query_named : List QueryKind → List ℕ → Option QueryKind
+query_named [] word = None
+query_named (k ∷ ks) word = if bytes_eq (query_row k).word word then Some k else query_named ks word
+
+-- the op that a word names
+unfoldable pub kind_named : List ℕ → Option OpKind
+kind_named word = elim (command_named commands word) [
+  | Some k ↦ Some (op.Command k)
+  | None ↦ option_map (λ k. op.Query k) (query_named queries word)
+]
+
+-- ---- taken apart
+
+-- a command: which one, and its fields in order
+abbrev pub apart : Command → CommandKind × List Field
+apart (FolderAdd folder display) = (command.FolderAdd, field.Name folder ∷ field.Display display ∷ [])
+apart (FolderRename folder extension) = (command.FolderRename, field.Folder folder ∷ field.Extension extension ∷ [])
+apart (FolderMove folder to) = (command.FolderMove, field.Folder folder ∷ field.Folder to ∷ [])
+apart (FolderDelete folder) = (command.FolderDelete, field.Folder folder ∷ [])
+apart (SubjectAdd subject display) = (command.SubjectAdd, field.Entity subject ∷ field.Display display ∷ [])
+apart (GroupAdd group display) = (command.GroupAdd, field.Name group ∷ field.Display display ∷ [])
+apart (GroupRename group extension) = (command.GroupRename, field.Name group ∷ field.Extension extension ∷ [])
+apart (GroupMove group to) = (command.GroupMove, field.Name group ∷ field.Folder to ∷ [])
+apart (GroupDelete group) = (command.GroupDelete, field.Name group ∷ [])
+apart (MemberAdd group member from until) = (command.MemberAdd, field.Name group ∷ field.Entity member ∷ field.OptionalMoment from ∷ field.OptionalMoment until ∷ [])
+apart (MemberRemove group member) = (command.MemberRemove, field.Name group ∷ field.Entity member ∷ [])
+apart (MemberWindow group member from until) = (command.MemberWindow, field.Name group ∷ field.Entity member ∷ field.OptionalMoment from ∷ field.OptionalMoment until ∷ [])
+apart (CompositeSet group kind left right) = (command.CompositeSet, field.Name group ∷ field.SetOp kind ∷ field.Name left ∷ field.Name right ∷ [])
+apart (CompositeClear group) = (command.CompositeClear, field.Name group ∷ [])
+
+-- a query: which one, and its fields in order
+abbrev pub query_apart : Query → QueryKind × List Field
+query_apart (GroupGet group) = (query.GroupGet, field.Name group ∷ [])
+query_apart (FolderList folder) = (query.FolderList, field.Folder folder ∷ [])
+query_apart (Members group) = (query.Members, field.Name group ∷ [])
+query_apart (Rows group) = (query.Rows, field.Name group ∷ [])
+
+-- which command it is
+abbrev pub kind_of : Command → CommandKind
+kind_of c = (apart c).0
+
+-- a command's fields, in order
+abbrev pub fields_of : Command → List Field
+fields_of c = (apart c).1
+
+-- the code of a command
+abbrev pub code_of : Command → ℕ
+code_of c = (command_row (kind_of c)).code
+
+-- which op it is
+abbrev pub op_kind : Op → OpKind
+op_kind (asked.Command c) = op.Command (apart c).0
+op_kind (asked.Query q) = op.Query (query_apart q).0
+
+-- its fields, in order
+abbrev pub op_fields : Op → List Field
+op_fields (asked.Command c) = (apart c).1
+op_fields (asked.Query q) = (query_apart q).1
+
+-- ---- and made of fields
+
+-- the command that fields make
+abbrev pub made_command : CommandKind → List Field → Option Command
+made_command command.FolderAdd fields = do
+  folder ← name_in fields
+  display ← display_in folder.1
+  whole (FolderAdd folder.0 display.0) display.1
+made_command command.FolderRename fields = do
+  folder ← folder_in fields
+  extension ← extension_in folder.1
+  whole (FolderRename folder.0 extension.0) extension.1
+made_command command.FolderMove fields = do
+  folder ← folder_in fields
+  to ← folder_in folder.1
+  whole (FolderMove folder.0 to.0) to.1
+made_command command.FolderDelete fields = do
+  folder ← folder_in fields
+  whole (FolderDelete folder.0) folder.1
+made_command command.SubjectAdd fields = do
+  subject ← entity_in fields
+  display ← display_in subject.1
+  whole (SubjectAdd subject.0 display.0) display.1
+made_command command.GroupAdd fields = do
+  group ← name_in fields
+  display ← display_in group.1
+  whole (GroupAdd group.0 display.0) display.1
+made_command command.GroupRename fields = do
+  group ← name_in fields
+  extension ← extension_in group.1
+  whole (GroupRename group.0 extension.0) extension.1
+made_command command.GroupMove fields = do
+  group ← name_in fields
+  to ← folder_in group.1
+  whole (GroupMove group.0 to.0) to.1
+made_command command.GroupDelete fields = do
+  group ← name_in fields
+  whole (GroupDelete group.0) group.1
+made_command command.MemberAdd fields = do
+  group ← name_in fields
+  member ← entity_in group.1
+  from ← moment_in member.1
+  until ← moment_in from.1
+  whole (MemberAdd group.0 member.0 from.0 until.0) until.1
+made_command command.MemberRemove fields = do
+  group ← name_in fields
+  member ← entity_in group.1
+  whole (MemberRemove group.0 member.0) member.1
+made_command command.MemberWindow fields = do
+  group ← name_in fields
+  member ← entity_in group.1
+  from ← moment_in member.1
+  until ← moment_in from.1
+  whole (MemberWindow group.0 member.0 from.0 until.0) until.1
+made_command command.CompositeSet fields = do
+  group ← name_in fields
+  kind ← set_op_in group.1
+  left ← name_in kind.1
+  right ← name_in left.1
+  whole (CompositeSet group.0 kind.0 left.0 right.0) right.1
+made_command command.CompositeClear fields = do
+  group ← name_in fields
+  whole (CompositeClear group.0) group.1
+
+-- the query that fields make
+abbrev pub made_query : QueryKind → List Field → Option Query
+made_query query.GroupGet fields = do
+  group ← name_in fields
+  whole (GroupGet group.0) group.1
+made_query query.FolderList fields = do
+  folder ← folder_in fields
+  whole (FolderList folder.0) folder.1
+made_query query.Members fields = do
+  group ← name_in fields
+  whole (Members group.0) group.1
+made_query query.Rows fields = do
+  group ← name_in fields
+  whole (Rows group.0) group.1
+
+-- the op that fields make
+abbrev pub made : OpKind → List Field → Option Op
+made (op.Command k) fields = option_map (λ c. asked.Command c) (made_command k fields)
+made (op.Query k) fields = option_map (λ q. asked.Query q) (made_query k fields)
+
+-- ---- what holds of them
+
+-- fields make a command, which has these fields
+pub record IsMadeCommand (k : CommandKind) (fields : List Field) : Type 0 where
+  pub command : Command
+  pub made_so : made_command k fields ≡ Some command
+  pub is_kind : kind_of command ≡ k
+  pub has_these : fields_of command ≡ fields
+
+-- fields make a command or query, which has these fields
+pub record IsMade (k : OpKind) (fields : List Field) : Type 0 where
+  pub op : Op
+  pub made_so : made k fields ≡ Some op
+  pub is_kind : op_kind op ≡ k
+  pub has_these : op_fields op ≡ fields
+
+-- a command's fields are of its row's kinds and make it again, and its code leads to its row
+pub record IsApart (c : Command) : Type 0 where
+  pub kinds : map field_kind (fields_of c) ≡ field_kinds (command_row (kind_of c)).op
+  pub again : made_command (kind_of c) (fields_of c) ≡ Some c
+  pub coded_so : coded commands (code_of c) ≡ Some (kind_of c)

@@ -1,0 +1,22 @@
+// What holds of the table of ops: each law is the clause of a function that does nothing.
+ghost use Rattle.std.specs.Prelude.{◌≡◌, List, map};
+ghost use Rattle.reg_terms.specs.declared.command.Command.{Command};
+ghost use Rattle.reg_terms.specs.declared.table.CommandKind.{CommandKind};
+ghost use Rattle.reg_terms.specs.declared.table.OpKind.{OpKind};
+ghost use Rattle.reg_terms.specs.declared.field.Field.{Field};
+ghost use Rattle.reg_terms.specs.Parts.{field_kind};
+ghost use Rattle.reg_terms.specs.Table.{command_row, row_of, field_kinds, IsMadeCommand, IsMade, IsApart};
+
+/// Fields of the kinds that a command's row says make a command of these fields; and the fields of each
+/// command are of its row's kinds, make it again, and its code is that of no other.
+#[tactic(auto, using(crate::proofs::Makes::command_made))]
+pub fn law_commands()
+    ensures made { (k : CommandKind) (fields : List Field) → map field_kind fields ≡ field_kinds (command_row k).op → IsMadeCommand k fields }
+    ensures apart { (c : Command) → IsApart c }
+{}
+
+/// Fields of the kinds that an op's row says make a command or query of these fields.
+#[tactic(auto, using(crate::proofs::Makes::op_made))]
+pub fn law_ops()
+    ensures { (k : OpKind) (fields : List Field) → map field_kind fields ≡ field_kinds (row_of k) → IsMade k fields }
+{}

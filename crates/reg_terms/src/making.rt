@@ -1,0 +1,297 @@
+// Commands and queries made of fields.
+ghost use Rattle.std.specs.Prelude.{◌≡◌};
+ghost use Rattle.reg_terms.specs.Parts.{Took, name_in, folder_in, extension_in, display_in, entity_in, moment_in, set_op_in, whole};
+ghost use Rattle.reg_terms.specs.Table.{made_command, made_query, made};
+ghost use Rattle.reg_terms.specs.declared.table.CommandKind.TheVariants as command;
+ghost use Rattle.reg_terms.specs.declared.table.QueryKind.TheVariants as query;
+
+use crate::field::Field;
+use crate::table::{CommandKind, OpKind, QueryKind};
+use crate::{Command, Op, Query, SetOp};
+use reg_base::{Entity, Moment, Name, Text};
+use std::collections::VecDeque;
+
+#[tactic(auto, unfolding(crate::specs::Parts::next_as))]
+fn name(fields: &mut VecDeque<Field>) -> Option<Name>
+    ensures { Took result fields.new.items (name_in fields.old.items) }
+{
+    fields.pop_front()?.name()
+}
+
+#[tactic(auto, unfolding(crate::specs::Parts::next_as))]
+fn folder(fields: &mut VecDeque<Field>) -> Option<Text>
+    ensures { Took result fields.new.items (folder_in fields.old.items) }
+{
+    fields.pop_front()?.folder()
+}
+
+#[tactic(auto, unfolding(crate::specs::Parts::next_as))]
+fn extension(fields: &mut VecDeque<Field>) -> Option<Text>
+    ensures { Took result fields.new.items (extension_in fields.old.items) }
+{
+    fields.pop_front()?.extension()
+}
+
+#[tactic(auto, unfolding(crate::specs::Parts::next_as))]
+fn display(fields: &mut VecDeque<Field>) -> Option<Text>
+    ensures { Took result fields.new.items (display_in fields.old.items) }
+{
+    fields.pop_front()?.display()
+}
+
+#[tactic(auto, unfolding(crate::specs::Parts::next_as))]
+fn entity(fields: &mut VecDeque<Field>) -> Option<Entity>
+    ensures { Took result fields.new.items (entity_in fields.old.items) }
+{
+    fields.pop_front()?.entity()
+}
+
+#[tactic(auto, unfolding(crate::specs::Parts::next_as))]
+fn moment(fields: &mut VecDeque<Field>) -> Option<Option<Moment>>
+    ensures { Took result fields.new.items (moment_in fields.old.items) }
+{
+    let field = fields.pop_front()?;
+    field.moment()
+}
+
+#[tactic(auto, unfolding(crate::specs::Parts::next_as))]
+fn set_op(fields: &mut VecDeque<Field>) -> Option<SetOp>
+    ensures { Took result fields.new.items (set_op_in fields.old.items) }
+{
+    let field = fields.pop_front()?;
+    field.set_op()
+}
+
+fn whole<T: Drop>(op: T, fields: VecDeque<Field>) -> Option<T>
+    ensures { result ≡ whole op fields.items }
+{
+    if fields.is_empty() { Some(op) } else { None }
+}
+
+fn folder_add(mut fields: VecDeque<Field>) -> Option<Command>
+    ensures { result ≡ made_command command.FolderAdd fields.items }
+{
+    let command = Command::FolderAdd {
+        folder: name(&mut fields)?,
+        display: display(&mut fields)?,
+    };
+    whole(command, fields)
+}
+
+fn folder_rename(mut fields: VecDeque<Field>) -> Option<Command>
+    ensures { result ≡ made_command command.FolderRename fields.items }
+{
+    let command = Command::FolderRename {
+        folder: folder(&mut fields)?,
+        extension: extension(&mut fields)?,
+    };
+    whole(command, fields)
+}
+
+fn folder_move(mut fields: VecDeque<Field>) -> Option<Command>
+    ensures { result ≡ made_command command.FolderMove fields.items }
+{
+    let command = Command::FolderMove {
+        folder: folder(&mut fields)?,
+        to: folder(&mut fields)?,
+    };
+    whole(command, fields)
+}
+
+fn folder_delete(mut fields: VecDeque<Field>) -> Option<Command>
+    ensures { result ≡ made_command command.FolderDelete fields.items }
+{
+    let command = Command::FolderDelete {
+        folder: folder(&mut fields)?,
+    };
+    whole(command, fields)
+}
+
+fn subject_add(mut fields: VecDeque<Field>) -> Option<Command>
+    ensures { result ≡ made_command command.SubjectAdd fields.items }
+{
+    let command = Command::SubjectAdd {
+        subject: entity(&mut fields)?,
+        display: display(&mut fields)?,
+    };
+    whole(command, fields)
+}
+
+fn group_add(mut fields: VecDeque<Field>) -> Option<Command>
+    ensures { result ≡ made_command command.GroupAdd fields.items }
+{
+    let command = Command::GroupAdd {
+        group: name(&mut fields)?,
+        display: display(&mut fields)?,
+    };
+    whole(command, fields)
+}
+
+fn group_rename(mut fields: VecDeque<Field>) -> Option<Command>
+    ensures { result ≡ made_command command.GroupRename fields.items }
+{
+    let command = Command::GroupRename {
+        group: name(&mut fields)?,
+        extension: extension(&mut fields)?,
+    };
+    whole(command, fields)
+}
+
+fn group_move(mut fields: VecDeque<Field>) -> Option<Command>
+    ensures { result ≡ made_command command.GroupMove fields.items }
+{
+    let command = Command::GroupMove {
+        group: name(&mut fields)?,
+        to: folder(&mut fields)?,
+    };
+    whole(command, fields)
+}
+
+fn group_delete(mut fields: VecDeque<Field>) -> Option<Command>
+    ensures { result ≡ made_command command.GroupDelete fields.items }
+{
+    let command = Command::GroupDelete {
+        group: name(&mut fields)?,
+    };
+    whole(command, fields)
+}
+
+fn member_add(mut fields: VecDeque<Field>) -> Option<Command>
+    ensures { result ≡ made_command command.MemberAdd fields.items }
+{
+    let command = Command::MemberAdd {
+        group: name(&mut fields)?,
+        member: entity(&mut fields)?,
+        from: moment(&mut fields)?,
+        until: moment(&mut fields)?,
+    };
+    whole(command, fields)
+}
+
+fn member_remove(mut fields: VecDeque<Field>) -> Option<Command>
+    ensures { result ≡ made_command command.MemberRemove fields.items }
+{
+    let command = Command::MemberRemove {
+        group: name(&mut fields)?,
+        member: entity(&mut fields)?,
+    };
+    whole(command, fields)
+}
+
+fn member_window(mut fields: VecDeque<Field>) -> Option<Command>
+    ensures { result ≡ made_command command.MemberWindow fields.items }
+{
+    let command = Command::MemberWindow {
+        group: name(&mut fields)?,
+        member: entity(&mut fields)?,
+        from: moment(&mut fields)?,
+        until: moment(&mut fields)?,
+    };
+    whole(command, fields)
+}
+
+fn composite_set(mut fields: VecDeque<Field>) -> Option<Command>
+    ensures { result ≡ made_command command.CompositeSet fields.items }
+{
+    let command = Command::CompositeSet {
+        group: name(&mut fields)?,
+        kind: set_op(&mut fields)?,
+        left: name(&mut fields)?,
+        right: name(&mut fields)?,
+    };
+    whole(command, fields)
+}
+
+fn composite_clear(mut fields: VecDeque<Field>) -> Option<Command>
+    ensures { result ≡ made_command command.CompositeClear fields.items }
+{
+    let command = Command::CompositeClear {
+        group: name(&mut fields)?,
+    };
+    whole(command, fields)
+}
+
+fn group_get(mut fields: VecDeque<Field>) -> Option<Query>
+    ensures { result ≡ made_query query.GroupGet fields.items }
+{
+    let query = Query::GroupGet {
+        group: name(&mut fields)?,
+    };
+    whole(query, fields)
+}
+
+fn folder_list(mut fields: VecDeque<Field>) -> Option<Query>
+    ensures { result ≡ made_query query.FolderList fields.items }
+{
+    let query = Query::FolderList {
+        folder: folder(&mut fields)?,
+    };
+    whole(query, fields)
+}
+
+fn members(mut fields: VecDeque<Field>) -> Option<Query>
+    ensures { result ≡ made_query query.Members fields.items }
+{
+    let query = Query::Members {
+        group: name(&mut fields)?,
+    };
+    whole(query, fields)
+}
+
+fn rows(mut fields: VecDeque<Field>) -> Option<Query>
+    ensures { result ≡ made_query query.Rows fields.items }
+{
+    let query = Query::Rows {
+        group: name(&mut fields)?,
+    };
+    whole(query, fields)
+}
+
+/// The command that these fields make, if they do.
+pub fn made_command(kind: CommandKind, fields: VecDeque<Field>) -> Option<Command>
+    ensures { result ≡ made_command kind fields.items }
+{
+    match kind {
+        CommandKind::FolderAdd => folder_add(fields),
+        CommandKind::FolderRename => folder_rename(fields),
+        CommandKind::FolderMove => folder_move(fields),
+        CommandKind::FolderDelete => folder_delete(fields),
+        CommandKind::SubjectAdd => subject_add(fields),
+        CommandKind::GroupAdd => group_add(fields),
+        CommandKind::GroupRename => group_rename(fields),
+        CommandKind::GroupMove => group_move(fields),
+        CommandKind::GroupDelete => group_delete(fields),
+        CommandKind::MemberAdd => member_add(fields),
+        CommandKind::MemberRemove => member_remove(fields),
+        CommandKind::MemberWindow => member_window(fields),
+        CommandKind::CompositeSet => composite_set(fields),
+        CommandKind::CompositeClear => composite_clear(fields),
+    }
+}
+
+fn made_query(kind: QueryKind, fields: VecDeque<Field>) -> Option<Query>
+    ensures { result ≡ made_query kind fields.items }
+{
+    match kind {
+        QueryKind::GroupGet => group_get(fields),
+        QueryKind::FolderList => folder_list(fields),
+        QueryKind::Members => members(fields),
+        QueryKind::Rows => rows(fields),
+    }
+}
+
+/// The command or the query that these fields make, if they do.
+pub fn made(kind: OpKind, fields: VecDeque<Field>) -> Option<Op>
+    ensures { result ≡ made kind fields.items }
+{
+    match kind {
+        OpKind::Command(kind) => match made_command(kind, fields) {
+            Some(command) => Some(Op::Command(command)),
+            None => None,
+        },
+        OpKind::Query(kind) => match made_query(kind, fields) {
+            Some(query) => Some(Op::Query(query)),
+            None => None,
+        },
+    }
+}

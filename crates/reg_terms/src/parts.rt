@@ -1,0 +1,178 @@
+// A command taken apart into its fields.
+ghost use Rattle.std.specs.Prelude.{◌≡◌};
+ghost use Rattle.reg_terms.specs.Parts.{seen_all};
+ghost use Rattle.reg_terms.specs.Table.{kind_of, fields_of};
+
+use crate::table::CommandKind;
+use crate::{Command, SetOp};
+use reg_base::{Entity, Moment, Name, Text};
+
+/// A field that stands in a command, or none.
+#[derive(Clone, Copy)]
+pub enum FieldRef<'a> {
+    Nothing,
+    Name(&'a Name),
+    Folder(&'a Text),
+    Extension(&'a Text),
+    Display(&'a Text),
+    Entity(&'a Entity),
+    OptionalMoment(Option<Moment>),
+    SetOp(SetOp),
+}
+
+/// Which command it is.
+pub fn kind_of(command: &Command) -> CommandKind
+    ensures { result ≡ kind_of command.now }
+{
+    match command {
+        Command::FolderAdd { .. } => CommandKind::FolderAdd,
+        Command::FolderRename { .. } => CommandKind::FolderRename,
+        Command::FolderMove { .. } => CommandKind::FolderMove,
+        Command::FolderDelete { .. } => CommandKind::FolderDelete,
+        Command::SubjectAdd { .. } => CommandKind::SubjectAdd,
+        Command::GroupAdd { .. } => CommandKind::GroupAdd,
+        Command::GroupRename { .. } => CommandKind::GroupRename,
+        Command::GroupMove { .. } => CommandKind::GroupMove,
+        Command::GroupDelete { .. } => CommandKind::GroupDelete,
+        Command::MemberAdd { .. } => CommandKind::MemberAdd,
+        Command::MemberRemove { .. } => CommandKind::MemberRemove,
+        Command::MemberWindow { .. } => CommandKind::MemberWindow,
+        Command::CompositeSet { .. } => CommandKind::CompositeSet,
+        Command::CompositeClear { .. } => CommandKind::CompositeClear,
+    }
+}
+
+/// The fields of a command, in order. It takes no memory.
+pub fn fields_of<'a>(command: &'a Command) -> [FieldRef<'a>; 6]
+    ensures { seen_all result ≡ fields_of command.now }
+{
+    match command {
+        Command::FolderAdd { folder, display } => [
+            FieldRef::Name(folder),
+            FieldRef::Display(display),
+            FieldRef::Nothing,
+            FieldRef::Nothing,
+            FieldRef::Nothing,
+            FieldRef::Nothing,
+        ],
+        Command::FolderRename { folder, extension } => [
+            FieldRef::Folder(folder),
+            FieldRef::Extension(extension),
+            FieldRef::Nothing,
+            FieldRef::Nothing,
+            FieldRef::Nothing,
+            FieldRef::Nothing,
+        ],
+        Command::FolderMove { folder, to } => [
+            FieldRef::Folder(folder),
+            FieldRef::Folder(to),
+            FieldRef::Nothing,
+            FieldRef::Nothing,
+            FieldRef::Nothing,
+            FieldRef::Nothing,
+        ],
+        Command::FolderDelete { folder } => [
+            FieldRef::Folder(folder),
+            FieldRef::Nothing,
+            FieldRef::Nothing,
+            FieldRef::Nothing,
+            FieldRef::Nothing,
+            FieldRef::Nothing,
+        ],
+        Command::SubjectAdd { subject, display } => [
+            FieldRef::Entity(subject),
+            FieldRef::Display(display),
+            FieldRef::Nothing,
+            FieldRef::Nothing,
+            FieldRef::Nothing,
+            FieldRef::Nothing,
+        ],
+        Command::GroupAdd { group, display } => [
+            FieldRef::Name(group),
+            FieldRef::Display(display),
+            FieldRef::Nothing,
+            FieldRef::Nothing,
+            FieldRef::Nothing,
+            FieldRef::Nothing,
+        ],
+        Command::GroupRename { group, extension } => [
+            FieldRef::Name(group),
+            FieldRef::Extension(extension),
+            FieldRef::Nothing,
+            FieldRef::Nothing,
+            FieldRef::Nothing,
+            FieldRef::Nothing,
+        ],
+        Command::GroupMove { group, to } => [
+            FieldRef::Name(group),
+            FieldRef::Folder(to),
+            FieldRef::Nothing,
+            FieldRef::Nothing,
+            FieldRef::Nothing,
+            FieldRef::Nothing,
+        ],
+        Command::GroupDelete { group } => [
+            FieldRef::Name(group),
+            FieldRef::Nothing,
+            FieldRef::Nothing,
+            FieldRef::Nothing,
+            FieldRef::Nothing,
+            FieldRef::Nothing,
+        ],
+        Command::MemberAdd {
+            group,
+            member,
+            from,
+            until,
+        } => [
+            FieldRef::Name(group),
+            FieldRef::Entity(member),
+            FieldRef::OptionalMoment(*from),
+            FieldRef::OptionalMoment(*until),
+            FieldRef::Nothing,
+            FieldRef::Nothing,
+        ],
+        Command::MemberRemove { group, member } => [
+            FieldRef::Name(group),
+            FieldRef::Entity(member),
+            FieldRef::Nothing,
+            FieldRef::Nothing,
+            FieldRef::Nothing,
+            FieldRef::Nothing,
+        ],
+        Command::MemberWindow {
+            group,
+            member,
+            from,
+            until,
+        } => [
+            FieldRef::Name(group),
+            FieldRef::Entity(member),
+            FieldRef::OptionalMoment(*from),
+            FieldRef::OptionalMoment(*until),
+            FieldRef::Nothing,
+            FieldRef::Nothing,
+        ],
+        Command::CompositeSet {
+            group,
+            kind,
+            left,
+            right,
+        } => [
+            FieldRef::Name(group),
+            FieldRef::SetOp(*kind),
+            FieldRef::Name(left),
+            FieldRef::Name(right),
+            FieldRef::Nothing,
+            FieldRef::Nothing,
+        ],
+        Command::CompositeClear { group } => [
+            FieldRef::Name(group),
+            FieldRef::Nothing,
+            FieldRef::Nothing,
+            FieldRef::Nothing,
+            FieldRef::Nothing,
+            FieldRef::Nothing,
+        ],
+    }
+}
