@@ -12,15 +12,33 @@ use std::os::unix::fs::FileExt;
 // The end of a write is below it.
 const END: u64 = 1 << 63;
 
-/// A file as a disk. It is opened at the first call, and made where it is absent. Its bytes aren't
-/// told. The count of faults begins at 0 and rises by one at each call that fails, and nowhere
-/// else. A sync is `fdatasync`.
+/// A file as a disk. It is opened at the first call, and made where it is absent. From then on until
+/// the disk is dropped it is locked (`flock`), so that one program at a time works on it: where
+/// another has it locked, every call fails. Its bytes aren't told. The count of faults begins at 0
+/// and rises by one at each call that fails, and nowhere else. A sync is `fdatasync`. The first one
+/// syncs the folder of the path too, so that a file that was just made is found after a crash.
 #[derive(Drop)]
 pub struct FileDisk<'a> {
     rt: &'a HostRuntime,
     path: &'a str,
     file: Option<File>,
+    is_listed: bool,
     faults: u64,
+}
+
+// The path of the folder in which a path names a file.
+fn folder_path(path: &str) -> &str {
+    match path.rsplit_once('/') {
+        None => ".",
+        Some(("", _)) => "/",
+        Some((folder, _)) => folder,
+    }
+}
+
+// Brings the folder's list of files to the medium.
+fn sync_folder(rt: &HostRuntime, path: &str) -> std::io::Result<()> {
+    let folder = OpenOptions::new().read(true).open(rt, folder_path(path))?;
+    folder.sync_all()
 }
 
 impl<'a> FileDisk<'a> {
@@ -33,11 +51,12 @@ impl<'a> FileDisk<'a> {
             rt,
             path,
             file: None,
+            is_listed: false,
             faults: 0,
         }
     }
 
-    // Opens the file at the first call.
+    // Opens and locks the file at the first call.
     fn open(&mut self) -> std::io::Result<()>
         ensures { self.new.faults ≡ self.old.faults }
     {
@@ -47,7 +66,24 @@ impl<'a> FileDisk<'a> {
                 .write(true)
                 .create(true)
                 .open(self.rt, self.path)?;
+            file.try_lock()?;
             self.file = Some(file);
+        }
+        Ok(())
+    }
+
+    // Brings the file to the medium, and at the first call its folder. Another program may have made
+    // the file and ended before its sync, so a file that was there already is no different.
+    fn bring(&mut self) -> std::io::Result<()>
+        ensures { self.new.faults ≡ self.old.faults }
+    {
+        self.open()?;
+        if let Some(file) = &self.file {
+            file.sync_data()?;
+        }
+        if !self.is_listed {
+            sync_folder(self.rt, self.path)?;
+            self.is_listed = true;
         }
         Ok(())
     }
@@ -135,11 +171,9 @@ impl<'a> Disk for FileDisk<'a> {
         ensures cause { HasCause (faults_of self.old) (faults_of self.new) result }
         ensures counted { CountsFaults self.old self.new result }
     {
-        if let (Ok(()), Some(file)) = (self.open(), &self.file) {
-            if file.sync_data().is_ok() {
-                return Ok(());
-            }
+        match self.bring() {
+            Ok(()) => Ok(()),
+            Err(_) => Err(self.fault()),
         }
-        Err(self.fault())
     }
 }
