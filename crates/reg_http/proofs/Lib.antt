@@ -1,0 +1,5 @@
+pub mod Lists
+pub mod Digits
+pub mod Room
+pub mod Windows
+pub mod Takings
