@@ -22,48 +22,57 @@ def words_of(pid):
         return file.read().decode(errors="replace").split("\0")
 
 
-def kind_of(pid, words):
+def kind_of(pid):
     """The crate that a process works on, and what for; None for a process of something else."""
+    words = words_of(pid)
     if "--crate-name" not in words:
         return None
     crate = words[words.index("--crate-name") + 1]
-    place = os.readlink("/proc/%s/cwd" % pid)
     if "--test" in words:
         return crate, "tests"
-    if "must" in place and "fail" in place or "edit" in place:
-        return crate, "edits"
-    return crate, "check"
+    return crate, "edits" if "rt-edit" in os.readlink("/proc/%s/cwd" % pid) else "check"
 
 
-def sample(root, used, most):
-    """Adds what the processes below `root` have used so far."""
-    below, parent = {root}, {}
-    pids = [pid for pid in os.listdir("/proc") if pid.isdigit()]
-    for pid in pids:
+def processes():
+    """Of each process its parent, its processor seconds so far and its memory."""
+    found = {}
+    for pid in os.listdir("/proc"):
+        if pid.isdigit():
+            try:
+                with open("/proc/%s/stat" % pid) as file:
+                    fields = file.read().rsplit(")", 1)[1].split()
+            except OSError:
+                continue
+            found[int(pid)] = (int(fields[1]), (int(fields[11]) + int(fields[12])) / tick, int(fields[21]) * 4096)
+    return found
+
+
+def sample(root, kinds, used, most):
+    """Adds what the processes below `root` have used so far; a process without a crate counts to its parent's."""
+    found = processes()
+
+    def kind(pid):
+        if pid in kinds or pid == root or pid not in found:
+            return kinds.get(pid)
         try:
-            with open("/proc/%s/stat" % pid) as file:
-                fields = file.read().rsplit(")", 1)[1].split()
+            own = kind_of(pid)
         except OSError:
-            continue
-        parent[int(pid)] = (int(fields[1]), (int(fields[11]) + int(fields[12])) / tick, int(fields[21]) * 4096)
-    grown = True
-    while grown:
-        grown = False
-        for pid, (above, _, _) in parent.items():
-            if above in below and pid not in below:
-                below.add(pid)
-                grown = True
-    for pid in below - {root}:
-        if pid not in parent:
-            continue
-        try:
-            kind = kind_of(pid, words_of(pid))
-        except OSError:
-            continue
-        if kind:
-            _, seconds, memory = parent[pid]
-            used[kind, pid] = max(used.get((kind, pid), 0), seconds)
-            most[kind[0]] = max(most[kind[0]], memory)
+            return None
+        above = own or kind(found[pid][0])
+        if above:
+            kinds[pid] = above
+        return above
+
+    def is_below(pid):
+        while pid in found and pid != root:
+            pid = found[pid][0]
+        return pid == root
+
+    for pid, (_, seconds, memory) in found.items():
+        what = kind(pid) if is_below(pid) else None
+        if what:
+            used[what, pid] = max(used.get((what, pid), 0), seconds)
+            most[what[0]] = max(most[what[0]], memory)
 
 
 def table(used, most):
@@ -94,9 +103,9 @@ def largest(crate):
 
 before = time.time()
 gate = subprocess.Popen(["rt", "ci", *names])
-used, most = {}, collections.defaultdict(int)
+kinds, used, most = {}, {}, collections.defaultdict(int)
 while gate.poll() is None:
-    sample(gate.pid, used, most)
+    sample(gate.pid, kinds, used, most)
     time.sleep(0.5)
 table(used, most)
 print("minutes            %.0f, on %d processors" % ((time.time() - before) / 60, os.cpu_count()))
