@@ -1,5 +1,5 @@
 -- What fields make, by their kinds; and op by op in one line each, that a command or query of them has them again.
-use Rattle.std.proofs.Common.{◌≡◌, ℕ, List, [], ◌∷◌, map, Option, refl, ap, subst, ◌∙◌}
+use Rattle.std.proofs.Common.{◌≡◌, ℕ, List, [], ◌∷◌, map, Option, refl, ap, subst, ◌∙◌, lit≤}
 use Rattle.reg_base.specs.declared.entity.Entity.{Entity}
 use Rattle.reg_terms.specs.declared.kinds.SetOp.{SetOp}
 use Rattle.reg_terms.specs.declared.command.Command.{Command}
@@ -107,20 +107,20 @@ query_makes query.Rows v = record { op = asked.Query (Rows _); made_so = refl; i
 
 pub command_apart : (c : Command) → IsApart c
 unfolding next_as
-command_apart (FolderAdd a b) = record { kinds = refl; again = refl; coded_so = refl }
-command_apart (FolderRename a b) = record { kinds = refl; again = refl; coded_so = refl }
-command_apart (FolderMove a b) = record { kinds = refl; again = refl; coded_so = refl }
-command_apart (FolderDelete a) = record { kinds = refl; again = refl; coded_so = refl }
-command_apart (SubjectAdd a b) = record { kinds = refl; again = refl; coded_so = refl }
-command_apart (GroupAdd a b) = record { kinds = refl; again = refl; coded_so = refl }
-command_apart (GroupRename a b) = record { kinds = refl; again = refl; coded_so = refl }
-command_apart (GroupMove a b) = record { kinds = refl; again = refl; coded_so = refl }
-command_apart (GroupDelete a) = record { kinds = refl; again = refl; coded_so = refl }
-command_apart (MemberAdd a b c d) = record { kinds = refl; again = refl; coded_so = refl }
-command_apart (MemberRemove a b) = record { kinds = refl; again = refl; coded_so = refl }
-command_apart (MemberWindow a b c d) = record { kinds = refl; again = refl; coded_so = refl }
-command_apart (CompositeSet a b c d) = record { kinds = refl; again = refl; coded_so = refl }
-command_apart (CompositeClear a) = record { kinds = refl; again = refl; coded_so = refl }
+command_apart (FolderAdd a b) = record { few = lit≤ tt; kinds = refl; again = refl; coded_so = refl }
+command_apart (FolderRename a b) = record { few = lit≤ tt; kinds = refl; again = refl; coded_so = refl }
+command_apart (FolderMove a b) = record { few = lit≤ tt; kinds = refl; again = refl; coded_so = refl }
+command_apart (FolderDelete a) = record { few = lit≤ tt; kinds = refl; again = refl; coded_so = refl }
+command_apart (SubjectAdd a b) = record { few = lit≤ tt; kinds = refl; again = refl; coded_so = refl }
+command_apart (GroupAdd a b) = record { few = lit≤ tt; kinds = refl; again = refl; coded_so = refl }
+command_apart (GroupRename a b) = record { few = lit≤ tt; kinds = refl; again = refl; coded_so = refl }
+command_apart (GroupMove a b) = record { few = lit≤ tt; kinds = refl; again = refl; coded_so = refl }
+command_apart (GroupDelete a) = record { few = lit≤ tt; kinds = refl; again = refl; coded_so = refl }
+command_apart (MemberAdd a b c d) = record { few = lit≤ tt; kinds = refl; again = refl; coded_so = refl }
+command_apart (MemberRemove a b) = record { few = lit≤ tt; kinds = refl; again = refl; coded_so = refl }
+command_apart (MemberWindow a b c d) = record { few = lit≤ tt; kinds = refl; again = refl; coded_so = refl }
+command_apart (CompositeSet a b c d) = record { few = lit≤ tt; kinds = refl; again = refl; coded_so = refl }
+command_apart (CompositeClear a) = record { few = lit≤ tt; kinds = refl; again = refl; coded_so = refl }
 
 -- ---- all ops
 

@@ -1,5 +1,5 @@
 -- The table of ops: each with its word, its code and its fields, and a command or query taken apart and made of them.
-use Rattle.std.specs.Prelude.{◌≡◌, ℕ, List, [], ◌∷◌, ◌==◌, if◌then◌else◌, Option, Some, None, option_map, codes, map}
+use Rattle.std.specs.Prelude.{◌≡◌, ◌≤◌, ℕ, List, [], ◌∷◌, ◌==◌, if◌then◌else◌, Option, Some, None, option_map, codes, map, length}
 use Rattle.std.specs.Str.{bytes_eq}
 use Rattle.reg_terms.specs.declared.command.Command.{Command}
 use Rattle.reg_terms.specs.declared.command.Command.TheVariants.{FolderAdd, FolderRename, FolderMove, FolderDelete, SubjectAdd, GroupAdd, GroupRename, GroupMove, GroupDelete, MemberAdd, MemberRemove, MemberWindow, CompositeSet, CompositeClear}
@@ -242,8 +242,9 @@ pub record IsMade (k : OpKind) (fields : List Field) : Type 0 where
   pub is_kind : op_kind op ≡ k
   pub has_these : op_fields op ≡ fields
 
--- a command's fields are of its row's kinds and make it again, and its code leads to its row
+-- a command's fields are of its row's kinds, at most six, and make it again, and its code leads to its row
 pub record IsApart (c : Command) : Type 0 where
+  pub few : length (fields_of c) ≤ 6
   pub kinds : map field_kind (fields_of c) ≡ field_kinds (command_row (kind_of c)).op
   pub again : made_command (kind_of c) (fields_of c) ≡ Some c
   pub coded_so : coded commands (code_of c) ≡ Some (kind_of c)

@@ -8,7 +8,7 @@ ghost use Rattle.reg_terms.specs.Parts.{field_kind};
 ghost use Rattle.reg_terms.specs.Table.{command_row, row_of, field_kinds, IsMadeCommand, IsMade, IsApart};
 
 /// Fields of the kinds that a command's row says make a command of these fields; and the fields of each
-/// command are of its row's kinds, make it again, and its code is that of no other.
+/// command are of its row's kinds, at most six, and make it again, and its code leads to its row.
 #[tactic(auto, using(crate::proofs::Makes::command_made))]
 pub fn law_commands()
     ensures made { (k : CommandKind) (fields : List Field) → map field_kind fields ≡ field_kinds (command_row k).op → IsMadeCommand k fields }

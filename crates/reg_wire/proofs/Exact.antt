@@ -9,10 +9,11 @@ use Rattle.std.proofs.lemmas.Nat.{le_bytes_2, le_bytes_8, from_le_bytes-to_le_by
 use Rattle.std.proofs.lemmas.Option.{cond_some, same_Some}
 use Rattle.reg_terms.specs.declared.kinds.SetOp.{SetOp}
 use Rattle.reg_terms.specs.declared.kinds.SetOp.TheVariants.{Intersection, Complement}
-use Rattle.reg_wire.specs.Steps.{◌>>=◌}
-use Rattle.reg_terms.specs.Forms.{is_optional_moment}
-use Rattle.reg_wire.specs.Fields.{is_moment, text_bytes, moment_bytes, optional_moment_bytes, kind_bytes}
-use Rattle.reg_wire.specs.Reading.{is_byte, number_at, text_at, tested_at, moment_at, optional_moment_at, kind_at}
+use Rattle.reg_terms.specs.Forms.{is_moment, is_optional_moment}
+use Rattle.reg_terms.specs.Limits.{max_moment}
+use Rattle.reg_terms.specs.Parts.{◌>>=◌}
+use Rattle.reg_wire.specs.Fields.{text_bytes, moment_bytes, optional_moment_bytes, set_op_bytes}
+use Rattle.reg_wire.specs.Reading.{is_byte, number_at, text_at, tested_at, moment_at, optional_moment_at, set_op_at}
 
 -- a reading takes exactly what is written
 pub record IsExact {A : Type 0} (write : A → List ℕ) (fits : A → Bool) (read : List ℕ → Option (A × List ℕ)) : Type 0 where
@@ -136,7 +137,7 @@ moment_exact = record {
       let g = cond_some (is_moment b.0.0) found x b.2 in
       subst (λ (y : ℕ × List ℕ). (bytes ≡ moment_bytes y.0 ++ y.1) × (is_moment y.0 ≡ true)) g.1 (n.0, g.0);
   again = λ moment rest good.
-      let upto : moment ≤ 253402300799999999 = leb-true _ _ good in
+      let upto : moment ≤ max_moment = leb-true _ _ good in
       rw (number_again w64 (2 ^ 64) wide64 moment rest (omega arith), good) refl;
 }
 
@@ -159,27 +160,27 @@ optional_again (Some moment) rest good = rw (moment_exact.again moment rest good
 pub optional_exact : IsExact optional_moment_bytes is_optional_moment optional_moment_at
 optional_exact = record { takes = optional_takes; again = optional_again }
 
--- ---- kinds of composites
+-- ---- how composites are made
 
--- every kind may be written
+-- every one may be written
 abbrev pub always : {A : Type 0} → A → Bool
 always _ = true
 
-abbrev IsKindRead : List ℕ → SetOp × List ℕ → Type 0
-IsKindRead bytes x = (bytes ≡ kind_bytes x.0 ++ x.1) × (always x.0 ≡ true)
+abbrev IsSetOpRead : List ℕ → SetOp × List ℕ → Type 0
+IsSetOpRead bytes x = (bytes ≡ set_op_bytes x.0 ++ x.1) × (always x.0 ≡ true)
 
-kind_takes : (bytes : List ℕ) (x : SetOp × List ℕ) → kind_at bytes ≡ Some x → IsKindRead bytes x
-unfolding kind_at
-kind_takes [] x e = absurd cc
-kind_takes (zero ∷ rest) x e = absurd cc
-kind_takes (suc zero ∷ rest) x e = subst (IsKindRead (1 ∷ rest)) (same_Some (Intersection, rest) x e) (refl, refl)
-kind_takes (suc (suc zero) ∷ rest) x e = subst (IsKindRead (2 ∷ rest)) (same_Some (Complement, rest) x e) (refl, refl)
-kind_takes (suc (suc (suc b)) ∷ rest) x e = absurd cc
+set_op_takes : (bytes : List ℕ) (x : SetOp × List ℕ) → set_op_at bytes ≡ Some x → IsSetOpRead bytes x
+unfolding set_op_at
+set_op_takes [] x e = absurd cc
+set_op_takes (zero ∷ rest) x e = absurd cc
+set_op_takes (suc zero ∷ rest) x e = subst (IsSetOpRead (1 ∷ rest)) (same_Some (Intersection, rest) x e) (refl, refl)
+set_op_takes (suc (suc zero) ∷ rest) x e = subst (IsSetOpRead (2 ∷ rest)) (same_Some (Complement, rest) x e) (refl, refl)
+set_op_takes (suc (suc (suc b)) ∷ rest) x e = absurd cc
 
-kind_again : (kind : SetOp) (rest : List ℕ) → always kind ≡ true → kind_at (kind_bytes kind ++ rest) ≡ Some (kind, rest)
-unfolding kind_at
-kind_again Intersection rest good = refl
-kind_again Complement rest good = refl
+set_op_again : (kind : SetOp) (rest : List ℕ) → always kind ≡ true → set_op_at (set_op_bytes kind ++ rest) ≡ Some (kind, rest)
+unfolding set_op_at
+set_op_again Intersection rest good = refl
+set_op_again Complement rest good = refl
 
-pub kind_exact : IsExact kind_bytes always kind_at
-kind_exact = record { takes = kind_takes; again = kind_again }
+pub set_op_exact : IsExact set_op_bytes always set_op_at
+set_op_exact = record { takes = set_op_takes; again = set_op_again }

@@ -1,6 +1,6 @@
-pub mod Texts
-pub mod Exact
-pub mod Entities
-pub mod Rows
+mod Exact
+mod Texts
+mod Entities
+mod Lists
+mod Commands
 pub mod Payloads
-pub mod Writables

@@ -2,4 +2,3 @@ pub mod Steps
 pub mod Fields
 pub mod Reading
 pub mod Payload
-pub mod Formed

@@ -1,4 +1,4 @@
--- Reading the fields of a payload from the front: each reading gives a value and the bytes after it, or nothing.
+-- Reading the fields of a payload from the front, and a command by the kinds of its fields: each reading gives a value and the bytes after it, or nothing.
 use Rattle.std.specs.Prelude.{ℕ, zero, suc, List, [], ◌∷◌, Bool, ◌&&◌, nat_le, nat_lt, if◌then◌else◌, length, take, drop, Option, Some, None}
 use Rattle.std.specs.List.{list_all}
 use Rattle.std.specs.Int.{Width, w16, w64, byte_len, from_le_bytes}
@@ -7,8 +7,15 @@ use Rattle.reg_base.specs.Entities.{entity_of}
 use Rattle.reg_base.specs.declared.entity.Entity.{Entity}
 use Rattle.reg_terms.specs.declared.kinds.SetOp.{SetOp}
 use Rattle.reg_terms.specs.declared.kinds.SetOp.TheVariants.{Intersection, Complement}
-use Rattle.reg_wire.specs.Steps.{◌>>=◌}
-use Rattle.reg_wire.specs.Fields.{is_folder, is_display, is_moment}
+use Rattle.reg_terms.specs.declared.command.Command.{Command}
+use Rattle.reg_terms.specs.declared.table.CommandKind.{CommandKind}
+use Rattle.reg_terms.specs.declared.field.FieldKind.{FieldKind}
+use Rattle.reg_terms.specs.declared.field.FieldKind.TheVariants as kind
+use Rattle.reg_terms.specs.declared.field.Field.{Field}
+use Rattle.reg_terms.specs.declared.field.Field.TheVariants as field
+use Rattle.reg_terms.specs.Forms.{is_folder_text, is_display, is_moment}
+use Rattle.reg_terms.specs.Parts.{◌>>=◌}
+use Rattle.reg_terms.specs.Table.{command_row, field_kinds, commands, coded, made_command}
 
 -- a byte is a number below 256
 abbrev pub is_byte : ℕ → Bool
@@ -43,7 +50,7 @@ name_at bytes = tested_at is_name bytes
 
 -- a folder's name, or `:` for the root
 abbrev pub folder_at : List ℕ → Option (List ℕ × List ℕ)
-folder_at bytes = tested_at is_folder bytes
+folder_at bytes = tested_at is_folder_text bytes
 
 -- an extension
 abbrev pub extension_at : List ℕ → Option (List ℕ × List ℕ)
@@ -76,9 +83,49 @@ optional_moment_at (suc zero ∷ rest) = do
 optional_moment_at (suc (suc b) ∷ rest) = None
 
 -- the kind of a composite: 1 for an intersection, 2 for a complement
-unfoldable pub kind_at : List ℕ → Option (SetOp × List ℕ)
-kind_at [] = None
-kind_at (zero ∷ rest) = None
-kind_at (suc zero ∷ rest) = Some (Intersection, rest)
-kind_at (suc (suc zero) ∷ rest) = Some (Complement, rest)
-kind_at (suc (suc (suc b)) ∷ rest) = None
+unfoldable pub set_op_at : List ℕ → Option (SetOp × List ℕ)
+set_op_at [] = None
+set_op_at (zero ∷ rest) = None
+set_op_at (suc zero ∷ rest) = Some (Intersection, rest)
+set_op_at (suc (suc zero) ∷ rest) = Some (Complement, rest)
+set_op_at (suc (suc (suc b)) ∷ rest) = None
+
+-- ---- by the kinds of fields
+
+-- a value that was read, as a field
+abbrev pub stands : {A : Type 0} → (A → Field) → Option (A × List ℕ) → Option (Field × List ℕ)
+stands as_a found = do
+  value ← found
+  Some (as_a value.0, value.1)
+
+-- a field of a kind
+abbrev pub field_at : FieldKind → List ℕ → Option (Field × List ℕ)
+field_at kind.Name bytes = stands (λ v. field.Name v) (name_at bytes)
+field_at kind.Folder bytes = stands (λ v. field.Folder v) (folder_at bytes)
+field_at kind.Extension bytes = stands (λ v. field.Extension v) (extension_at bytes)
+field_at kind.Display bytes = stands (λ v. field.Display v) (display_at bytes)
+field_at kind.Entity bytes = stands (λ v. field.Entity v) (entity_at bytes)
+field_at kind.OptionalMoment bytes = stands (λ v. field.OptionalMoment v) (optional_moment_at bytes)
+field_at kind.SetOp bytes = stands (λ v. field.SetOp v) (set_op_at bytes)
+
+-- fields of so many kinds
+abbrev pub fields_at : List FieldKind → List ℕ → Option (List Field × List ℕ)
+fields_at [] bytes = Some ([], bytes)
+fields_at (k ∷ ks) bytes = do
+  first ← field_at k bytes
+  others ← fields_at ks first.1
+  Some (first.0 ∷ others.0, others.1)
+
+-- the fields of a command
+unfoldable pub command_at : CommandKind → List ℕ → Option (Command × List ℕ)
+command_at k bytes = do
+  fields ← fields_at (field_kinds (command_row k).op) bytes
+  command ← made_command k fields.0
+  Some (command, fields.1)
+
+-- a command: its code, and its fields
+unfoldable pub command_of : List ℕ → Option (Command × List ℕ)
+command_of bytes = do
+  code ← byte_at bytes
+  k ← coded commands code.0
+  command_at k code.1

@@ -1,12 +1,7 @@
 -- Reading in steps, of which each may find that the bytes are no payload.
-use Rattle.std.specs.Prelude.{◌≡◌, Option, Some, None, option_and_then, Result, Ok, Err}
+use Rattle.std.specs.Prelude.{◌≡◌, Option, Some, None, Result, Ok, Err}
 use Rattle.reg_wire.specs.declared.fault.ReadFault.{ReadFault}
 use Rattle.reg_wire.specs.declared.fault.ReadFault.TheVariants.{Memory, Malformed}
-
--- the next step, at what the step before gave
-infixl 10 ◌>>=◌
-abbrev pub ◌>>=◌ : {A B : Type 0} → Option A → (A → Option B) → Option B
-o >>= f = option_and_then f o
 
 -- the reading comes to nothing, unless memory ran out
 abbrev pub Fails : {Y : Type 0} → ReadFault → Option Y → Type 0

@@ -4,11 +4,11 @@ ghost use Rattle.reg_wire.specs.Steps.{Gives};
 ghost use Rattle.reg_wire.specs.Payload.{payload, stamped_at, stamped_of, IsWritable};
 ghost use Rattle.reg_terms.specs.declared.command.Stamped.{Stamped};
 
-use crate::commands::command_at;
 use crate::fault::ReadFault;
-use crate::fields::{byte_at, entity_at, moment_at};
+use crate::fields::{entity_at, moment_at};
+use crate::reading::command_of;
 use reg_base::Moment;
-use reg_terms::Stamped;
+use reg_terms::{Stamped, law_commands};
 use std::alloc::{AllocError, Global};
 
 #[tactic(auto, unfolding(crate::specs::Payload::stamped_at))]
@@ -16,8 +16,7 @@ fn stamped_at(alloc: Global, at: Moment, bytes: &[u8]) -> Result<Stamped, ReadFa
     ensures { Gives (λ stamped. stamped) result (stamped_at at bytes.now) }
 {
     let (by, rest) = entity_at(alloc, bytes)?;
-    let (code, rest) = byte_at(rest)?;
-    let (command, rest) = command_at(alloc, code, rest)?;
+    let (command, rest) = command_of(alloc, rest)?;
     if !rest.is_empty() {
         return Err(ReadFault::Malformed);
     }
@@ -43,6 +42,7 @@ pub fn decode(alloc: Global, bytes: &[u8]) -> Result<Option<Stamped>, AllocError
     ensures found { IfOk result (λ found. IfSome found (λ stamped. IsWritable stamped × (payload stamped ≡ bytes.now))) }
     ensures none { IfOk result (λ found. IfNone found ((stamped : Stamped) → IsWritable stamped → payload stamped ≡ bytes.now → ⊥)) }
 {
+    law_commands();
     match stamped_of(alloc, bytes) {
         Ok(stamped) => Ok(Some(stamped)),
         Err(ReadFault::Malformed) => Ok(None),

@@ -1,13 +1,15 @@
 // The payloads of stamped commands.
 ghost use Rattle.std.specs.Prelude.{◌≡◌, ◌++◌, ◌<◌, ◌^◌, true, codes, length, IfOk, OnOk};
-ghost use Rattle.std.specs.List.{flat_map};
-ghost use Rattle.reg_base.specs.Names.{is_extension};
-ghost use Rattle.reg_wire.specs.Fields.{is_display, is_entity, is_folder, entity_text, field_bytes, text_bytes, moment_bytes, optional_moment_bytes, kind_bytes};
-ghost use Rattle.reg_wire.specs.Payload.{fields_of, is_writable_command, payload, IsWritable};
+ghost use Rattle.std.specs.List.{flat_map, list_all};
+ghost use Rattle.reg_terms.specs.Forms.{is_entity, is_field, has_form};
+ghost use Rattle.reg_terms.specs.Parts.{seen, seen_all};
+ghost use Rattle.reg_terms.specs.Table.{code_of};
+ghost use Rattle.reg_wire.specs.Fields.{entity_text, field_bytes, text_bytes, moment_bytes, optional_moment_bytes, set_op_bytes};
+ghost use Rattle.reg_wire.specs.Payload.{fields_bytes, command_bytes, payload, IsWritable};
 
-use crate::codes::{COMPLEMENT, INTERSECTION, code_of};
-use reg_base::{Entity, Moment, Name, Text};
-use reg_terms::{Command, SetOp, Stamped};
+use crate::fields::{COMPLEMENT, INTERSECTION};
+use reg_base::{Entity, Moment, Name};
+use reg_terms::{Command, FieldRef, SetOp, Stamped, command_row, fields_of, kind_of, law_commands};
 use std::alloc::{AllocError, Global};
 
 fn put_text(out: &mut Vec<u8>, text: &[u8]) -> Result<(), AllocError>
@@ -16,13 +18,6 @@ fn put_text(out: &mut Vec<u8>, text: &[u8]) -> Result<(), AllocError>
 {
     out.extend_from_slice(&(text.len() as u16).to_le_bytes())?;
     out.extend_from_slice(text)
-}
-
-#[tactic(auto, using(crate::proofs::Texts::name_short))]
-fn put_name(out: &mut Vec<u8>, name: &Name) -> Result<(), AllocError>
-    ensures { OnOk result (out.new.items ≡ out.old.items ++ text_bytes name.now) }
-{
-    put_text(out, name.bytes())
 }
 
 #[tactic(auto, using(crate::proofs::Texts::name_short))]
@@ -69,32 +64,8 @@ fn put_optional_moment(out: &mut Vec<u8>, moment: Option<Moment>) -> Result<(), 
     }
 }
 
-#[tactic(auto, using(crate::proofs::Texts::folder_short))]
-fn put_folder(out: &mut Vec<u8>, folder: &Text) -> Result<(), AllocError>
-    requires { is_folder folder.now ≡ true }
-    ensures { OnOk result (out.new.items ≡ out.old.items ++ text_bytes folder.now) }
-{
-    put_text(out, folder.bytes())
-}
-
-#[tactic(auto, using(crate::proofs::Texts::extension_short))]
-fn put_extension(out: &mut Vec<u8>, extension: &Text) -> Result<(), AllocError>
-    requires { is_extension extension.now ≡ true }
-    ensures { OnOk result (out.new.items ≡ out.old.items ++ text_bytes extension.now) }
-{
-    put_text(out, extension.bytes())
-}
-
-#[tactic(auto, using(crate::proofs::Texts::display_short))]
-fn put_display(out: &mut Vec<u8>, display: &Text) -> Result<(), AllocError>
-    requires { is_display display.now ≡ true }
-    ensures { OnOk result (out.new.items ≡ out.old.items ++ text_bytes display.now) }
-{
-    put_text(out, display.bytes())
-}
-
-fn put_kind(out: &mut Vec<u8>, kind: SetOp) -> Result<(), AllocError>
-    ensures { OnOk result (out.new.items ≡ out.old.items ++ kind_bytes kind) }
+fn put_set_op(out: &mut Vec<u8>, kind: SetOp) -> Result<(), AllocError>
+    ensures { OnOk result (out.new.items ≡ out.old.items ++ set_op_bytes kind) }
 {
     out.push(match kind {
         SetOp::Intersection => INTERSECTION,
@@ -103,105 +74,63 @@ fn put_kind(out: &mut Vec<u8>, kind: SetOp) -> Result<(), AllocError>
     Ok(())
 }
 
-fn put_named(out: &mut Vec<u8>, name: &Name, display: &Text) -> Result<(), AllocError>
-    requires { is_display display.now ≡ true }
-    ensures { OnOk result (out.new.items ≡ out.old.items ++ (text_bytes name.now ++ text_bytes display.now)) }
+#[tactic(auto, using(crate::proofs::Texts::name_short, crate::proofs::Texts::folder_short, crate::proofs::Texts::extension_short, crate::proofs::Texts::display_short))]
+fn put_field(out: &mut Vec<u8>, field: &FieldRef<'_>) -> Result<(), AllocError>
+    requires { list_all is_field (seen field.now) ≡ true }
+    ensures { OnOk result (out.new.items ≡ out.old.items ++ flat_map field_bytes (seen field.now)) }
 {
-    put_name(out, name)?;
-    put_display(out, display)
-}
-
-fn put_member(out: &mut Vec<u8>, group: &Name, member: &Entity) -> Result<(), AllocError>
-    requires { is_entity member.now ≡ true }
-    ensures { OnOk result (out.new.items ≡ out.old.items ++ (text_bytes group.now ++ text_bytes (entity_text member.now))) }
-{
-    put_name(out, group)?;
-    put_entity(out, member)
-}
-
-fn put_membership(
-    out: &mut Vec<u8>,
-    group: &Name,
-    member: &Entity,
-    from: Option<Moment>,
-    until: Option<Moment>,
-) -> Result<(), AllocError>
-    requires { is_entity member.now ≡ true }
-    ensures { OnOk result (out.new.items ≡ out.old.items ++ (text_bytes group.now ++ (text_bytes (entity_text member.now) ++ (optional_moment_bytes from ++ optional_moment_bytes until)))) }
-{
-    put_member(out, group, member)?;
-    put_optional_moment(out, from)?;
-    put_optional_moment(out, until)
-}
-
-fn put_composite(
-    out: &mut Vec<u8>,
-    group: &Name,
-    kind: SetOp,
-    left: &Name,
-    right: &Name,
-) -> Result<(), AllocError>
-    ensures { OnOk result (out.new.items ≡ out.old.items ++ (text_bytes group.now ++ (kind_bytes kind ++ (text_bytes left.now ++ text_bytes right.now)))) }
-{
-    put_name(out, group)?;
-    put_kind(out, kind)?;
-    put_name(out, left)?;
-    put_name(out, right)
-}
-
-#[tactic(auto, unfolding(crate::specs::Payload::is_writable_command))]
-fn put_fields(out: &mut Vec<u8>, command: &Command) -> Result<(), AllocError>
-    requires { is_writable_command command.now ≡ true }
-    ensures { OnOk result (out.new.items ≡ out.old.items ++ flat_map field_bytes (fields_of command.now)) }
-{
-    match command {
-        Command::FolderAdd { folder, display } => put_named(out, folder, display),
-        Command::FolderRename { folder, extension } => {
-            put_folder(out, folder)?;
-            put_extension(out, extension)
-        }
-        Command::FolderMove { folder, to } => {
-            put_folder(out, folder)?;
-            put_folder(out, to)
-        }
-        Command::FolderDelete { folder } => put_folder(out, folder),
-        Command::SubjectAdd { subject, display } => {
-            put_entity(out, subject)?;
-            put_display(out, display)
-        }
-        Command::GroupAdd { group, display } => put_named(out, group, display),
-        Command::GroupRename { group, extension } => {
-            put_name(out, group)?;
-            put_extension(out, extension)
-        }
-        Command::GroupMove { group, to } => {
-            put_name(out, group)?;
-            put_folder(out, to)
-        }
-        Command::GroupDelete { group } | Command::CompositeClear { group } => put_name(out, group),
-        Command::MemberAdd {
-            group,
-            member,
-            from,
-            until,
-        }
-        | Command::MemberWindow {
-            group,
-            member,
-            from,
-            until,
-        } => put_membership(out, group, member, *from, *until),
-        Command::MemberRemove { group, member } => put_member(out, group, member),
-        Command::CompositeSet {
-            group,
-            kind,
-            left,
-            right,
-        } => put_composite(out, group, *kind, left, right),
+    match field {
+        FieldRef::Nothing => Ok(()),
+        FieldRef::Name(name) => put_text(out, name.bytes()),
+        FieldRef::Folder(text) | FieldRef::Extension(text) | FieldRef::Display(text) => put_text(
+            out,
+            text.bytes(),
+        ),
+        FieldRef::Entity(entity) => put_entity(out, entity),
+        FieldRef::OptionalMoment(moment) => put_optional_moment(out, *moment),
+        FieldRef::SetOp(kind) => put_set_op(out, *kind),
     }
 }
 
-#[tactic(auto, unfolding(crate::specs::Payload::payload, crate::specs::Payload::command_bytes, crate::specs::Payload::is_writable))]
+#[tactic(auto, using(crate::proofs::Lists::seen_bytes, crate::proofs::Lists::seen_fit))]
+fn put_fields(out: &mut Vec<u8>, fields: &[FieldRef<'_>]) -> Result<(), AllocError>
+    requires { list_all is_field (seen_all fields.now) ≡ true }
+    ensures { OnOk result (out.new.items ≡ out.old.items ++ flat_map field_bytes (seen_all fields.now)) }
+{
+    match fields {
+        [] => Ok(()),
+        [field, rest @ ..] => {
+            put_field(out, field)?;
+            put_fields(out, rest)
+        }
+    }
+}
+
+fn code_of(command: &Command) -> u8
+    ensures { result ≡ code_of command.now }
+{
+    command_row(kind_of(command)).code
+}
+
+#[tactic(auto, unfolding(reg_terms::specs::Forms::has_form, crate::specs::Payload::fields_bytes))]
+fn put_fields_of(out: &mut Vec<u8>, command: &Command) -> Result<(), AllocError>
+    requires { has_form command.now ≡ true }
+    ensures { OnOk result (out.new.items ≡ out.old.items ++ fields_bytes command.now) }
+{
+    let fields = fields_of(command);
+    put_fields(out, &fields)
+}
+
+#[tactic(auto, unfolding(crate::specs::Payload::command_bytes))]
+fn put_command(out: &mut Vec<u8>, command: &Command) -> Result<(), AllocError>
+    requires { has_form command.now ≡ true }
+    ensures { OnOk result (out.new.items ≡ out.old.items ++ command_bytes command.now) }
+{
+    out.push(code_of(command))?;
+    put_fields_of(out, command)
+}
+
+#[tactic(auto, unfolding(crate::specs::Payload::payload))]
 fn payload(alloc: Global, stamped: &Stamped) -> Result<Vec<u8>, AllocError>
     requires { IsWritable stamped.now }
     ensures { IfOk result (λ v. v.items ≡ payload stamped.now) }
@@ -209,8 +138,7 @@ fn payload(alloc: Global, stamped: &Stamped) -> Result<Vec<u8>, AllocError>
     let mut out = Vec::new(alloc);
     put_moment(&mut out, stamped.at)?;
     put_entity(&mut out, &stamped.by)?;
-    out.push(code_of(&stamped.command))?;
-    put_fields(&mut out, &stamped.command)?;
+    put_command(&mut out, &stamped.command)?;
     Ok(out)
 }
 
@@ -222,5 +150,6 @@ pub fn encode(alloc: Global, stamped: &Stamped) -> Result<Vec<u8>, AllocError>
     ensures value { IfOk result (λ v. v.items ≡ payload stamped.now) }
     ensures short { IfOk result (λ v. length v.items < 2 ^ 32) }
 {
+    law_commands();
     payload(alloc, stamped)
 }

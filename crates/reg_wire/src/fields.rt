@@ -1,15 +1,19 @@
 // Reading the fields of a payload from the front: each function gives a value and the bytes after it.
-ghost use Rattle.std.specs.Prelude.{◌≡◌, ◌||◌};
+ghost use Rattle.std.specs.Prelude.{◌≡◌};
 ghost use Rattle.std.specs.Int.{w16, w64};
 ghost use Rattle.reg_wire.specs.Steps.{Gives};
-ghost use Rattle.reg_wire.specs.Fields.{is_folder};
-ghost use Rattle.reg_wire.specs.Reading.{byte_at, number_at, text_at, name_at, folder_at, extension_at, display_at, entity_at, moment_at, optional_moment_at, kind_at};
+ghost use Rattle.reg_wire.specs.Reading.{byte_at, number_at, text_at, name_at, folder_at, extension_at, display_at, entity_at, moment_at, optional_moment_at, set_op_at};
 
-use crate::codes::{COMPLEMENT, INTERSECTION};
 use crate::fault::ReadFault;
-use reg_base::{Entity, Moment, Name, Text, is_extension, is_name};
-use reg_terms::SetOp;
+use reg_base::{Entity, Moment, Name, Text, is_extension};
+use reg_terms::{MAX_DISPLAY, SetOp, is_folder_text};
 use std::alloc::Global;
+
+// how composites are made, one byte each
+
+pub const INTERSECTION: u8 = 1;
+
+pub const COMPLEMENT: u8 = 2;
 
 /// One byte.
 pub fn byte_at(bytes: &[u8]) -> Result<(u8, &[u8]), ReadFault>
@@ -71,20 +75,13 @@ pub fn name_at(alloc: Global, bytes: &[u8]) -> Result<(Name, &[u8]), ReadFault>
     }
 }
 
-/// Whether the text is the name of a folder, or `:` for the root.
-pub fn is_folder(text: &[u8]) -> bool
-    ensures { result ≡ is_folder text.now }
-{
-    is_name(text) || text == b":".as_slice()
-}
-
 /// The name of a folder, or `:` for the root.
 #[tactic(auto, using(crate::proofs::Texts::folder_utf8), unfolding(crate::specs::Reading::tested_at))]
 pub fn folder_at(alloc: Global, bytes: &[u8]) -> Result<(Text, &[u8]), ReadFault>
     ensures { Gives (λ x. (x.0, x.1.now)) result (folder_at bytes.now) }
 {
     let (text, rest) = text_at(bytes)?;
-    if !is_folder(text) {
+    if !is_folder_text(text) {
         return Err(ReadFault::Malformed);
     }
     match Text::of(alloc, text)? {
@@ -116,7 +113,7 @@ pub fn display_at(alloc: Global, bytes: &[u8]) -> Result<(Text, &[u8]), ReadFaul
     ensures { Gives (λ x. (x.0, x.1.now)) result (display_at bytes.now) }
 {
     let (text, rest) = text_at(bytes)?;
-    if text.len() > 255 {
+    if text.len() > MAX_DISPLAY {
         return Err(ReadFault::Malformed);
     }
     match Text::of(alloc, text)? {
@@ -166,9 +163,9 @@ pub fn optional_moment_at(bytes: &[u8]) -> Result<(Option<Moment>, &[u8]), ReadF
 }
 
 /// The kind of a composite.
-#[tactic(auto, unfolding(crate::specs::Reading::kind_at))]
-pub fn kind_at(bytes: &[u8]) -> Result<(SetOp, &[u8]), ReadFault>
-    ensures { Gives (λ x. (x.0, x.1.now)) result (kind_at bytes.now) }
+#[tactic(auto, unfolding(crate::specs::Reading::set_op_at))]
+pub fn set_op_at(bytes: &[u8]) -> Result<(SetOp, &[u8]), ReadFault>
+    ensures { Gives (λ x. (x.0, x.1.now)) result (set_op_at bytes.now) }
 {
     match bytes {
         [INTERSECTION, rest @ ..] => Ok((SetOp::Intersection, rest)),

@@ -5,21 +5,15 @@
 //! composite is 1 for an intersection and 2 for a complement.
 #![tactic(auto)]
 
-mod codes;
-mod commands;
 mod decoding;
 mod encoding;
 mod fault;
 mod fields;
 mod laws;
+mod reading;
 mod writable;
 
 pub use decoding::decode;
 pub use encoding::encode;
-pub use laws::{
-    payload_is_short, payload_reads_back, read_is_payload, texts_are_utf8, writable_is_formed,
-};
+pub use laws::{payload_is_short, payload_reads_back, read_is_payload};
 pub use writable::is_writable;
-
-#[cfg(test)]
-mod tests;
