@@ -3,3 +3,5 @@ pub mod Digits
 pub mod Room
 pub mod Windows
 pub mod Takings
+pub mod Excluding
+pub mod Cutting

@@ -5,3 +5,5 @@ pub mod Messages
 pub mod Fronts
 pub mod Turns
 pub mod Holding
+pub mod Runs
+pub mod Responses

@@ -4,7 +4,11 @@
 mod call;
 mod fields;
 mod head;
+mod laws;
 mod reader;
+mod response;
 
 pub use call::{Call, HeadFault, Turn};
+pub use laws::{cutting_changes_no_turn, turns_are_of_all_bytes, turns_exclude_each_other};
 pub use reader::HttpReader;
+pub use response::write_response;
