@@ -8,7 +8,8 @@ use Rattle.serde_json.specs.Read.{read}
 use Rattle.serde_json.specs.Find.{as_object}
 use Rattle.reg_terms.specs.declared.refusal.Refusal.{Refusal}
 use Rattle.reg_terms.specs.declared.refusal.Refusal.TheVariants.{BadRequest, TooLong}
-use Rattle.reg_json.specs.Reading.{max_line, data_of, object_of, reading_of}
+use Rattle.reg_terms.specs.Limits.{max_line}
+use Rattle.reg_json.specs.Reading.{data_of, object_of, reading_of}
 
 object_ok : (d : Data) → is_some (as_object d) ≡ true → object_of (Some d) ≡ Ok d
 object_ok d = elim (as_object d) as (λ o. is_some o ≡ true → (elim o as (λ _. Result Data Refusal) [ None ↦ Err (BadRequest []) | Some ms ↦ Ok d ]) ≡ Ok d) [ None ↦ λ e. cc | Some ms ↦ λ e. refl ]

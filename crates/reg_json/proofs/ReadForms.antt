@@ -1,28 +1,33 @@
 -- What is read has its form.
-use Rattle.std.proofs.Common.{◌≡◌, ◌≤◌, ℕ, List, Bool, true, false, ◌&&◌, Option, Some, None, Result, Ok, Err, IfOk, IfSome, refl, codes, cond, ok_or, option_map, drop, nat_eq}
-use Rattle.std.specs.List.{starts_with}
-use Rattle.std.specs.Str.{bytes_eq}
-use Rattle.std.proofs.lemmas.Bool.{le-leb}
-use Rattle.serde_json.specs.Data.{Data, Members}
-use Rattle.serde_json.specs.Find.{get}
+use Rattle.std.proofs.Common.{◌≡◌, ◌≤◌, ℕ, List, [], ◌∷◌, Bool, true, false, length, map, Option, Some, None, Result, Ok, Err, IfOk, IfSome, refl, sym, ap, subst, ◌∙◌, codes, cond, ok_or, option_map, drop, nat_eq}
+use Rattle.std.specs.List.{list_all, starts_with}
+use Rattle.std.specs.Str.{IsUtf8, bytes_eq}
+use Rattle.std.proofs.lemmas.Bool.{and_from, le-leb}
+use Rattle.std.proofs.lemmas.Str.{is_utf8-from_IsUtf8}
+use Rattle.serde_json.specs.Data.{Data}
+use Rattle.serde_json.specs.Find.{get, as_object}
 use Rattle.reg_base.specs.Names.{is_extension, is_name, is_person, name_of}
 use Rattle.reg_base.specs.Entities.{entity_of}
 use Rattle.reg_base.specs.MomentText.{moment_of}
 use Rattle.reg_base.specs.declared.entity.Entity.TheVariants.{Person, Group}
-use Rattle.reg_terms.specs.Limits.{max_moment}
-use Rattle.reg_terms.specs.Forms.{is_display, is_entity, is_folder_text, is_optional_moment}
-use Rattle.reg_terms.specs.declared.kinds.SetOp.{SetOp}
+use Rattle.reg_terms.specs.Limits.{max_display, max_moment}
+use Rattle.reg_terms.specs.Forms.{is_display, is_entity, is_folder_text, is_optional_moment, is_field, has_form, query_has_form, op_has_form}
+use Rattle.reg_terms.specs.Parts.{field_kind}
+use Rattle.reg_terms.specs.Table.{row_of, field_kinds, made, op_fields, IsMade}
+use Rattle.reg_terms.specs.declared.field.FieldKind.{FieldKind}
+use Rattle.reg_terms.specs.declared.field.FieldKind.TheVariants as kind
+use Rattle.reg_terms.specs.declared.field.Field.{Field}
+use Rattle.reg_terms.specs.declared.table.OpKind.{OpKind}
 use Rattle.reg_terms.specs.declared.refusal.Refusal.{Refusal}
 use Rattle.reg_terms.specs.declared.refusal.Refusal.TheVariants.{BadMoment, BadName, BadRequest}
+use Rattle.reg_terms.specs.declared.request.Op.{Op}
+use Rattle.reg_terms.specs.declared.request.Op.TheVariants as asked
 use Rattle.reg_terms.specs.declared.request.Request.{Request}
-use Rattle.reg_json.specs.declared.op_kind.OpKind.{OpKind}
-use Rattle.reg_json.specs.declared.op_kind.OpKind.TheVariants as kind
 use Rattle.reg_json.specs.Steps.{◌>>=◌, ensured}
-use Rattle.reg_json.specs.Fields.{text_at, text_or_empty, optional_text_at, no_other, display_at, kind_at, name_from, folder_from, extension_from, entity_from, moment_from}
-use Rattle.reg_json.specs.Ops.{folder_add, folder_rename, folder_move, folder_delete, subject_add, group_add, group_rename, group_move, group_delete, membership_at, member_add, member_remove, member_window, composite_set, composite_clear, group_get, folder_list, members, rows}
-use Rattle.reg_json.specs.Reading.{data_of, kind_of, known_kind, op_of, reading_of}
+use Rattle.reg_json.specs.Fields.{text_at, text_or_empty, optional_text_at, known_keys, no_other, display_at, set_op_at, name_from, folder_from, extension_from, entity_from, moment_from}
+use Rattle.reg_json.specs.Ops.{form_at, all_stand, all_forms, fields_in, asked_in}
+use Rattle.reg_json.specs.Reading.{data_of, known_kind, reading_of}
 use Rattle.reg_json.specs.Forms.{IsFormed, ReadForm}
-use Rattle.reg_json.specs.declared.membership.Membership.{Membership}
 use Rattle.reg_json.proofs.Moments.{read_within}
 use Rattle.reg_json.proofs.Options.{some_tested, either}
 
@@ -40,34 +45,29 @@ pass : {A B : Type 0} {Q : B → Type 0} {f : A → Result B Refusal} (m : Resul
 pass (Ok x) g = g x
 pass (Err e) g = record { kept = tt }
 
--- a step that reads a field's text, whose arguments can be left out, as of the next three
+-- a step that reads a field's text, whose arguments can be left out, as of the next
 pass_text : {B : Type 0} {Q : B → Type 0} {f : List ℕ → Result B Refusal} (key : List ℕ) (d : Data) → ((x : List ℕ) → Keeps Q (f x)) → Keeps Q (text_at key d >>= f)
 pass_text key d g = pass (text_at key d) g
 
 pass_optional : {B : Type 0} {Q : B → Type 0} {f : Option (List ℕ) → Result B Refusal} (key : List ℕ) (d : Data) → ((x : Option (List ℕ)) → Keeps Q (f x)) → Keeps Q (optional_text_at key d >>= f)
 pass_optional key d g = pass (optional_text_at key d) g
 
-pass_kind : {B : Type 0} {Q : B → Type 0} {f : SetOp → Result B Refusal} (d : Data) → ((x : SetOp) → Keeps Q (f x)) → Keeps Q (kind_at d >>= f)
-pass_kind d g = pass (kind_at d) g
-
-pass_known : {B : Type 0} {Q : B → Type 0} {f : Bool → Result B Refusal} (known : List (List ℕ)) (members : Option Members) → ((x : Bool) → Keeps Q (f x)) → Keeps Q (no_other known members >>= f)
-pass_known known members g = pass (no_other known members) g
-
 -- the last step
 last : {B : Type 0} {Q : B → Type 0} {x : B} → Q x → Keeps Q (Ok x)
 last h = record { kept = h }
-
-both : (a b : Bool) → a ≡ true → b ≡ true → (a && b) ≡ true
-both a b p q = rw (p, q) refl
 
 -- a value that a test lets pass
 tested : {A : Type 0} (b : Bool) (P : A → Type 0) (x : A) (e : Refusal) → (b ≡ true → P x) → Keeps P (cond b (Ok x) (Err e))
 tested true P x e h = last (h refl)
 tested false P x e h = record { kept = tt }
 
-display_form : (d : Data) → Keeps (λ display. is_display display ≡ true) (display_at d)
+-- a short text of UTF-8 is a display text
+pub display_is : (text : List ℕ) → length text ≤ max_display → IsUtf8 text → is_display text ≡ true
+display_is text short utf8 = and_from _ _ (le-leb _ _ short) (is_utf8-from_IsUtf8 text utf8)
+
+display_form : (key : List ℕ) (d : Data) → Keeps (λ display. is_display display ≡ true) (display_at key d)
 unfolding display_at
-display_form d = pass (text_or_empty (codes "display") (get (codes "display") d)) (λ display. step (tested (is_display display) (λ _. is_display display ≡ true) true (BadRequest (codes "display")) (λ e. e)) (λ short e. last e))
+display_form key d = pass (text_or_empty key (get key d)) (λ display. step (tested (is_display display) (λ _. is_display display ≡ true) true (BadRequest key) (λ e. e)) (λ short e. last e))
 
 folder_form : (field text : List ℕ) → Keeps (λ folder. is_folder_text folder ≡ true) (folder_from field text)
 unfolding folder_from
@@ -105,194 +105,73 @@ unfolding moment_from
 moment_form field None = last refl
 moment_form field (Some text) = some_ok (λ moment. is_optional_moment moment ≡ true) (option_map Some (moment_of text)) (BadMoment field) (within_form (moment_of text) (read_within text))
 
-folder_add_form : (d : Data) → Keeps ReadForm (folder_add d)
-unfolding folder_add
-folder_add_form d =
-    pass_text _ _ (λ folder_text.
-    step (display_form d) (λ display short.
-    pass_known _ _ (λ known.
-    step (name_form (codes "folder") folder_text) (λ folder folder_good. last (both _ _ folder_good short)))))
+-- ---- by the kinds of fields
 
-folder_rename_form : (d : Data) → Keeps ReadForm (folder_rename d)
-unfolding folder_rename
-folder_rename_form d =
-    pass_text _ _ (λ folder_text.
-    pass_text _ _ (λ extension_text.
-    pass_known _ _ (λ known.
-    step (folder_form (codes "folder") folder_text) (λ folder folder_good.
-    step (extension_form (codes "extension") extension_text) (λ extension extension_good. last (both _ _ folder_good extension_good))))))
+-- a field of a kind that has its form
+record IsForm (k : FieldKind) (f : Field) : Type 0 where
+  is_kind : field_kind f ≡ k
+  fits : is_field f ≡ true
 
-folder_move_form : (d : Data) → Keeps ReadForm (folder_move d)
-unfolding folder_move
-folder_move_form d =
-    pass_text _ _ (λ folder_text.
-    pass_text _ _ (λ to_text.
-    pass_known _ _ (λ known.
-    step (folder_form (codes "folder") folder_text) (λ folder folder_good.
-    step (folder_form (codes "to") to_text) (λ to to_good. last (both _ _ folder_good to_good))))))
+form_kept : (k : FieldKind) (key : List ℕ) (d : Data) → Keeps (IsForm k) (form_at k key d)
+form_kept kind.Name key d = pass_text key d (λ text. step (name_form key text) (λ v e. last (record { is_kind = refl; fits = e })))
+form_kept kind.Folder key d = pass_text key d (λ text. step (folder_form key text) (λ v e. last (record { is_kind = refl; fits = e })))
+form_kept kind.Extension key d = pass_text key d (λ text. step (extension_form key text) (λ v e. last (record { is_kind = refl; fits = e })))
+form_kept kind.Display key d = step (display_form key d) (λ v e. last (record { is_kind = refl; fits = e }))
+form_kept kind.Entity key d = pass_text key d (λ text. step (entity_form key text) (λ v e. last (record { is_kind = refl; fits = e })))
+form_kept kind.OptionalMoment key d = pass_optional key d (λ text. step (moment_form key text) (λ v e. last (record { is_kind = refl; fits = e })))
+form_kept kind.SetOp key d = pass (set_op_at key d) (λ v. last (record { is_kind = refl; fits = refl }))
 
-folder_delete_form : (d : Data) → Keeps ReadForm (folder_delete d)
-unfolding folder_delete
-folder_delete_form d =
-    pass_text _ _ (λ folder_text.
-    pass_known _ _ (λ known.
-    step (folder_form (codes "folder") folder_text) (λ folder folder_good. last (folder_good))))
+record AreForms (ks : List FieldKind) (fs : List Field) : Type 0 where
+  are_kinds : map field_kind fs ≡ ks
+  fit : list_all is_field fs ≡ true
 
-subject_add_form : (d : Data) → Keeps ReadForm (subject_add d)
-unfolding subject_add
-subject_add_form d =
-    pass_text _ _ (λ subject_text.
-    step (display_form d) (λ display short.
-    pass_known _ _ (λ known.
-    step (entity_form (codes "subject") subject_text) (λ subject subject_good. last (both _ _ subject_good short)))))
+abbrev kinds_in : List (List ℕ × FieldKind) → List FieldKind
+kinds_in fs = map (λ (f : List ℕ × FieldKind). f.1) fs
 
-group_add_form : (d : Data) → Keeps ReadForm (group_add d)
-unfolding group_add
-group_add_form d =
-    pass_text _ _ (λ group_text.
-    step (display_form d) (λ display short.
-    pass_known _ _ (λ known.
-    step (name_form (codes "group") group_text) (λ group group_good. last (both _ _ group_good short)))))
+all_kept : (fs : List (List ℕ × FieldKind)) (d : Data) → Keeps (AreForms (kinds_in fs)) (all_forms fs d)
+all_kept [] d = last (record { are_kinds = refl; fit = refl })
+all_kept (f ∷ fs) d = step (form_kept f.1 f.0 d) (λ x p. step (all_kept fs d) (λ xs q. last (record {
+  are_kinds = ap (λ (k : FieldKind). k ∷ map field_kind xs) p.is_kind ∙ ap (λ (ks : List FieldKind). f.1 ∷ ks) q.are_kinds;
+  fit = and_from _ _ p.fits q.fit;
+})))
 
-group_rename_form : (d : Data) → Keeps ReadForm (group_rename d)
-unfolding group_rename
-group_rename_form d =
-    pass_text _ _ (λ group_text.
-    pass_text _ _ (λ extension_text.
-    pass_known _ _ (λ known.
-    step (name_form (codes "group") group_text) (λ group group_good.
-    step (extension_form (codes "extension") extension_text) (λ extension extension_good. last (both _ _ group_good extension_good))))))
+-- ---- by the table
 
-group_move_form : (d : Data) → Keeps ReadForm (group_move d)
-unfolding group_move
-group_move_form d =
-    pass_text _ _ (λ group_text.
-    pass_text _ _ (λ to_text.
-    pass_known _ _ (λ known.
-    step (name_form (codes "group") group_text) (λ group group_good.
-    step (folder_form (codes "to") to_text) (λ to to_good. last (both _ _ group_good to_good))))))
+-- what the table of ops says of commands and queries that are made of fields
+abbrev pub TableMakes : Type 0
+TableMakes = (k : OpKind) (fields : List Field) → map field_kind fields ≡ field_kinds (row_of k) → IsMade k fields
 
-group_delete_form : (d : Data) → Keeps ReadForm (group_delete d)
-unfolding group_delete
-group_delete_form d =
-    pass_text _ _ (λ group_text.
-    pass_known _ _ (λ known.
-    step (name_form (codes "group") group_text) (λ group group_good. last (group_good))))
+form_is : (o : Op) → op_has_form o ≡ list_all is_field (op_fields o)
+unfolding has_form query_has_form
+form_is (asked.Command c) = refl
+form_is (asked.Query q) = refl
 
--- what a membership's fields have
-abbrev membership_good : Membership → Bool
-membership_good m = (is_name m.group && is_entity m.member) && (is_optional_moment m.from && is_optional_moment m.until)
+made_form : TableMakes → (k : OpKind) (fs : List Field) → AreForms (field_kinds (row_of k)) fs → IfSome (made k fs) ReadForm
+made_form table k fs q =
+    let m = table k fs q.are_kinds in
+    let fits : op_has_form m.op ≡ true = form_is m.op ∙ ap (list_all is_field) m.has_these ∙ q.fit in
+    subst (λ (found : Option Op). IfSome found ReadForm) (sym m.made_so) fits
 
-membership_form : (d : Data) → Keeps (λ m. membership_good m ≡ true) (membership_at d)
-unfolding membership_at
-membership_form d =
-    pass_text _ _ (λ group_text.
-    pass_text _ _ (λ member_text.
-    pass_optional _ _ (λ from_text.
-    pass_optional _ _ (λ until_text.
-    pass_known _ _ (λ known.
-    step (name_form (codes "group") group_text) (λ group group_good.
-    step (entity_form (codes "member") member_text) (λ member member_good.
-    step (moment_form (codes "from") from_text) (λ from from_good.
-    step (moment_form (codes "until") until_text) (λ until until_good. last (both _ _ (both _ _ group_good member_good) (both _ _ from_good until_good)))))))))))
+asked_kept : TableMakes → (k : OpKind) (d : Data) → Keeps ReadForm (asked_in k d)
+unfolding asked_in fields_in
+asked_kept table k d =
+    let fs = (row_of k).fields in
+    let read : Keeps (AreForms (field_kinds (row_of k))) (fields_in fs d) = pass (all_stand fs d) (λ stand. pass (no_other (known_keys fs) (as_object d)) (λ known. all_kept fs d)) in
+    step read (λ xs q. some_ok ReadForm (made k xs) (BadRequest []) (made_form table k xs q))
 
-member_add_form : (d : Data) → Keeps ReadForm (member_add d)
-unfolding member_add
-member_add_form d = step (membership_form d) (λ m good. last good)
-
-member_remove_form : (d : Data) → Keeps ReadForm (member_remove d)
-unfolding member_remove
-member_remove_form d =
-    pass_text _ _ (λ group_text.
-    pass_text _ _ (λ member_text.
-    pass_known _ _ (λ known.
-    step (name_form (codes "group") group_text) (λ group group_good.
-    step (entity_form (codes "member") member_text) (λ member member_good. last (both _ _ group_good member_good))))))
-
-member_window_form : (d : Data) → Keeps ReadForm (member_window d)
-unfolding member_window
-member_window_form d = step (membership_form d) (λ m good. last good)
-
-composite_set_form : (d : Data) → Keeps ReadForm (composite_set d)
-unfolding composite_set
-composite_set_form d =
-    pass_text _ _ (λ group_text.
-    pass_kind _ (λ made.
-    pass_text _ _ (λ left_text.
-    pass_text _ _ (λ right_text.
-    pass_known _ _ (λ known.
-    step (name_form (codes "group") group_text) (λ group group_good.
-    step (name_form (codes "left") left_text) (λ left left_good.
-    step (name_form (codes "right") right_text) (λ right right_good. last (both _ _ (both _ _ group_good left_good) right_good)))))))))
-
-composite_clear_form : (d : Data) → Keeps ReadForm (composite_clear d)
-unfolding composite_clear
-composite_clear_form d =
-    pass_text _ _ (λ group_text.
-    pass_known _ _ (λ known.
-    step (name_form (codes "group") group_text) (λ group group_good. last (group_good))))
-
-group_get_form : (d : Data) → Keeps ReadForm (group_get d)
-unfolding group_get
-group_get_form d =
-    pass_text _ _ (λ group_text.
-    pass_known _ _ (λ known.
-    step (name_form (codes "group") group_text) (λ group group_good. last (group_good))))
-
-folder_list_form : (d : Data) → Keeps ReadForm (folder_list d)
-unfolding folder_list
-folder_list_form d =
-    pass_text _ _ (λ folder_text.
-    pass_known _ _ (λ known.
-    step (folder_form (codes "folder") folder_text) (λ folder folder_good. last (folder_good))))
-
-members_form : (d : Data) → Keeps ReadForm (members d)
-unfolding members
-members_form d =
-    pass_text _ _ (λ group_text.
-    pass_known _ _ (λ known.
-    step (name_form (codes "group") group_text) (λ group group_good. last (group_good))))
-
-rows_form : (d : Data) → Keeps ReadForm (rows d)
-unfolding rows
-rows_form d =
-    pass_text _ _ (λ group_text.
-    pass_known _ _ (λ known.
-    step (name_form (codes "group") group_text) (λ group group_good. last (group_good))))
-
-op_form : (k : OpKind) (d : Data) → Keeps ReadForm (op_of k d)
-op_form kind.FolderAdd d = folder_add_form d
-op_form kind.FolderRename d = folder_rename_form d
-op_form kind.FolderMove d = folder_move_form d
-op_form kind.FolderDelete d = folder_delete_form d
-op_form kind.SubjectAdd d = subject_add_form d
-op_form kind.GroupAdd d = group_add_form d
-op_form kind.GroupRename d = group_rename_form d
-op_form kind.GroupMove d = group_move_form d
-op_form kind.GroupDelete d = group_delete_form d
-op_form kind.MemberAdd d = member_add_form d
-op_form kind.MemberRemove d = member_remove_form d
-op_form kind.MemberWindow d = member_window_form d
-op_form kind.CompositeSet d = composite_set_form d
-op_form kind.CompositeClear d = composite_clear_form d
-op_form kind.GroupGet d = group_get_form d
-op_form kind.FolderList d = folder_list_form d
-op_form kind.Members d = members_form d
-op_form kind.Rows d = rows_form d
-
-reading_kept : (line : List ℕ) → Keeps IsFormed (reading_of line)
+reading_kept : TableMakes → (line : List ℕ) → Keeps IsFormed (reading_of line)
 unfolding reading_of
-reading_kept line =
+reading_kept table line =
     pass (data_of line) (λ d.
     pass_text _ _ (λ word.
-    pass (known_kind (kind_of word)) (λ known.
+    pass (known_kind word) (λ known.
     pass_text _ _ (λ by.
     pass (ensured (bytes_eq by (codes "g:isa/GrouperSystem")) (codes "by")) (λ system.
-    step (op_form known d) (λ asked good. last (record { by = refl; op = good })))))))
+    step (asked_kept table known d) (λ o good. last (record { by = refl; op = good })))))))
 
-reading_form : (line : List ℕ) → IfOk (reading_of line) IsFormed
-reading_form line = (reading_kept line).kept
+reading_form : TableMakes → (line : List ℕ) → IfOk (reading_of line) IsFormed
+reading_form table line = (reading_kept table line).kept
 
 -- the same of a request that is given
-pub read_formed : (line : List ℕ) (request : Request) → reading_of line ≡ Ok request → IsFormed request
-read_formed line request e = rw e at (reading_form line)
+pub read_formed : TableMakes → (line : List ℕ) (request : Request) → reading_of line ≡ Ok request → IsFormed request
+read_formed table line request e = rw e at (reading_form table line)

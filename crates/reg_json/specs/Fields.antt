@@ -1,5 +1,5 @@
 -- The fields of a request: first that they are texts that may stand there, and later that the texts have their forms.
-use Rattle.std.specs.Prelude.{ℕ, List, [], ◌∷◌, Bool, true, Option, Some, None, Result, Ok, Err, codes, option_and_then, option_map, if◌then◌else◌, ok_or}
+use Rattle.std.specs.Prelude.{ℕ, List, [], ◌∷◌, Bool, true, Option, Some, None, Result, Ok, Err, codes, option_and_then, option_map, map, if◌then◌else◌, ok_or}
 use Rattle.std.specs.List.{list_any}
 use Rattle.std.specs.Str.{bytes_eq}
 use Rattle.serde_json.specs.Data.{Data, Members, no_members, member}
@@ -9,6 +9,7 @@ use Rattle.reg_base.specs.Entities.{entity_of}
 use Rattle.reg_base.specs.MomentText.{moment_of}
 use Rattle.reg_base.specs.declared.entity.Entity.{Entity}
 use Rattle.reg_terms.specs.Forms.{is_display, is_folder_text}
+use Rattle.reg_terms.specs.declared.field.FieldKind.{FieldKind}
 use Rattle.reg_terms.specs.declared.kinds.SetOp.{SetOp}
 use Rattle.reg_terms.specs.declared.kinds.SetOp.TheVariants.{Intersection, Complement}
 use Rattle.reg_terms.specs.declared.refusal.Refusal.{Refusal}
@@ -19,6 +20,14 @@ use Rattle.reg_json.specs.Steps.{◌>>=◌, ensured}
 abbrev pub key_list : Members → List (List ℕ)
 key_list no_members = []
 key_list (member k d ms) = k ∷ key_list ms
+
+-- the keys of fields
+abbrev pub keys : List (List ℕ × FieldKind) → List (List ℕ)
+keys fields = map (λ (f : List ℕ × FieldKind). f.0) fields
+
+-- the keys that an object of these fields may have
+unfoldable pub known_keys : List (List ℕ × FieldKind) → List (List ℕ)
+known_keys fields = codes "by" ∷ codes "op" ∷ keys fields
 
 -- the first key that isn't known
 abbrev pub other_key : List (List ℕ) → List (List ℕ) → Option (List ℕ)
@@ -49,10 +58,10 @@ unfoldable pub optional_text_at : List ℕ → Data → Result (Option (List ℕ
 optional_text_at key d = text_if_some key (get key d)
 
 -- the display text
-unfoldable pub display_at : Data → Result (List ℕ) Refusal
-display_at d = do
-  display ← text_or_empty (codes "display") (get (codes "display") d)
-  short ← ensured (is_display display) (codes "display")
+unfoldable pub display_at : List ℕ → Data → Result (List ℕ) Refusal
+display_at key d = do
+  display ← text_or_empty key (get key d)
+  short ← ensured (is_display display) key
   Ok display
 
 -- the kind of composite that a word names
@@ -61,11 +70,11 @@ composite_kind word =
     if bytes_eq word (codes "intersection") then Some Intersection else
     (if bytes_eq word (codes "complement") then Some Complement else None)
 
--- the kind of a composite
-unfoldable pub kind_at : Data → Result SetOp Refusal
-kind_at d = do
-  word ← text_at (codes "kind") d
-  ok_or (composite_kind word) (BadRequest (codes "kind"))
+-- how a composite is made
+unfoldable pub set_op_at : List ℕ → Data → Result SetOp Refusal
+set_op_at key d = do
+  word ← text_at key d
+  ok_or (composite_kind word) (BadRequest key)
 
 -- the name that a field's text is
 unfoldable pub name_from : List ℕ → List ℕ → Result (List ℕ) Refusal

@@ -4,7 +4,8 @@ ghost use Rattle.reg_json.specs.Steps.{Gives};
 ghost use Rattle.reg_json.specs.Fields.{name_from, folder_from, extension_from, entity_from, moment_from};
 
 use crate::fault::{ReadFault, bad_moment, bad_name};
-use reg_base::{Entity, Moment, Name, Text, is_extension, is_name};
+use reg_base::{Entity, Moment, Name, Text, is_extension};
+use reg_terms::is_folder_text;
 use std::alloc::Global;
 
 /// The name that a field's text is.
@@ -23,7 +24,7 @@ pub fn name_from(alloc: Global, field: &str, text: &str) -> Result<Name, ReadFau
 pub fn folder_from(alloc: Global, field: &str, text: &str) -> Result<Text, ReadFault>
     ensures { Gives (λ t. t) result (folder_from field.now text.now) }
 {
-    if text == ":" || is_name(text.as_bytes()) {
+    if is_folder_text(text.as_bytes()) {
         let folder = Text::new(alloc, text)?;
         Ok(folder)
     } else {

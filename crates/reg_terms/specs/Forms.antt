@@ -6,11 +6,13 @@ use Rattle.reg_base.specs.Names.{is_extension, is_name, is_person}
 use Rattle.reg_base.specs.declared.entity.Entity.{Entity}
 use Rattle.reg_base.specs.declared.entity.Entity.TheVariants as entity
 use Rattle.reg_terms.specs.declared.command.Command.{Command}
+use Rattle.reg_terms.specs.declared.query.Query.{Query}
 use Rattle.reg_terms.specs.declared.request.Op.{Op}
+use Rattle.reg_terms.specs.declared.request.Op.TheVariants as asked
 use Rattle.reg_terms.specs.declared.field.Field.{Field}
 use Rattle.reg_terms.specs.declared.field.Field.TheVariants as field
 use Rattle.reg_terms.specs.Limits.{max_display, max_moment}
-use Rattle.reg_terms.specs.Table.{fields_of, op_fields}
+use Rattle.reg_terms.specs.Table.{fields_of, query_apart}
 
 -- a folder's name, or `:` for the root
 abbrev pub is_folder_text : List ℕ → Bool
@@ -50,6 +52,11 @@ is_field (field.SetOp kind) = true
 unfoldable pub has_form : Command → Bool
 has_form c = list_all is_field (fields_of c)
 
+-- whether each field of a query has its form
+unfoldable pub query_has_form : Query → Bool
+query_has_form q = list_all is_field (query_apart q).1
+
 -- whether each field of a command or query has its form
-unfoldable pub op_has_form : Op → Bool
-op_has_form o = list_all is_field (op_fields o)
+abbrev pub op_has_form : Op → Bool
+op_has_form (asked.Command c) = has_form c
+op_has_form (asked.Query q) = query_has_form q

@@ -1,0 +1,21 @@
+// What holds of readings: each law is the clause of a function that does nothing.
+ghost use Rattle.std.specs.Prelude.{◌≡◌, ◌<◌, ℕ, List, length, Ok, Err};
+ghost use Rattle.reg_terms.specs.Limits.{max_line};
+ghost use Rattle.reg_terms.specs.declared.request.Request.{Request};
+ghost use Rattle.reg_terms.specs.declared.refusal.Refusal.TheVariants.{TooLong};
+ghost use Rattle.reg_json.specs.Forms.{IsFormed};
+ghost use Rattle.reg_json.specs.Reading.{reading_of};
+
+use reg_terms::law_ops;
+
+/// GrouperSystem asks what is read, and its fields have their forms.
+pub fn law_read_is_formed()
+    ensures { (line : List ℕ) (request : Request) → reading_of line ≡ Ok request → IsFormed request }
+{
+    law_ops();
+}
+
+/// A line that is too long is refused, whatever it holds.
+pub fn law_long_is_refused()
+    ensures { (line : List ℕ) → max_line < length line → reading_of line ≡ Err (TooLong max_line) }
+{}

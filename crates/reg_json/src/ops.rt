@@ -1,0 +1,140 @@
+// What an object asks, by the kinds of its op's fields.
+ghost use Rattle.std.specs.Prelude.{◌≡◌, map};
+ghost use Rattle.serde_json.specs.View.{view};
+ghost use Rattle.reg_json.specs.Steps.{Gives};
+ghost use Rattle.reg_json.specs.Ops.{stands_at, form_at, all_stand, all_forms, fields_in, asked_in};
+
+use crate::fault::{ReadFault, bad};
+use crate::fields::{display_at, no_other, optional_text_at, set_op_at, text_at};
+use crate::forms::{entity_from, extension_from, folder_from, moment_from, name_from};
+use reg_base::Text;
+use reg_terms::{Field, FieldKind, Op, OpKind, made, row_of};
+use serde_json::Value;
+use std::alloc::Global;
+use std::collections::VecDeque;
+
+fn stands_at(alloc: Global, value: &Value, key: &str, kind: FieldKind) -> Result<bool, ReadFault>
+    ensures { Gives (λ b. b) result (stands_at kind key.now (view value.now)) }
+{
+    match kind {
+        FieldKind::Name | FieldKind::Folder | FieldKind::Extension | FieldKind::Entity => {
+            let _text = text_at(alloc, value, key)?;
+            Ok(true)
+        }
+        FieldKind::Display => {
+            let _text = display_at(alloc, value, key)?;
+            Ok(true)
+        }
+        FieldKind::OptionalMoment => {
+            let _text = optional_text_at(alloc, value, key)?;
+            Ok(true)
+        }
+        FieldKind::SetOp => {
+            let _kind = set_op_at(alloc, value, key)?;
+            Ok(true)
+        }
+    }
+}
+
+fn form_at(alloc: Global, value: &Value, key: &str, kind: FieldKind) -> Result<Field, ReadFault>
+    ensures { Gives (λ f. f) result (form_at kind key.now (view value.now)) }
+{
+    match kind {
+        FieldKind::Name => {
+            let text = text_at(alloc, value, key)?;
+            let name = name_from(alloc, key, text)?;
+            Ok(Field::Name(name))
+        }
+        FieldKind::Folder => {
+            let text = text_at(alloc, value, key)?;
+            let folder = folder_from(alloc, key, text)?;
+            Ok(Field::Folder(folder))
+        }
+        FieldKind::Extension => {
+            let text = text_at(alloc, value, key)?;
+            let extension = extension_from(alloc, key, text)?;
+            Ok(Field::Extension(extension))
+        }
+        FieldKind::Display => {
+            let text = display_at(alloc, value, key)?;
+            let text = Text::new(alloc, text)?;
+            Ok(Field::Display(text))
+        }
+        FieldKind::Entity => {
+            let text = text_at(alloc, value, key)?;
+            let entity = entity_from(alloc, key, text)?;
+            Ok(Field::Entity(entity))
+        }
+        FieldKind::OptionalMoment => {
+            let text = optional_text_at(alloc, value, key)?;
+            let moment = moment_from(alloc, key, text)?;
+            Ok(Field::OptionalMoment(moment))
+        }
+        FieldKind::SetOp => {
+            let kind = set_op_at(alloc, value, key)?;
+            Ok(Field::SetOp(kind))
+        }
+    }
+}
+
+fn all_stand(
+    alloc: Global,
+    value: &Value,
+    fields: &[(&'static str, FieldKind)],
+) -> Result<bool, ReadFault>
+    ensures { Gives (λ b. b) result (all_stand (map (λ f. (f.0.now, f.1)) fields.now) (view value.now)) }
+{
+    match fields {
+        [] => Ok(true),
+        [(key, kind), rest @ ..] => {
+            stands_at(alloc, value, key, *kind)?;
+            all_stand(alloc, value, rest)
+        }
+    }
+}
+
+fn all_forms(
+    alloc: Global,
+    value: &Value,
+    fields: &[(&'static str, FieldKind)],
+) -> Result<VecDeque<Field>, ReadFault>
+    ensures { Gives (λ fs. fs.items) result (all_forms (map (λ f. (f.0.now, f.1)) fields.now) (view value.now)) }
+{
+    match fields {
+        [] => Ok(VecDeque::new(alloc)),
+        [(key, kind), rest @ ..] => {
+            let field = form_at(alloc, value, key, *kind)?;
+            let mut others = all_forms(alloc, value, rest)?;
+            match others.push_front(field) {
+                Ok(()) => Ok(others),
+                Err(_) => Err(ReadFault::Memory),
+            }
+        }
+    }
+}
+
+#[tactic(auto, unfolding(crate::specs::Ops::fields_in))]
+fn fields_in(
+    alloc: Global,
+    value: &Value,
+    fields: &[(&'static str, FieldKind)],
+) -> Result<VecDeque<Field>, ReadFault>
+    ensures { Gives (λ fs. fs.items) result (fields_in (map (λ f. (f.0.now, f.1)) fields.now) (view value.now)) }
+{
+    all_stand(alloc, value, fields)?;
+    no_other(alloc, value, fields)?;
+    all_forms(alloc, value, fields)
+}
+
+/// What an object asks whose op is of a kind.
+#[tactic(auto, unfolding(crate::specs::Ops::asked_in))]
+pub fn asked_in(alloc: Global, value: &Value, kind: OpKind) -> Result<Op, ReadFault>
+    ensures { Gives (λ o. o) result (asked_in kind (view value.now)) }
+{
+    let fields = fields_in(alloc, value, row_of(kind).fields)?;
+    match made(kind, fields) {
+        Some(op) => Ok(op),
+        // no fields come here that make nothing, since each is of its kind
+        None => Err(bad(alloc, "")),
+    }
+}
