@@ -5,3 +5,5 @@ pub mod Looking
 pub mod Alone
 pub mod Between
 pub mod Clearing
+pub mod Notes
+pub mod Pairs

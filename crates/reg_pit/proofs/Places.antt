@@ -193,7 +193,7 @@ module _ {K : Type 0} (R : K → K → Ordering) (o : IsTotalOrder R) where
         let less : new ≡ remove_entry (is_at (place_cmp R (key, never))) old = rw is_never at f in
         let same : s ≡ at = omega (arith, open_start s 0 at (runs_of R key old) (last key) there) in
         switched key at false old new kept last sorted (λ k far. rw less (remove_other key k never old far))
-            (rw (less, remove_same key never old) (vanishes 0 at (runs_of R key old) moment (kept.each key) (last key) (rw same at there)))
+        (rw (less, remove_same key never old) (vanishes 0 at (runs_of R key old) moment (kept.each key) (last key) (rw same at there)))
 
     pub key_ends : (s : ℕ) (one new : List ((K × ℕ) × ℕ)) → lookup (is_at (place_cmp R (key, open_))) old ≡ Some s → s < at
         → one ≡ insert_entry (place_cmp R) old (key, now) s → new ≡ remove_entry (is_at (place_cmp R (key, open_))) one → IsStrictlySortedBy (place_cmp R) (keys_of new) → Switched R key at false old new

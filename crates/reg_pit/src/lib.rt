@@ -3,5 +3,9 @@
 
 mod ends;
 mod intervals;
+mod memberships;
+mod past;
+mod wheel;
 
 pub use intervals::Intervals;
+pub use past::Past;
