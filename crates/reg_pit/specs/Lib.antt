@@ -1,0 +1,5 @@
+pub mod Spans
+pub mod Runs
+pub mod Members
+pub mod Wheel
+pub mod Past

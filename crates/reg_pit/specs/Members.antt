@@ -1,0 +1,27 @@
+-- Memberships as intervals.
+use Rattle.std.specs.Prelude.{◌≡◌, ◌≤◌, ◌^◌, ◌==◌, ℕ, List, Bool, false, Option}
+use Rattle.std.specs.Ordering.{nat_cmp, ordering_then}
+use Rattle.std.specs.List.{list_any}
+use Rattle.std.specs.List.Sorted.{IsStrictlySortedBy}
+use Rattle.std.specs.declared.cmp.Ordering.{Ordering}
+use Rattle.reg_pit.specs.Spans.{covers}
+use Rattle.reg_pit.specs.Runs.{spans_of}
+
+-- by the first, and then by the second
+abbrev pub pair_cmp : ℕ × ℕ → ℕ × ℕ → Ordering
+pair_cmp a b = ordering_then (nat_cmp a.0 b.0) (nat_cmp a.1 b.1)
+
+-- whether a pair was on at a moment
+abbrev pub are_on : List (((ℕ × ℕ) × ℕ) × ℕ) → ℕ → ℕ → ℕ → Bool
+are_on pairs x y t = covers (spans_of pair_cmp pairs (x, y)) t
+
+-- the numbers that pass a test, ascending
+pub record Lists (test : ℕ → Bool) (numbers : List ℕ) : Type 0 where
+  pub ascending : IsStrictlySortedBy nat_cmp numbers
+  pub each : (n : ℕ) → list_any (λ x. x == n) numbers ≡ test n
+
+-- each pair has the intervals of the pair the other way round, and is of numbers of 32 bits
+pub record AreMirrored (pairs reversed : List (((ℕ × ℕ) × ℕ) × ℕ)) : Type 0 where
+  pub turned : (x y : ℕ) → spans_of pair_cmp reversed (y, x) ≡ spans_of pair_cmp pairs (x, y)
+  pub first : (x y t : ℕ) → 2 ^ 32 ≤ x → are_on pairs x y t ≡ false
+  pub second : (x y t : ℕ) → 2 ^ 32 ≤ y → are_on pairs x y t ≡ false

@@ -1,0 +1,48 @@
+-- How intervals are kept: a start for each key and end.
+use Rattle.std.specs.Prelude.{◌≡◌, ◌≤◌, ◌<◌, ◌==◌, ◌&&◌, ⊤, Bool, nat_le, ℕ, suc, List, [], ◌∷◌, map, Option, Some, None, if◌then◌else◌}
+use Rattle.std.specs.Ordering.{nat_cmp, ordering_then, is_eq, is_le}
+use Rattle.std.specs.declared.cmp.Ordering.{Ordering}
+use Rattle.std.specs.List.Sorted.{IsStrictlySortedBy}
+use Rattle.std.specs.Map.{keys_of}
+use Rattle.reg_pit.specs.Spans.{covers, NoLater}
+
+-- what stands for the end of an interval that has none: the number after all moments
+abbrev pub never : ℕ
+never = 253402300800000000
+
+-- the interval with an end and a start
+abbrev pub span_of : ℕ × ℕ → ℕ × Option ℕ
+span_of run = (run.1, if run.0 == never then None else Some run.0)
+
+-- by key, and then by end
+abbrev pub place_cmp : {K : Type 0} → (K → K → Ordering) → K × ℕ → K × ℕ → Ordering
+place_cmp R a b = ordering_then (R a.0 b.0) (nat_cmp a.1 b.1)
+
+-- the ends and starts of a key
+abbrev pub runs_of : {K : Type 0} → (K → K → Ordering) → K → List ((K × ℕ) × ℕ) → List (ℕ × ℕ)
+runs_of R k [] = []
+runs_of R k (e ∷ es) = if is_eq (R k e.0.0) then (e.0.1, e.1) ∷ runs_of R k es else runs_of R k es
+
+-- the intervals of a key
+abbrev pub spans_of : {K : Type 0} → (K → K → Ordering) → List ((K × ℕ) × ℕ) → K → List (ℕ × Option ℕ)
+spans_of R es k = map span_of (runs_of R k es)
+
+-- ends and starts from a moment on: none is empty and no two touch
+abbrev pub RunsFrom : ℕ → List (ℕ × ℕ) → Type 0
+RunsFrom n [] = ⊤
+RunsFrom n (run ∷ runs) = (n ≤ run.1) × (run.1 < run.0) × (run.0 ≤ never) × RunsFrom (suc run.0) runs
+
+-- the places ascend, and each key has intervals
+pub record AreRuns {K : Type 0} (R : K → K → Ordering) (es : List ((K × ℕ) × ℕ)) : Type 0 where
+  pub ordered : IsStrictlySortedBy (place_cmp R) (keys_of es)
+  pub each : (k : K) → RunsFrom 0 (runs_of R k es)
+
+-- from a moment on a key is on or off; all else is as before
+pub record Switched {K : Type 0} (R : K → K → Ordering) (key : K) (at : ℕ) (on : Bool) (old new : List ((K × ℕ) × ℕ)) : Type 0 where
+  pub kept : AreRuns R new
+  pub last : (k : K) → NoLater at (spans_of R new k)
+  pub covers : (k : K) (t : ℕ) → covers (spans_of R new k) t ≡ (if is_eq (R key k) && nat_le at t then on else covers (spans_of R old k) t)
+
+-- whether a key is one of those from one to another
+abbrev pub is_between : {K : Type 0} → (K → K → Ordering) → K → K → K → Bool
+is_between R from to k = is_le (R from k) && is_le (R k to)

@@ -1,0 +1,193 @@
+// Intervals of moments for each key.
+ghost use Rattle.std.specs.Prelude.{Bool, List, Option, ◌≡◌, ◌≤◌, ◌<◌, ◌+◌, ◌*◌, ◌^◌, ◌&&◌, ℕ, [], true, false, length, nat_le, nat_lt, Some, None, IfOk, OnOk, OnErr, if◌then◌else◌};
+ghost use Rattle.std.specs.Ordering.{eq_by_cmp, is_gt};
+ghost use Rattle.std.specs.List.{list_any};
+ghost use Rattle.std.specs.List.Sorted.{IsStrictlySortedBy};
+ghost use Rattle.reg_pit.specs.Spans.{covers, AreSpans, AreSpansOf, NoLater};
+ghost use Rattle.reg_pit.specs.Runs.{AreRuns, Switched, is_between, spans_of};
+
+use crate::ends::End;
+use reg_base::{Moment, Steps};
+use std::alloc::{AllocError, Global};
+use std::collections::BTreeMap;
+use std::marker::Model;
+use std::sync::ledger::Ledger;
+
+/// Intervals of moments for each key: from a start until just before an end, or without an end. None is empty, and no two
+/// of a key touch. Contracts see the list of the intervals of each key, in order.
+#[derive(Drop)]
+pub struct Intervals<K: Ord + Copy> {
+    alloc: Global,
+    /// The start of each interval, by its key and its end.
+    starts: BTreeMap<(K, End), Moment>,
+}
+
+impl<K: Ord + Copy> Model for Intervals<K> {
+    ghost use Rattle.std.specs.Prelude.{List, ℕ};
+    ghost use Rattle.reg_pit.specs.Runs.{AreRuns};
+
+    ghost Value = { List ((K × ℕ) × ℕ) };
+
+    ghost view = { λ i. i.starts.entries };
+
+    ghost invariant = { λ i. AreRuns K.cmp i.starts.entries };
+}
+
+/// Lets an interval of the key begin, unless one goes on: one that ended at the moment goes on.
+fn begin<K: Ord + Copy>(
+    starts: &mut BTreeMap<(K, End), Moment>,
+    key: K,
+    at: Moment,
+) -> Result<(), AllocError>
+    requires kept { AreRuns K.cmp starts.old.entries }
+    requires last { (k : K) → NoLater at (spans_of K.cmp starts.old.entries k) }
+    ensures ok { OnOk result (Switched K.cmp key at true starts.old.entries starts.new.entries) }
+    ensures err { OnErr result (starts.new.entries ≡ starts.old.entries) }
+{
+    let never = End::never();
+    let now = End::at(at);
+    if starts.contains_key(&(key, never)) {
+        return Ok(());
+    }
+    match starts.get(&(key, now)).copied() {
+        Some(start) => {
+            starts.insert((key, never), start)?;
+            starts.remove(&(key, now));
+        }
+        None => {
+            starts.insert((key, never), at)?;
+        }
+    }
+    Ok(())
+}
+
+/// Lets the interval of the key that goes on end; one that began at the moment goes.
+fn end<K: Ord + Copy>(
+    starts: &mut BTreeMap<(K, End), Moment>,
+    key: K,
+    at: Moment,
+) -> Result<(), AllocError>
+    requires kept { AreRuns K.cmp starts.old.entries }
+    requires last { (k : K) → NoLater at (spans_of K.cmp starts.old.entries k) }
+    ensures ok { OnOk result (Switched K.cmp key at false starts.old.entries starts.new.entries) }
+    ensures err { OnErr result (starts.new.entries ≡ starts.old.entries) }
+{
+    let never = End::never();
+    let Some(start) = starts.get(&(key, never)).copied() else {
+        return Ok(());
+    };
+    if start.micros() < at.micros() {
+        starts.insert((key, End::at(at)), start)?;
+        starts.remove(&(key, never));
+        return Ok(());
+    }
+    starts.remove(&(key, never));
+    Ok(())
+}
+
+impl<K: Ord + Copy> Intervals<K> {
+    /// No key has an interval. Takes no memory.
+    pub fn new(alloc: Global) -> Intervals<K>
+        ensures { (k : K) → spans_of K.cmp result k ≡ [] }
+    {
+        Intervals {
+            alloc,
+            starts: BTreeMap::new(alloc),
+        }
+    }
+
+    /// From a moment on the key is on, or it isn't; nothing was set later. What was so before the moment stays so. Out of
+    /// memory the intervals stay as they were.
+    pub fn set(&mut self, key: K, on: bool, at: Moment) -> Result<(), AllocError>
+        requires { (k : K) → NoLater at (spans_of K.cmp self.old k) }
+        ensures set { OnOk result ((k : K) (t : ℕ) → covers (spans_of K.cmp self.new k) t ≡ (if eq_by_cmp K.cmp key k && nat_le at t then on else covers (spans_of K.cmp self.old k) t)) }
+        ensures before { OnOk result ((k : K) (t : ℕ) → t < at → covers (spans_of K.cmp self.new k) t ≡ covers (spans_of K.cmp self.old k) t) }
+        ensures last { OnOk result ((k : K) → NoLater at (spans_of K.cmp self.new k)) }
+        ensures err { OnErr result (self.new ≡ self.old) }
+    {
+        if on {
+            begin(&mut self.starts, key, at)
+        } else {
+            end(&mut self.starts, key, at)
+        }
+    }
+
+    /// Whether the key is on at a moment. A step is one interval looked at. Takes no memory.
+    pub fn at<L: Ledger>(&self, key: K, t: Moment, steps: &mut Steps<L>) -> bool
+        ensures value { result ≡ covers (spans_of K.cmp self.now key) t }
+        ensures looks { steps.new ≤ steps.old + 1 }
+        ensures cost { (s : ℕ) → steps.new ≡ steps.old + s → 2 ^ s ≤ 2 * length (spans_of K.cmp self.now key) + 1 }
+    {
+        match self
+            .starts
+            .range((key, End::after(t))..=(key, End::never()))
+            .next()
+        {
+            Some((_, start)) => {
+                steps.tick(); // one interval looked at
+                *start <= t
+            }
+            None => false,
+        }
+    }
+
+    /// The intervals of the key, in order.
+    pub fn rows(&self, key: K) -> Result<Vec<(Moment, Option<Moment>)>, AllocError>
+        ensures value { IfOk result (λ rows. rows.items ≡ spans_of K.cmp self.now key) }
+        ensures spans { IfOk result (λ rows. AreSpans rows.items) }
+    {
+        let first = End::at(Moment::start());
+        let mut rows = Vec::new(self.alloc);
+        for (place, start) in self.starts.range((key, first)..=(key, End::never())) {
+            rows.push((*start, place.1.moment()))?;
+        }
+        Ok(rows)
+    }
+
+    /// The keys from `from` up to `to` that are on at a moment, in order, each once. Costs what was ever set between them.
+    pub fn on_between(&self, from: K, to: K, t: Moment) -> Result<Vec<K>, AllocError>
+        requires { is_gt (K.cmp from to) ≡ false }
+        ensures ascending { IfOk result (λ keys. IsStrictlySortedBy K.cmp keys.items) }
+        ensures each { IfOk result (λ keys. (k : K) → list_any (eq_by_cmp K.cmp k) keys.items ≡ (is_between K.cmp from to k && covers (spans_of K.cmp self.now k) t)) }
+    {
+        let first = End::at(Moment::start());
+        let mut keys = Vec::new(self.alloc);
+        for (place, start) in self.starts.range((from, first)..=(to, End::never())) {
+            if place.1.has(*start, t) {
+                keys.push(place.0)?;
+            }
+        }
+        Ok(keys)
+    }
+
+    /// From a moment on none of the keys from `from` up to `to` is on; nothing was set later. Out of memory the intervals
+    /// are given up.
+    pub fn clear(self, from: K, to: K, at: Moment) -> Result<Intervals<K>, AllocError>
+        requires forward { is_gt (K.cmp from to) ≡ false }
+        requires last { (k : K) → NoLater at (spans_of K.cmp self k) }
+        ensures cleared { IfOk result (λ after. (k : K) (t : ℕ) → covers (spans_of K.cmp after k) t ≡ (if is_between K.cmp from to k && nat_le at t then false else covers (spans_of K.cmp self k) t)) }
+        ensures last { IfOk result (λ after. (k : K) → NoLater at (spans_of K.cmp after k)) }
+    {
+        let keys = self.on_between(from, to, at)?;
+        let mut intervals = self;
+        for key in &keys {
+            intervals.set(*key, false, at)?;
+        }
+        Ok(intervals)
+    }
+
+    /// The intervals of each key are the one list for their moments: none is empty, no two touch, starts ascend, and the last
+    /// alone may have no end. It does nothing.
+    pub fn law_rows_apart(&self)
+        ensures { (k : K) → AreSpans (spans_of K.cmp self.now k) }
+    {
+        let _ = &self.starts;
+    }
+
+    /// Two lists of intervals for the same moments are one. It does nothing.
+    pub fn law_one_list(&self)
+        ensures { (test : ℕ → Bool) (now : ℕ) (a b : List (ℕ × Option ℕ)) → AreSpansOf test now a → AreSpansOf test now b → a ≡ b }
+    {
+        let _ = &self.starts;
+    }
+}

@@ -1,0 +1,117 @@
+// What was the case at each moment.
+ghost use Rattle.std.specs.Prelude.{◌≡◌, ◌≤◌, ◌+◌, ◌*◌, ◌^◌, ◌==◌, ◌&&◌, ℕ, None, false, length, nat_le, IfOk, if◌then◌else◌};
+ghost use Rattle.reg_pit.specs.Spans.{AreSpansOf};
+ghost use Rattle.reg_pit.specs.Members.{Lists};
+
+use crate::memberships::Memberships;
+use crate::wheel::Wheel;
+use reg_base::{GroupId, Moment, Steps, SubjectId};
+use std::alloc::{AllocError, Global};
+use std::sync::ledger::Ledger;
+
+/// What was the case at each moment, noted as it changed.
+#[derive(Drop)]
+pub struct Past {
+    memberships: Memberships,
+    wheel: Wheel,
+}
+
+impl Past {
+    ghost use Rattle.reg_pit.specs.Past.{was_member, member_spans, wheel_at, NotedBy, KeepsMembers, KeepsWheel};
+
+    /// Nothing was ever the case. Takes no memory.
+    pub fn start(alloc: Global) -> Past
+        ensures members { (g s t : ℕ) → was_member result g s t ≡ false }
+        ensures wheel { (t : ℕ) → wheel_at result t ≡ None }
+        ensures last { (at : ℕ) → NotedBy at result }
+    {
+        Past {
+            memberships: Memberships::new(alloc),
+            wheel: Wheel::new(alloc),
+        }
+    }
+
+    /// From a moment on a person is a member of a group, or isn't; nothing was noted later. What was so before the moment
+    /// stays so. Out of memory the past is given up.
+    pub fn note_member(
+        self,
+        g: GroupId,
+        s: SubjectId,
+        on: bool,
+        at: Moment,
+    ) -> Result<Past, AllocError>
+        requires { NotedBy at self }
+        ensures noted { IfOk result (λ past. (x y t : ℕ) → was_member past x y t ≡ (if ((x == g) && (y == s)) && nat_le at t then on else was_member self x y t)) }
+        ensures wheel { IfOk result (λ past. KeepsWheel self past) }
+        ensures last { IfOk result (λ past. NotedBy at past) }
+    {
+        let Past { memberships, wheel } = self;
+        let memberships = memberships.note(g, s, on, at)?;
+        Ok(Past { memberships, wheel })
+    }
+
+    /// From a moment on the wheel group is this, or there is none; nothing was noted later. What was so before the moment
+    /// stays so. Out of memory the past is given up.
+    pub fn note_wheel(self, wheel: Option<GroupId>, at: Moment) -> Result<Past, AllocError>
+        requires { NotedBy at self }
+        ensures noted { IfOk result (λ past. (t : ℕ) → wheel_at past t ≡ (if nat_le at t then wheel else wheel_at self t)) }
+        ensures members { IfOk result (λ past. KeepsMembers self past) }
+        ensures last { IfOk result (λ past. NotedBy at past) }
+    {
+        let Past {
+            memberships,
+            wheel: notes,
+        } = self;
+        let wheel = notes.note(wheel, at)?;
+        Ok(Past { memberships, wheel })
+    }
+
+    /// Whether a person was an effective member of a group at a moment. A step is one interval looked at. Takes no memory.
+    pub fn was_member<L: Ledger>(
+        &self,
+        g: GroupId,
+        s: SubjectId,
+        t: Moment,
+        steps: &mut Steps<L>,
+    ) -> bool
+        ensures value { result ≡ was_member self.now g s t }
+        ensures looks { steps.new ≤ steps.old + 1 }
+        ensures cost { (n : ℕ) → steps.new ≡ steps.old + n → 2 ^ n ≤ 2 * length (member_spans self.now g s) + 1 }
+    {
+        self.memberships.at(g, s, t, steps)
+    }
+
+    /// The intervals in which a person was a member of a group, in order: the one list that stands for these moments.
+    pub fn spans(
+        &self,
+        g: GroupId,
+        s: SubjectId,
+    ) -> Result<Vec<(Moment, Option<Moment>)>, AllocError>
+        ensures value { IfOk result (λ spans. spans.items ≡ member_spans self.now g s) }
+        ensures one { IfOk result (λ spans. (now : ℕ) → NotedBy now self.now → AreSpansOf (was_member self.now g s) now spans.items) }
+    {
+        self.memberships.spans(g, s)
+    }
+
+    /// Who was a member of a group at a moment, by id. Costs what was ever noted of the group.
+    pub fn members_at(&self, g: GroupId, t: Moment) -> Result<Vec<SubjectId>, AllocError>
+        ensures { IfOk result (λ persons. Lists (λ s. was_member self.now g s t) persons.items) }
+    {
+        self.memberships.persons(g, t)
+    }
+
+    /// The groups of which a person was a member at a moment, by id. Costs what was ever noted of the person.
+    pub fn groups_at(&self, s: SubjectId, t: Moment) -> Result<Vec<GroupId>, AllocError>
+        ensures { IfOk result (λ groups. Lists (λ g. was_member self.now g s t) groups.items) }
+    {
+        self.memberships.groups(s, t)
+    }
+
+    /// The wheel group at a moment: none where the last note of it up to the moment was none, or there is no such note.
+    /// Takes no memory.
+    pub fn wheel_at(&self, t: Moment) -> Option<GroupId>
+        ensures { result ≡ wheel_at self.now t }
+    {
+        self.wheel.at(t)
+    }
+}
