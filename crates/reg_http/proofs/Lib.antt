@@ -5,3 +5,4 @@ pub mod Windows
 pub mod Takings
 pub mod Excluding
 pub mod Cutting
+pub mod Added

@@ -7,3 +7,6 @@ pub mod Turns
 pub mod Holding
 pub mod Runs
 pub mod Responses
+pub mod Routes
+pub mod Queries
+pub mod Parameters

@@ -5,10 +5,16 @@ mod call;
 mod fields;
 mod head;
 mod laws;
+mod parameters;
+mod pieces;
+mod query;
 mod reader;
 mod response;
+mod route;
 
 pub use call::{Call, HeadFault, Turn};
 pub use laws::{cutting_changes_no_turn, turns_are_of_all_bytes, turns_exclude_each_other};
+pub use parameters::{Parameters, read_parameters};
 pub use reader::HttpReader;
 pub use response::write_response;
+pub use route::{Route, Routes};

@@ -1,0 +1,15 @@
+use Rattle.std.proofs.Common.{refl}
+use Rattle.reg_http.specs.Routes.{with_groups}
+use Rattle.reg_http.proofs.route.add_groups.Goals as goal
+
+pub returns : goal.returns
+unfolding with_groups
+returns c =
+    rw (
+      c.in_ok-add-5.ensures,
+      c.in_ok-add-4.ensures,
+      c.in_ok-add-3.ensures,
+      c.in_ok-add-2.ensures,
+      c.in_ok-add.ensures,
+    )
+    refl
