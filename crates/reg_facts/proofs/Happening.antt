@@ -1,5 +1,6 @@
 -- Events that happen one after another.
 use Rattle.std.proofs.Common.{◌≡◌, ◌∙◌, ℕ, List, [], ◌∷◌, refl, length, sym, ap, subst, arith}
+use Rattle.reg_base.specs.declared.entity.Entity.{Entity}
 use Rattle.reg_terms.specs.declared.command.Command.{Command}
 use Rattle.reg_terms.specs.declared.event.Event.{Event}
 use Rattle.reg_facts.specs.Events.{happened, all_happened, events_of, edit}
@@ -7,8 +8,8 @@ use Rattle.reg_facts.specs.Lists.{Lists}
 use Rattle.reg_facts.specs.Suiting.{Suits, AllSuit, AreLeft, CanEdit}
 
 -- at the beginning all events are left
-pub left_first : (at : ℕ) (c : Command) (left es : List Event) (f : Lists) → left ≡ es → es ≡ events_of at c f → CanEdit at c f → AreLeft left f (edit at c f)
-left_first at c left es f same is can = record {
+pub left_first : (at : ℕ) (by : Entity) (c : Command) (left es : List Event) (f : Lists) → left ≡ es → es ≡ events_of at by c f → CanEdit at by c f → AreLeft left f (edit at by c f)
+left_first at by c left es f same is can = record {
   suit = subst (λ (xs : List Event). AllSuit xs f) (sym (same ∙ is)) can;
   lead = ap (λ (xs : List Event). all_happened xs f) (same ∙ is);
 }

@@ -1,6 +1,7 @@
 -- What happens to the facts, event by event, and the events that a command makes.
 use Rattle.std.specs.Prelude.{ℕ, ◌+◌, ◌==◌, List, [], ◌∷◌, ◌++◌, not, Option, None, Some, map, filter, if◌then◌else◌}
 use Rattle.reg_base.specs.NameParts.{extension_of}
+use Rattle.reg_base.specs.declared.entity.Entity.{Entity}
 use Rattle.reg_terms.specs.declared.command.Command.{Command}
 use Rattle.reg_terms.specs.declared.command.Command.TheVariants.{FolderAdd, FolderRename, FolderMove, FolderDelete, SubjectAdd, GroupAdd, GroupRename, GroupMove, GroupDelete, MemberAdd, MemberRemove, MemberWindow, CompositeSet, CompositeClear}
 use Rattle.reg_terms.specs.declared.event.Event.{Event}
@@ -9,6 +10,7 @@ use Rattle.reg_terms.specs.declared.kinds.Member.{Member}
 use Rattle.reg_terms.specs.declared.kinds.Object.TheVariants.{Folder, Group}
 use Rattle.reg_terms.specs.declared.rows.FolderRow.{FolderRow}
 use Rattle.reg_terms.specs.declared.rows.GroupRow.{GroupRow}
+use Rattle.reg_terms.specs.declared.rows.SubjectRow.{SubjectRow}
 use Rattle.reg_terms.specs.declared.rows.MemberRow.{MemberRow}
 use Rattle.reg_terms.specs.declared.rows.CompositeRow.{CompositeRow}
 use Rattle.reg_terms.specs.declared.rows.InheritRow.{InheritRow}
@@ -56,23 +58,33 @@ factors_gone g composites = if is_composite g composites then Decomposed g ∷ [
 abbrev pub group_gone : ℕ → Lists → List Event
 group_gone g f = map row_gone (rows_of g f.rows) ++ factors_gone g f.composites ++ GroupGone g ∷ []
 
--- the events of a command that acts at a moment, in order
-unfoldable pub events_of : ℕ → Command → Lists → List Event
-events_of at (FolderAdd folder display) f = FolderMade (record { id = f.made.folders + 1; parent = home_id folder f; extension = extension_of folder; display = display }) ∷ []
-events_of at (FolderRename folder extension) f = FolderRenamed (the_id (folder_id folder f)) extension ∷ []
-events_of at (FolderMove folder to) f = FolderMoved (the_id (folder_id folder f)) (the_id (folder_id to f)) ∷ []
-events_of at (FolderDelete folder) f = FolderGone (the_id (folder_id folder f)) ∷ []
-events_of at (SubjectAdd subject display) f = SubjectMade (record { id = f.made.subjects + 1; text = person_text subject; display = display }) ∷ []
-events_of at (GroupAdd group display) f = GroupMade (record { id = f.made.groups + 1; folder = the_id (home_id group f); extension = extension_of group; display = display }) ∷ []
-events_of at (GroupRename group extension) f = GroupRenamed (the_id (group_id group f)) extension ∷ []
-events_of at (GroupMove group to) f = GroupMoved (the_id (group_id group f)) (the_id (folder_id to f)) ∷ []
-events_of at (GroupDelete group) f = group_gone (the_id (group_id group f)) f
-events_of at (MemberAdd group member from until) f = on_member (λ m. RowAdded (record { group = the_id (group_id group f); member = m; from = from_or at from; until = until })) (member_of member f)
-events_of at (MemberRemove group member) f = on_member (λ m. RowRemoved (the_id (group_id group f)) m) (member_of member f)
-events_of at (MemberWindow group member from until) f = on_member (λ m. RowRedated (the_id (group_id group f)) m (from_or at from) until) (member_of member f)
-events_of at (CompositeSet group kind left right) f = Composed (record { group = the_id (group_id group f); op = kind; left = the_id (group_id left f); right = the_id (group_id right f) }) ∷ []
-events_of at (CompositeClear group) f = Decomposed (the_id (group_id group f)) ∷ []
+-- the rows that are made next
+abbrev pub new_folder : List ℕ → List ℕ → Lists → FolderRow
+new_folder folder display f = record { id = f.made.folders + 1; parent = home_id folder f; extension = extension_of folder; display = display }
 
--- the facts after a command that acts at a moment
-abbrev pub edit : ℕ → Command → Lists → Lists
-edit at command f = all_happened (events_of at command f) f
+abbrev pub new_subject : Entity → List ℕ → Lists → SubjectRow
+new_subject subject display f = record { id = f.made.subjects + 1; text = person_text subject; display = display }
+
+abbrev pub new_group : List ℕ → List ℕ → Lists → GroupRow
+new_group group display f = record { id = f.made.groups + 1; folder = the_id (home_id group f); extension = extension_of group; display = display }
+
+-- the events of a command that acts at a moment, by a caller, in order
+unfoldable pub events_of : ℕ → Entity → Command → Lists → List Event
+events_of at by (FolderAdd folder display) f = FolderMade (new_folder folder display f) ∷ []
+events_of at by (FolderRename folder extension) f = FolderRenamed (the_id (folder_id folder f)) extension ∷ []
+events_of at by (FolderMove folder to) f = FolderMoved (the_id (folder_id folder f)) (the_id (folder_id to f)) ∷ []
+events_of at by (FolderDelete folder) f = FolderGone (the_id (folder_id folder f)) ∷ []
+events_of at by (SubjectAdd subject display) f = SubjectMade (new_subject subject display f) ∷ []
+events_of at by (GroupAdd group display) f = GroupMade (new_group group display f) ∷ []
+events_of at by (GroupRename group extension) f = GroupRenamed (the_id (group_id group f)) extension ∷ []
+events_of at by (GroupMove group to) f = GroupMoved (the_id (group_id group f)) (the_id (folder_id to f)) ∷ []
+events_of at by (GroupDelete group) f = group_gone (the_id (group_id group f)) f
+events_of at by (MemberAdd group member from until) f = on_member (λ m. RowAdded (record { group = the_id (group_id group f); member = m; from = from_or at from; until = until })) (member_of member f)
+events_of at by (MemberRemove group member) f = on_member (λ m. RowRemoved (the_id (group_id group f)) m) (member_of member f)
+events_of at by (MemberWindow group member from until) f = on_member (λ m. RowRedated (the_id (group_id group f)) m (from_or at from) until) (member_of member f)
+events_of at by (CompositeSet group kind left right) f = Composed (record { group = the_id (group_id group f); op = kind; left = the_id (group_id left f); right = the_id (group_id right f) }) ∷ []
+events_of at by (CompositeClear group) f = Decomposed (the_id (group_id group f)) ∷ []
+
+-- the facts after a command that acts at a moment, by a caller
+abbrev pub edit : ℕ → Entity → Command → Lists → Lists
+edit at by command f = all_happened (events_of at by command f) f

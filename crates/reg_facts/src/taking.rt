@@ -41,6 +41,42 @@ impl Facts {
         }
     }
 
+    /// The facts without an immediate membership that stands.
+    pub fn take_row(
+        self,
+        alloc: Global,
+        group: GroupId,
+        member: Member,
+    ) -> Result<Facts, AllocError>
+        requires { Suits (RowRemoved group member) self }
+        ensures { IfOk result (λ f. f ≡ happened (RowRemoved group member) self) }
+    {
+        self.take(alloc, Event::RowRemoved { group, member })
+    }
+
+    /// The facts with another window on an immediate membership that stands.
+    pub fn set_until(
+        self,
+        alloc: Global,
+        group: GroupId,
+        member: Member,
+        from: Moment,
+        until: Option<Moment>,
+    ) -> Result<Facts, AllocError>
+        requires { Suits (RowRedated group member from until) self }
+        ensures { IfOk result (λ f. f ≡ happened (RowRedated group member from until) self) }
+    {
+        self.take(
+            alloc,
+            Event::RowRedated {
+                group,
+                member,
+                from,
+                until,
+            },
+        )
+    }
+
     fn folder_made(self, alloc: Global, row: FolderRow) -> Result<Facts, AllocError>
         requires { Suits (FolderMade row) self }
         ensures { IfOk result (λ f. f ≡ happened (FolderMade row) self) }
