@@ -1,4 +1,2 @@
 pub mod Standing
-pub mod Putting
 pub mod Climbing
-pub mod Keeping

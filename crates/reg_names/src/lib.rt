@@ -1,8 +1,6 @@
 //! Names of objects: the index of names, in step with the facts, names both ways, and scopes.
 #![tactic(auto)]
 
-mod editing;
-mod filling;
 mod names;
 mod naming;
 mod places;

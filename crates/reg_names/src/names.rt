@@ -1,37 +1,22 @@
 // The index of names.
-ghost use Rattle.std.specs.Prelude.{◌≡◌, IfOk, ℕ, List};
-ghost use Rattle.reg_facts.specs.Index.{found_child};
-ghost use Rattle.reg_names.specs.Indexes.{Indexes};
+use reg_facts::{Command, Facts};
 
-use crate::filling;
-use reg_base::FolderId;
-use reg_facts::{Children, Facts, Object};
-use std::alloc::{AllocError, Global};
-
-/// The index of names: the object of each extension in each folder. It stands beside the facts, and
-/// each command that changes the facts changes the index too.
-#[derive(Debug, Drop)]
-pub struct Names {
-    pub(crate) children: Children,
-}
+/// The index of names. The facts keep the one index that there is, in step with their lists at each
+/// event, so this holds nothing of its own, and is in step with every facts.
+#[derive(Clone, Copy, Debug)]
+pub struct Names;
 
 impl Names {
-    /// The index of all objects of the facts. The only error is out of memory.
-    pub fn of(alloc: Global, facts: &Facts) -> Result<Names, AllocError>
-        ensures { IfOk result (λ names. Indexes names facts.now) }
-    {
-        let mut children = Children::new(alloc);
-        filling::put_folders(alloc, &mut children, facts)?;
-        filling::put_groups(alloc, &mut children, facts)?;
-        filling::put_definitions(alloc, &mut children, facts)?;
-        filling::put_attributes(alloc, &mut children, facts)?;
-        Ok(Names { children })
+    /// The index of all objects of the facts. It takes no memory.
+    pub fn of(facts: &Facts) -> Names {
+        let _ = facts;
+        Names
     }
 
-    /// The object of this extension in a folder. It takes no memory.
-    pub(crate) fn child(&self, folder: FolderId, extension: &str) -> Option<Object>
-        ensures { result ≡ found_child self.now.children folder extension.now }
-    {
-        self.children.get(folder.number(), extension)
+    /// The index of the facts after a command, called with the facts before it. It takes no memory.
+    pub fn edit(self, before: &Facts, command: &Command) -> Names {
+        let _ = before;
+        let _ = command;
+        self
     }
 }
