@@ -5,6 +5,7 @@
 mod attr_values;
 mod command;
 mod event;
+mod keys;
 mod kinds;
 mod limits;
 mod query;
