@@ -1,7 +1,7 @@
 // The lists of the facts.
 ghost use Rattle.std.specs.Prelude.{◌≡◌, IfOk, OnOk, List, ℕ, Some, false};
 ghost use Rattle.reg_facts.specs.Lists.{Lists, start};
-ghost use Rattle.reg_facts.specs.Edits.{has_row};
+ghost use Rattle.reg_facts.specs.Edits.{has_row, is_composite};
 ghost use Rattle.reg_facts.specs.Events.{happened};
 ghost use Rattle.reg_terms.specs.declared.event.Event.TheVariants.{FolderMade, FolderRenamed, FolderMoved, FolderGone, SubjectMade, GroupMade, GroupRenamed, GroupMoved, GroupGone, RowAdded, RowRemoved, RowRedated, Composed, Decomposed};
 ghost use Rattle.reg_facts.specs.Naming.{placed, place_of};
@@ -9,16 +9,15 @@ ghost use Rattle.reg_facts.specs.Sound.{IsSound};
 ghost use Rattle.reg_facts.specs.Suiting.{IsPlaced};
 ghost use Rattle.reg_terms.specs.declared.kinds.Object.TheVariants.{Folder, Group};
 ghost use Rattle.reg_facts.specs.Ascending.{FoldersAscend, GroupsAscend};
-ghost use Rattle.reg_facts.specs.CompositeStamps.{FindsComposites};
 
 use crate::by_id::{folder_at, group_at};
-use crate::composite_index::CompositeIndex;
-use crate::row_table::RowTable;
+use crate::member_rows::MemberRows;
 use crate::{
     AssignRow, AttributeRow, CompositeRow, ConsumerRow, DefinitionRow, FolderRow, GrantRow,
     GroupRow, InheritRow, JobRow, Made, Member, MemberRow, Object, RuleRow, SubjectRow, list_edits,
 };
 use reg_base::{FolderId, GroupId, Moment, SubjectId, Text};
+use reg_table::Table;
 use std::alloc::{AllocError, Global};
 use std::marker::Model;
 
@@ -28,8 +27,8 @@ pub struct Tables {
     pub folder_rows: Vec<FolderRow>,
     pub group_rows: Vec<GroupRow>,
     pub subject_rows: Vec<SubjectRow>,
-    pub member_rows: RowTable,
-    pub composite_rows: Vec<CompositeRow>,
+    pub member_rows: MemberRows,
+    pub composite_rows: Table<CompositeRow>,
     pub grant_rows: Vec<GrantRow>,
     pub inherit_rows: Vec<InheritRow>,
     pub definition_rows: Vec<DefinitionRow>,
@@ -51,7 +50,7 @@ impl Model for Tables {
       groups = t.group_rows.items;
       subjects = t.subject_rows.items;
       rows = t.member_rows;
-      composites = t.composite_rows.items;
+      composites = t.composite_rows;
       grants = t.grant_rows.items;
       inherits = t.inherit_rows.items;
       definitions = t.definition_rows.items;
@@ -95,8 +94,8 @@ impl Tables {
             folder_rows,
             group_rows: Vec::new(alloc),
             subject_rows: Vec::new(alloc),
-            member_rows: RowTable::new(alloc),
-            composite_rows: Vec::new(alloc),
+            member_rows: MemberRows::new(alloc),
+            composite_rows: Table::new(alloc),
             grant_rows: Vec::new(alloc),
             inherit_rows: Vec::new(alloc),
             definition_rows: Vec::new(alloc),
@@ -150,21 +149,19 @@ impl Tables {
         Ok(tables)
     }
 
-    /// Adds a composite.
+    /// Adds a composite that isn't one yet.
     pub fn push_composite(&mut self, row: CompositeRow) -> Result<(), AllocError>
+        requires { is_composite row.group self.old.composites ≡ false }
         ensures { OnOk result (self.new ≡ happened (Composed row) self.old) }
     {
-        self.composite_rows.push(row)?;
-        Ok(())
+        self.composite_rows.push(row)
     }
 
     /// Takes a composite's factors away.
-    pub fn remove_composite(&mut self, index: &mut CompositeIndex, group: GroupId)
-        requires { FindsComposites index.old self.old.composites }
-        ensures lists { self.new ≡ happened (Decomposed group) self.old }
-        ensures found { FindsComposites index.new self.new.composites }
+    pub fn remove_composite(&mut self, group: GroupId)
+        ensures { self.new ≡ happened (Decomposed group) self.old }
     {
-        index.remove(&mut self.composite_rows, group);
+        self.composite_rows.remove(group, ());
     }
 
     /// Gives a folder another extension.
@@ -230,7 +227,7 @@ impl Tables {
     }
 
     /// Gives an immediate membership other dates.
-    pub fn window_row(
+    pub fn redate_row(
         &mut self,
         group: GroupId,
         member: &Member,
@@ -239,7 +236,7 @@ impl Tables {
     )
         ensures { self.new ≡ happened (RowRedated group member.now from until) self.old }
     {
-        self.member_rows.window(group, member, from, until);
+        self.member_rows.redate(group, member, from, until);
     }
 
     /// The folder in which a folder stands, and its extension. It is a binary search over the folders.

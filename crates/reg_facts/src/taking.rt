@@ -228,7 +228,7 @@ impl Facts {
         ensures { result ≡ happened (RowRedated group member.now from until) self }
     {
         let mut facts = self;
-        facts.tables.window_row(group, member, from, until);
+        facts.tables.redate_row(group, member, from, until);
         facts
     }
 
@@ -237,7 +237,6 @@ impl Facts {
         ensures { IfOk result (λ f. f ≡ happened (Composed row) self) }
     {
         let mut facts = self;
-        facts.composite_index.insert(row.group)?;
         facts.tables.push_composite(row)?;
         Ok(facts)
     }
@@ -247,9 +246,7 @@ impl Facts {
         ensures { result ≡ happened (Decomposed group) self }
     {
         let mut facts = self;
-        facts
-            .tables
-            .remove_composite(&mut facts.composite_index, group);
+        facts.tables.remove_composite(group);
         facts
     }
 }

@@ -7,6 +7,7 @@ mod command;
 mod event;
 mod field;
 mod forms;
+mod keys;
 mod kinds;
 mod laws;
 mod limits;

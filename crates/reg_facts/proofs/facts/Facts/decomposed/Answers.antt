@@ -6,6 +6,5 @@ use Rattle.reg_facts.proofs.facts.Facts.decomposed.Goals as goal
 
 pub invariant_of-facts : goal.invariant_of-facts
 invariant_of-facts c =
-    let is : c.remove_composite.new.self ≡ happened (Decomposed c.args.group) c.args.self = rw c.facts.view_is at c.remove_composite.ensures.lists in
-    rw is (decomposed_indexed c.facts.inside.subject_index c.facts.inside.children c.facts.inside.composite_index c.remove_composite.new.index c.args.group c.args.self
-    (rw c.facts.view_is at c.facts.invariant) c.requires (rw is at c.remove_composite.ensures.found))
+    let is : c.remove_composite.new.self ≡ happened (Decomposed c.args.group) c.args.self = rw c.facts.view_is at c.remove_composite.ensures in
+    rw is (decomposed_indexed c.facts.inside.subject_index c.facts.inside.children c.args.group c.args.self (rw c.facts.view_is at c.facts.invariant) c.requires)

@@ -9,7 +9,7 @@ use Rattle.reg_facts.proofs.facts.Facts.group_gone.Goals as goal
 pub invariant_of-facts : goal.invariant_of-facts
 invariant_of-facts c =
     let is : c.delete_group.new.self ≡ happened (GroupGone c.args.id) c.args.self = search rules in
-    rw is (group_gone_indexed c.facts.inside.subject_index c.facts.inside.children c.take.new.self c.facts.inside.composite_index c.args.id _ c.args.self
+    rw is (group_gone_indexed c.facts.inside.subject_index c.facts.inside.children c.take.new.self c.args.id _ c.args.self
     (rw c.facts.view_is at c.facts.invariant) c.requires (rw c.facts.view_is at c.place_of_group-home.ensures) (λ x y. rw (← c.number.ensures) (c.take.ensures x y)))
 
 -- ids of sound facts ascend

@@ -8,5 +8,5 @@ use Rattle.reg_facts.proofs.facts.Facts.group_made.Goals as goal
 pub invariant_of-facts : goal.invariant_of-facts
 invariant_of-facts c =
     let is : c.push_group.new.self ≡ happened (GroupMade c.args.row) c.args.self = rw c.facts.view_is at c.in_ok-push_group.ensures in
-    rw is (group_made_indexed c.facts.inside.subject_index c.facts.inside.children c.put.new.self c.facts.inside.composite_index c.args.row c.args.self
+    rw is (group_made_indexed c.facts.inside.subject_index c.facts.inside.children c.put.new.self c.args.row c.args.self
     (rw c.facts.view_is at c.facts.invariant) c.requires (λ x y. rw (← c.number.ensures, ← c.as_str.ensures) (c.in_ok-put.ensures x y)))

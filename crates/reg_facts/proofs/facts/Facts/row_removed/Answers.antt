@@ -7,4 +7,4 @@ use Rattle.reg_facts.proofs.facts.Facts.row_removed.Goals as goal
 pub invariant_of-facts : goal.invariant_of-facts
 invariant_of-facts c =
     let is : c.remove_row.new.self ≡ happened (RowRemoved c.args.group c.args.member.now) c.args.self = rw c.facts.view_is at c.remove_row.ensures in
-    rw is (row_removed_indexed c.facts.inside.subject_index c.facts.inside.children c.facts.inside.composite_index c.args.group c.args.member.now c.args.self (rw c.facts.view_is at c.facts.invariant) c.requires)
+    rw is (row_removed_indexed c.facts.inside.subject_index c.facts.inside.children c.args.group c.args.member.now c.args.self (rw c.facts.view_is at c.facts.invariant) c.requires)

@@ -8,5 +8,5 @@ use Rattle.reg_facts.proofs.facts.Facts.subject_made.Goals as goal
 pub invariant_of-facts : goal.invariant_of-facts
 invariant_of-facts c =
     let is : c.push_subject.new.self ≡ happened (SubjectMade c.args.row) c.args.self = search rules in
-    rw is (subject_made_indexed c.facts.inside.subject_index c.insert.new.self c.facts.inside.children c.facts.inside.composite_index c.args.row c.args.self
+    rw is (subject_made_indexed c.facts.inside.subject_index c.insert.new.self c.facts.inside.children c.args.row c.args.self
     (rw c.facts.view_is at c.facts.invariant) c.requires (λ t. rw (← c.as_str.ensures, ← c.number.ensures) (c.in_ok-insert.ensures t)))
