@@ -6,3 +6,5 @@ pub mod Takings
 pub mod Excluding
 pub mod Cutting
 pub mod Added
+pub mod Seeking
+pub mod PathLemmas
