@@ -8,3 +8,5 @@ pub mod Cutting
 pub mod Added
 pub mod Seeking
 pub mod PathLemmas
+pub mod Finding
+pub mod Founds
