@@ -6,3 +6,7 @@ pub mod Takings
 pub mod Excluding
 pub mod Cutting
 pub mod Added
+pub mod Seeking
+pub mod PathLemmas
+pub mod Finding
+pub mod Founds

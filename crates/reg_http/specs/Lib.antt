@@ -10,3 +10,4 @@ pub mod Responses
 pub mod Routes
 pub mod Queries
 pub mod Parameters
+pub mod Paths
