@@ -7,3 +7,4 @@ pub mod Between
 pub mod Clearing
 pub mod Notes
 pub mod Pairs
+pub mod Held
