@@ -24,7 +24,7 @@ number_tells : (a b : ℕ) → is_eq (nat_cmp a b) ≡ (b == a)
 number_tells a b = grind (arith, nat_tests, common_steps)
 
 -- the order of objects tells whether two are one
-object_tells : (a b : Object) → is_eq (object_cmp a b) ≡ same_object b a
+pub object_tells : (a b : Object) → is_eq (object_cmp a b) ≡ same_object b a
 object_tells (object.Folder a) (object.Folder b) = number_tells a b
 object_tells (object.Folder a) (object.Group b) = refl
 object_tells (object.Folder a) (object.Def b) = refl
@@ -51,7 +51,7 @@ object_tells (object.Subject a) (object.Def b) = refl
 object_tells (object.Subject a) (object.Attr b) = refl
 object_tells (object.Subject a) (object.Subject b) = number_tells a b
 
-object_turned : (a b : Object) → object_cmp b a ≡ ordering_reverse (object_cmp a b)
+pub object_turned : (a b : Object) → object_cmp b a ≡ ordering_reverse (object_cmp a b)
 object_turned (object.Folder a) (object.Folder b) = nat_cmp_total.antisymm b a
 object_turned (object.Folder a) (object.Group b) = refl
 object_turned (object.Folder a) (object.Def b) = refl
@@ -131,11 +131,11 @@ parts Less b c d e p q = refl
 parts Equal b c d e p q = rw (p, q) refl
 parts Greater b c d e p q = refl
 
-of_object : (a : Object) (top : ℕ) (o : Object) (p : Privilege) (h : Holder) → top ≡ 4294967295 → Fits h → is_between grant_cmp (a, privilege.Admin, holder.Everyone) (a, privilege.AttrView, holder.Group top) (o, p, h) ≡ same_object o a
+pub of_object : (a : Object) (top : ℕ) (o : Object) (p : Privilege) (h : Holder) → top ≡ 4294967295 → Fits h → is_between grant_cmp (a, privilege.Admin, holder.Everyone) (a, privilege.AttrView, holder.Group top) (o, p, h) ≡ same_object o a
 of_object a top o p h e f =
     rw (object_turned a o) (parts (object_cmp a o) (privilege_cmp privilege.Admin p) (holder_cmp holder.Everyone h) (privilege_cmp p privilege.AttrView) (holder_cmp h (holder.Group top)) (least p h) (greatest p h top e f)) ∙ object_tells a o
 
-object_itself : (a : Object) → object_cmp a a ≡ Equal
+pub object_itself : (a : Object) → object_cmp a a ≡ Equal
 object_itself (object.Folder a) = grind (arith, nat_tests, common_steps)
 object_itself (object.Group a) = grind (arith, nat_tests, common_steps)
 object_itself (object.Def a) = grind (arith, nat_tests, common_steps)
@@ -154,7 +154,7 @@ all_equal Equal Less c = refl
 all_equal Equal Greater c = refl
 all_equal Equal Equal c = refl
 
-same_grant : (a o : Object) (p q : Privilege) (h j : Holder) → eq_by_cmp grant_cmp (a, p, h) (o, q, j) ≡ (same_object o a && (is_eq (privilege_cmp p q) && is_eq (holder_cmp h j)))
+pub same_grant : (a o : Object) (p q : Privilege) (h j : Holder) → eq_by_cmp grant_cmp (a, p, h) (o, q, j) ≡ (same_object o a && (is_eq (privilege_cmp p q) && is_eq (holder_cmp h j)))
 same_grant a o p q h j = all_equal (object_cmp a o) (privilege_cmp p q) (holder_cmp h j) ∙ rw (object_tells a o) refl
 
 one_more : (s this seen le new mid old : Bool) → new ≡ (if (s && this) && le then true else mid) → mid ≡ (if (s && seen) && le then true else old) → new ≡ (if (s && (seen || this)) && le then true else old)

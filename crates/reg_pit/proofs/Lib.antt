@@ -8,3 +8,4 @@ pub mod Clearing
 pub mod Notes
 pub mod Pairs
 pub mod Held
+pub mod HeldOn

@@ -27,6 +27,10 @@ holder_cmp = (holder_ord.ghosts).cmp
 abbrev pub grant_cmp : Object × Privilege × Holder → Object × Privilege × Holder → Ordering
 grant_cmp a b = ordering_then (ordering_then (object_cmp a.0 b.0) (privilege_cmp a.1 b.1)) (holder_cmp a.2 b.2)
 
+-- by privilege, and then by holder
+abbrev pub held_cmp : Privilege × Holder → Privilege × Holder → Ordering
+held_cmp a b = ordering_then (privilege_cmp a.0 b.0) (holder_cmp a.1 b.1)
+
 -- whether a holder had a privilege on an object at a moment
 abbrev pub is_granted : List (((Object × Privilege × Holder) × ℕ) × ℕ) → Object → Privilege → Holder → ℕ → Bool
 is_granted grants o p h t = covers (spans_of grant_cmp grants (o, p, h)) t

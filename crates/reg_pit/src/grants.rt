@@ -1,12 +1,14 @@
 // Who held which privilege on each object.
-ghost use Rattle.std.specs.Prelude.{◌≡◌, ◌≤◌, ◌+◌, ◌*◌, ◌^◌, ◌&&◌, ℕ, [], length, nat_le, IfOk, if◌then◌else◌};
+ghost use Rattle.std.specs.Prelude.{◌≡◌, ◌≤◌, ◌+◌, ◌*◌, ◌^◌, ◌&&◌, ℕ, [], true, length, map, nat_le, IfOk, if◌then◌else◌};
+ghost use Rattle.std.specs.Ordering.{eq_by_cmp};
+ghost use Rattle.std.specs.List.Sorted.{IsStrictlySortedBy};
 ghost use Rattle.reg_base.specs.declared.privilege.Privilege.{Privilege};
 ghost use Rattle.reg_terms.specs.Kinds.{same_object};
 ghost use Rattle.reg_terms.specs.declared.kinds.Object.{Object};
 ghost use Rattle.reg_terms.specs.declared.kinds.Holder.{Holder};
 ghost use Rattle.reg_pit.specs.Spans.{NoLater};
 ghost use Rattle.reg_pit.specs.Runs.{spans_of};
-ghost use Rattle.reg_pit.specs.Grants.{grant_cmp, is_granted, has_grant, Fits};
+ghost use Rattle.reg_pit.specs.Grants.{grant_cmp, is_granted, has_grant, held_cmp, Fits};
 
 use crate::Intervals;
 use reg_base::{GroupId, Moment, Privilege, Steps};
@@ -18,6 +20,7 @@ use std::sync::ledger::Ledger;
 /// Who held which privilege on each object. Contracts see the intervals by object, privilege and holder.
 #[derive(Drop)]
 pub(crate) struct Grants {
+    alloc: Global,
     granted: Intervals<(Object, Privilege, Holder)>,
 }
 
@@ -54,12 +57,31 @@ fn key_of(object: &Object, privilege: &Privilege, holder: &Holder) -> (Object, P
     (*object, *privilege, *holder)
 }
 
+/// A key is itself, and two keys are one either way round. It does nothing.
+fn law_ties<K: Ord>(key: &K)
+    ensures same { (a : K) → eq_by_cmp K.cmp a a ≡ true }
+    ensures turned { (a b : K) → eq_by_cmp K.cmp a b ≡ eq_by_cmp K.cmp b a }
+{
+    let _ = key;
+}
+
+/// The second and the third of each.
+fn without_first<A: Copy, B: Copy, C: Copy>(
+    alloc: Global,
+    keys: &[(A, B, C)],
+) -> Result<Vec<(B, C)>, AllocError>
+    ensures { IfOk result (λ pairs. pairs.items ≡ map (λ key. (key.1, key.2)) keys.now) }
+{
+    keys.iter().map(|key| (key.1, key.2)).collect(alloc)
+}
+
 impl Grants {
     /// Nobody held anything. Takes no memory.
     pub(crate) fn new(alloc: Global) -> Grants
         ensures { (k : Object × Privilege × Holder) → spans_of grant_cmp result k ≡ [] }
     {
         Grants {
+            alloc,
             granted: Intervals::new(alloc),
         }
     }
@@ -78,12 +100,13 @@ impl Grants {
         let greatest = Holder::Group(GroupId::new(u32::MAX));
         let first = key_of(&object, &Privilege::Admin, &Holder::Everyone);
         let last = key_of(&object, &Privilege::AttrView, &greatest);
-        let mut granted = self.granted.clear(first, last, at)?;
+        let Grants { alloc, granted } = self;
+        let mut granted = granted.clear(first, last, at)?;
         for (privilege, holder) in grants {
             law_fits(holder);
             granted.set(key_of(&object, privilege, holder), true, at)?;
         }
-        Ok(Grants { granted })
+        Ok(Grants { alloc, granted })
     }
 
     /// Whether a holder had a privilege on an object at a moment. A step is one interval looked at. Takes no memory.
@@ -100,5 +123,23 @@ impl Grants {
         ensures cost { (n : ℕ) → steps.new ≡ steps.old + n → 2 ^ n ≤ 2 * length (spans_of grant_cmp self.now (object, privilege, holder)) + 1 }
     {
         self.granted.at((object, privilege, holder), t, steps)
+    }
+
+    /// The privileges that were held on an object at a moment, in order.
+    pub(crate) fn held(
+        &self,
+        object: Object,
+        t: Moment,
+    ) -> Result<Vec<(Privilege, Holder)>, AllocError>
+        ensures ascending { IfOk result (λ grants. IsStrictlySortedBy held_cmp grants.items) }
+        ensures each { IfOk result (λ grants. (p : Privilege) (h : Holder) → has_grant grants.items p h ≡ is_granted self.now object p h t) }
+    {
+        let greatest = Holder::Group(GroupId::new(u32::MAX));
+        let first = key_of(&object, &Privilege::Admin, &Holder::Everyone);
+        let last = key_of(&object, &Privilege::AttrView, &greatest);
+        law_ties(&first);
+        let keys = self.granted.on_between(first, last, t)?;
+        let grants = without_first(self.alloc, &keys)?;
+        Ok(grants)
     }
 }

@@ -1,12 +1,13 @@
 // What was the case at each moment.
 ghost use Rattle.std.specs.Prelude.{◌≡◌, ◌≤◌, ◌+◌, ◌*◌, ◌^◌, ◌==◌, ◌&&◌, ℕ, None, false, length, nat_le, IfOk, if◌then◌else◌};
+ghost use Rattle.std.specs.List.Sorted.{IsStrictlySortedBy};
 ghost use Rattle.reg_base.specs.declared.privilege.Privilege.{Privilege};
 ghost use Rattle.reg_terms.specs.Kinds.{same_object};
 ghost use Rattle.reg_terms.specs.declared.kinds.Object.{Object};
 ghost use Rattle.reg_terms.specs.declared.kinds.Holder.{Holder};
 ghost use Rattle.reg_pit.specs.Spans.{AreSpansOf};
 ghost use Rattle.reg_pit.specs.Members.{Lists};
-ghost use Rattle.reg_pit.specs.Grants.{has_grant};
+ghost use Rattle.reg_pit.specs.Grants.{has_grant, held_cmp};
 
 use crate::grants::Grants;
 use crate::memberships::Memberships;
@@ -173,6 +174,19 @@ impl Past {
         ensures cost { (n : ℕ) → steps.new ≡ steps.old + n → 2 ^ n ≤ 2 * length (grant_spans self.now object privilege holder) + 1 }
     {
         self.grants.at(object, privilege, holder, t, steps)
+    }
+
+    /// The privileges that were held on an object at a moment: by privilege, and then everyone, persons and groups by id.
+    /// Costs what was ever noted of the object.
+    pub fn grants_at(
+        &self,
+        object: Object,
+        t: Moment,
+    ) -> Result<Vec<(Privilege, Holder)>, AllocError>
+        ensures ascending { IfOk result (λ grants. IsStrictlySortedBy held_cmp grants.items) }
+        ensures each { IfOk result (λ grants. (p : Privilege) (h : Holder) → has_grant grants.items p h ≡ was_granted self.now object p h t) }
+    {
+        self.grants.held(object, t)
     }
 
     /// The wheel group at a moment: none where the last note of it up to the moment was none, or there is no such note.
