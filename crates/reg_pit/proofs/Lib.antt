@@ -7,3 +7,5 @@ pub mod Between
 pub mod Clearing
 pub mod Notes
 pub mod Pairs
+pub mod Held
+pub mod HeldOn

@@ -57,6 +57,7 @@ module _ (a : ℕ) where
     where
       found : (p : ℕ × ℕ) → (eq_by_cmp pair_cmp p p || list_any (eq_by_cmp pair_cmp p) pairs) ≡ true
       found (x, y) = let itself : eq_by_cmp pair_cmp (x, y) (x, y) ≡ true = grind (arith, nat_tests, common_steps) in rw itself refl
+
       any_true : (b : Bool) → (b || true) ≡ true
       any_true true = refl
       any_true false = refl
@@ -93,6 +94,7 @@ module _ (a : ℕ) where
     where
       of_between : (k : ℕ × ℕ) (b c : Bool) → (b && c) ≡ true → b ≡ ((k.0 == a) && nat_le k.1 4294967295) → (k.0 == a) ≡ true
       of_between k b c h e = grind (arith, nat_tests, common_steps, h, e)
+
       passes : (n : ℕ) → (((a == a) && nat_le n 4294967295) && test n) ≡ test n
       passes n =
           let itself : (a == a) ≡ true = grind (arith, nat_tests) in

@@ -2,4 +2,5 @@ pub mod Spans
 pub mod Runs
 pub mod Members
 pub mod Wheel
+pub mod Grants
 pub mod Past

@@ -1,8 +1,12 @@
 -- What was the case at a moment.
 use Rattle.std.specs.Prelude.{◌≡◌, ℕ, List, Bool, Option}
+use Rattle.reg_base.specs.declared.privilege.Privilege.{Privilege}
+use Rattle.reg_terms.specs.declared.kinds.Object.{Object}
+use Rattle.reg_terms.specs.declared.kinds.Holder.{Holder}
 use Rattle.reg_pit.specs.Spans.{NoLater}
 use Rattle.reg_pit.specs.Runs.{spans_of}
 use Rattle.reg_pit.specs.Members.{pair_cmp, are_on}
+use Rattle.reg_pit.specs.Grants.{grant_cmp, is_granted}
 use Rattle.reg_pit.specs.Wheel.{noted_at, AreNotedBy}
 use Rattle.reg_pit.specs.declared.past.Past.{Past}
 
@@ -14,6 +18,14 @@ member_spans past g s = spans_of pair_cmp past.memberships (g, s)
 abbrev pub was_member : Past → ℕ → ℕ → ℕ → Bool
 was_member past g s t = are_on past.memberships g s t
 
+-- the intervals in which the holder had the privilege on the object
+abbrev pub grant_spans : Past → Object → Privilege → Holder → List (ℕ × Option ℕ)
+grant_spans past o p h = spans_of grant_cmp past.grants (o, p, h)
+
+-- whether the holder had the privilege on the object at a moment
+abbrev pub was_granted : Past → Object → Privilege → Holder → ℕ → Bool
+was_granted past o p h t = is_granted past.grants o p h t
+
 -- the wheel group at a moment
 abbrev pub wheel_at : Past → ℕ → Option ℕ
 wheel_at past t = noted_at past.wheel t
@@ -21,11 +33,15 @@ wheel_at past t = noted_at past.wheel t
 -- nothing was noted later than a moment
 pub record NotedBy (at : ℕ) (past : Past) : Type 0 where
   pub members : (k : ℕ × ℕ) → NoLater at (spans_of pair_cmp past.memberships k)
+  pub grants : (k : Object × Privilege × Holder) → NoLater at (spans_of grant_cmp past.grants k)
   pub wheel : AreNotedBy at past.wheel
 
--- what is said of memberships, or of the wheel group, is what was said before
+-- what is said of memberships, of grants or of the wheel group is what was said before
 abbrev pub KeepsMembers : Past → Past → Type 0
 KeepsMembers old new = (g s t : ℕ) → was_member new g s t ≡ was_member old g s t
+
+abbrev pub KeepsGrants : Past → Past → Type 0
+KeepsGrants old new = (o : Object) (p : Privilege) (h : Holder) (t : ℕ) → was_granted new o p h t ≡ was_granted old o p h t
 
 abbrev pub KeepsWheel : Past → Past → Type 0
 KeepsWheel old new = (t : ℕ) → wheel_at new t ≡ wheel_at old t

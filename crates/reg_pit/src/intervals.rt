@@ -77,7 +77,8 @@ fn end<K: Ord + Copy>(
         return Ok(());
     };
     if start.micros() < at.micros() {
-        starts.insert((key, End::at(at)), start)?;
+        let now = End::at(at);
+        starts.insert((key, now), start)?;
         starts.remove(&(key, never));
         return Ok(());
     }

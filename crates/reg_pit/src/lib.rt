@@ -2,6 +2,7 @@
 #![tactic(auto)]
 
 mod ends;
+mod grants;
 mod intervals;
 mod memberships;
 mod past;

@@ -1,11 +1,19 @@
 // What was the case at each moment.
 ghost use Rattle.std.specs.Prelude.{◌≡◌, ◌≤◌, ◌+◌, ◌*◌, ◌^◌, ◌==◌, ◌&&◌, ℕ, None, false, length, nat_le, IfOk, if◌then◌else◌};
+ghost use Rattle.std.specs.List.Sorted.{IsStrictlySortedBy};
+ghost use Rattle.reg_base.specs.declared.privilege.Privilege.{Privilege};
+ghost use Rattle.reg_terms.specs.Kinds.{same_object};
+ghost use Rattle.reg_terms.specs.declared.kinds.Object.{Object};
+ghost use Rattle.reg_terms.specs.declared.kinds.Holder.{Holder};
 ghost use Rattle.reg_pit.specs.Spans.{AreSpansOf};
 ghost use Rattle.reg_pit.specs.Members.{Lists};
+ghost use Rattle.reg_pit.specs.Grants.{has_grant, held_cmp};
 
+use crate::grants::Grants;
 use crate::memberships::Memberships;
 use crate::wheel::Wheel;
-use reg_base::{GroupId, Moment, Steps, SubjectId};
+use reg_base::{GroupId, Moment, Privilege, Steps, SubjectId};
+use reg_terms::{Holder, Object};
 use std::alloc::{AllocError, Global};
 use std::sync::ledger::Ledger;
 
@@ -13,20 +21,23 @@ use std::sync::ledger::Ledger;
 #[derive(Drop)]
 pub struct Past {
     memberships: Memberships,
+    grants: Grants,
     wheel: Wheel,
 }
 
 impl Past {
-    ghost use Rattle.reg_pit.specs.Past.{was_member, member_spans, wheel_at, NotedBy, KeepsMembers, KeepsWheel};
+    ghost use Rattle.reg_pit.specs.Past.{was_member, member_spans, was_granted, grant_spans, wheel_at, NotedBy, KeepsMembers, KeepsGrants, KeepsWheel};
 
     /// Nothing was ever the case. Takes no memory.
     pub fn start(alloc: Global) -> Past
         ensures members { (g s t : ℕ) → was_member result g s t ≡ false }
+        ensures grants { (o : Object) (p : Privilege) (h : Holder) (t : ℕ) → was_granted result o p h t ≡ false }
         ensures wheel { (t : ℕ) → wheel_at result t ≡ None }
         ensures last { (at : ℕ) → NotedBy at result }
     {
         Past {
             memberships: Memberships::new(alloc),
+            grants: Grants::new(alloc),
             wheel: Wheel::new(alloc),
         }
     }
@@ -42,12 +53,48 @@ impl Past {
     ) -> Result<Past, AllocError>
         requires { NotedBy at self }
         ensures noted { IfOk result (λ past. (x y t : ℕ) → was_member past x y t ≡ (if ((x == g) && (y == s)) && nat_le at t then on else was_member self x y t)) }
+        ensures grants { IfOk result (λ past. KeepsGrants self past) }
         ensures wheel { IfOk result (λ past. KeepsWheel self past) }
         ensures last { IfOk result (λ past. NotedBy at past) }
     {
-        let Past { memberships, wheel } = self;
+        let Past {
+            memberships,
+            grants,
+            wheel,
+        } = self;
         let memberships = memberships.note(g, s, on, at)?;
-        Ok(Past { memberships, wheel })
+        Ok(Past {
+            memberships,
+            grants,
+            wheel,
+        })
+    }
+
+    /// From a moment on the privileges held on an object are exactly these; nothing was noted later. What was so before the
+    /// moment stays so. Out of memory the past is given up. Costs what was ever noted of the object.
+    pub fn note_grants(
+        self,
+        object: Object,
+        grants: &[(Privilege, Holder)],
+        at: Moment,
+    ) -> Result<Past, AllocError>
+        requires { NotedBy at self }
+        ensures noted { IfOk result (λ past. (o : Object) (p : Privilege) (h : Holder) (t : ℕ) → was_granted past o p h t ≡ (if same_object o object && nat_le at t then has_grant grants.now p h else was_granted self o p h t)) }
+        ensures members { IfOk result (λ past. KeepsMembers self past) }
+        ensures wheel { IfOk result (λ past. KeepsWheel self past) }
+        ensures last { IfOk result (λ past. NotedBy at past) }
+    {
+        let Past {
+            memberships,
+            grants: granted,
+            wheel,
+        } = self;
+        let granted = granted.note(object, grants, at)?;
+        Ok(Past {
+            memberships,
+            grants: granted,
+            wheel,
+        })
     }
 
     /// From a moment on the wheel group is this, or there is none; nothing was noted later. What was so before the moment
@@ -56,14 +103,20 @@ impl Past {
         requires { NotedBy at self }
         ensures noted { IfOk result (λ past. (t : ℕ) → wheel_at past t ≡ (if nat_le at t then wheel else wheel_at self t)) }
         ensures members { IfOk result (λ past. KeepsMembers self past) }
+        ensures grants { IfOk result (λ past. KeepsGrants self past) }
         ensures last { IfOk result (λ past. NotedBy at past) }
     {
         let Past {
             memberships,
+            grants,
             wheel: notes,
         } = self;
         let wheel = notes.note(wheel, at)?;
-        Ok(Past { memberships, wheel })
+        Ok(Past {
+            memberships,
+            grants,
+            wheel,
+        })
     }
 
     /// Whether a person was an effective member of a group at a moment. A step is one interval looked at. Takes no memory.
@@ -105,6 +158,35 @@ impl Past {
         ensures { IfOk result (λ groups. Lists (λ g. was_member self.now g s t) groups.items) }
     {
         self.memberships.groups(s, t)
+    }
+
+    /// Whether a holder had a privilege on an object at a moment. A step is one interval looked at. Takes no memory.
+    pub fn was_granted<L: Ledger>(
+        &self,
+        object: Object,
+        privilege: Privilege,
+        holder: Holder,
+        t: Moment,
+        steps: &mut Steps<L>,
+    ) -> bool
+        ensures value { result ≡ was_granted self.now object privilege holder t }
+        ensures looks { steps.new ≤ steps.old + 1 }
+        ensures cost { (n : ℕ) → steps.new ≡ steps.old + n → 2 ^ n ≤ 2 * length (grant_spans self.now object privilege holder) + 1 }
+    {
+        self.grants.at(object, privilege, holder, t, steps)
+    }
+
+    /// The privileges that were held on an object at a moment: by privilege, and then everyone, persons and groups by id.
+    /// Costs what was ever noted of the object.
+    pub fn grants_at(
+        &self,
+        object: Object,
+        t: Moment,
+    ) -> Result<Vec<(Privilege, Holder)>, AllocError>
+        ensures ascending { IfOk result (λ grants. IsStrictlySortedBy held_cmp grants.items) }
+        ensures each { IfOk result (λ grants. (p : Privilege) (h : Holder) → has_grant grants.items p h ≡ was_granted self.now object p h t) }
+    {
+        self.grants.held(object, t)
     }
 
     /// The wheel group at a moment: none where the last note of it up to the moment was none, or there is no such note.

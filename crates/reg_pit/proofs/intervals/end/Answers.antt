@@ -12,7 +12,7 @@ returns-in_default-clause-ok g c =
 pub returns-then-micros-clause-ok : goal.returns-then-micros-clause-ok
 returns-then-micros-clause-ok g c =
     let earlier : c.in-Some.start < c.args.at = omega (arith, c.if-micros.true, c.micros.ensures, c.micros-2.ensures) in
-    key_ends g.K.Ord.cmp g.met.K.Ord.total c.args.key c.args.at c.args.starts.now.entries c.requires.kept c.requires.last (search rules) c.never-never.result c.at.result c.never-never.ensures c.at.ensures
+    key_ends g.K.Ord.cmp g.met.K.Ord.total c.args.key c.args.at c.args.starts.now.entries c.requires.kept c.requires.last (search rules) c.never-never.result c.at-now.result c.never-never.ensures c.at-now.ensures
     c.in-Some.start c.insert.new.self.entries c.remove.new.self.entries (sym c.get.ensures.value ∙ (sym c.copied.ensures ∙ c.in-Some.is)) earlier
     c.in_ok-insert.ensures.entries c.remove.ensures.entries c.remove.ensures.ordered
 
