@@ -6,50 +6,18 @@ use Rattle.serde_json.specs.Written.{compact_text}
 use Rattle.reg_base.specs.MomentText.{text_of}
 use Rattle.reg_terms.specs.declared.kinds.SetOp.{SetOp}
 use Rattle.reg_terms.specs.declared.kinds.SetOp.TheVariants.{Intersection, Complement}
-use Rattle.reg_terms.specs.declared.refusal.Refusal.{Refusal}
-use Rattle.reg_terms.specs.declared.refusal.Refusal.TheVariants as refusal
 use Rattle.reg_terms.specs.declared.query.Answer.{Answer}
 use Rattle.reg_terms.specs.declared.query.Answer.TheVariants as answer
 use Rattle.reg_terms.specs.declared.shown.FactorsShown.{FactorsShown}
 use Rattle.reg_terms.specs.declared.shown.RowShown.{RowShown}
 use Rattle.reg_terms.specs.declared.reply.Reply.{Reply}
 use Rattle.reg_terms.specs.declared.reply.Reply.TheVariants as reply
-
--- a refusal that carries nothing, by its code and name
-unfoldable pub bare : ℕ → List ℕ → Data
-bare code name = object (member (codes "code") (number (unsigned code)) (member (codes "refused") (string name) no_members))
-
--- a refusal that carries a text, whose key comes before `refused`
-unfoldable pub naming : ℕ → List ℕ → List ℕ → List ℕ → Data
-naming code key text name = object (member (codes "code") (number (unsigned code)) (member key (string text) (member (codes "refused") (string name) no_members)))
-
--- a refusal as JSON data
-unfoldable pub refusal_data : Refusal → Data
-refusal_data (refusal.TooLong limit) = object (member (codes "code") (number (unsigned 1)) (member (codes "limit") (number (unsigned limit)) (member (codes "refused") (string (codes "TooLong")) no_members)))
-refusal_data (refusal.BadRequest field) = naming 2 (codes "field") field (codes "BadRequest")
-refusal_data (refusal.BadName field) = naming 3 (codes "field") field (codes "BadName")
-refusal_data (refusal.BadMoment field) = naming 4 (codes "field") field (codes "BadMoment")
-refusal_data (refusal.NotFound name) = naming 6 (codes "object") name (codes "NotFound")
-refusal_data refusal.BadWindow = bare 9 (codes "BadWindow")
-refusal_data (refusal.WrongKind field) = naming 10 (codes "field") field (codes "WrongKind")
-refusal_data (refusal.Taken name) = naming 11 (codes "object") name (codes "Taken")
-refusal_data refusal.Already = bare 12 (codes "Already")
-refusal_data refusal.NoSuch = bare 13 (codes "NoSuch")
-refusal_data (refusal.IsComposite name) = naming 14 (codes "object") name (codes "IsComposite")
-refusal_data refusal.HasMembers = bare 15 (codes "HasMembers")
-refusal_data (refusal.Circular name) = naming 16 (codes "object") name (codes "Circular")
-refusal_data (refusal.InUse used) = object (member (codes "code") (number (unsigned 17)) (member (codes "refused") (string (codes "InUse")) (member (codes "use") (string used) no_members)))
-refusal_data refusal.NotEmpty = bare 18 (codes "NotEmpty")
-refusal_data (refusal.Full kind limit) = object (member (codes "code") (number (unsigned 26)) (member (codes "kind") (string kind) (member (codes "limit") (number (unsigned limit)) (member (codes "refused") (string (codes "Full")) no_members))))
+use Rattle.reg_json.specs.Flat.{moment_data}
+use Rattle.reg_json.specs.Refusals.{refusal_data}
 
 -- texts as an array's items
 abbrev pub strings : List (List ℕ) → Items
 strings ts = items_of (map string ts)
-
--- a moment by its text, or null
-abbrev pub moment_data : Option ℕ → Data
-moment_data None = null
-moment_data (Some moment) = string (text_of moment)
 
 -- an immediate membership as JSON data
 abbrev pub row_data : RowShown → Data

@@ -1,16 +1,19 @@
 //! Requests and replies as JSON.
 #![tactic(auto)]
 
+mod answer;
 mod fault;
 mod fields;
+mod flat;
 mod forms;
 mod laws;
 mod ops;
 mod refusal;
 mod reply;
 mod request;
+mod said;
 mod shown;
 
 pub use laws::{law_long_is_refused, law_read_is_formed};
-pub use reply::{no_memory_line, write_reply};
+pub use reply::{append_line, append_reply, no_memory_line, write_reply};
 pub use request::read_request;

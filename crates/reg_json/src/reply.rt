@@ -1,81 +1,67 @@
 // Replies.
-ghost use Rattle.std.specs.Prelude.{◌≡◌, ◌++◌, ◌∷◌, [], IfOk, string_bytes};
-ghost use Rattle.serde_json.specs.Data.{array};
-ghost use Rattle.serde_json.specs.View.{view};
-ghost use Rattle.reg_json.specs.Replies.{strings, answer_data, reply_data, text};
+ghost use Rattle.std.specs.Prelude.{◌≡◌, ◌++◌, ◌∷◌, [], IfOk, OnOk, string_bytes};
+ghost use Rattle.json.specs.Tree.{json_tokens};
+ghost use Rattle.serde_json.specs.Written.{outline};
+ghost use Rattle.reg_json.specs.Replies.{reply_data, text};
 
-use crate::refusal::refusal_value;
-use crate::shown::{factors_value, rows_value};
-use reg_base::Text;
-use reg_terms::{Answer, Reply};
-use serde_json::{Value, json};
+use crate::answer::put_answer;
+use crate::flat::{Scalar, put_object};
+use crate::refusal::put_refusal;
+use json::Writer;
+use reg_terms::Reply;
 use std::alloc::{AllocError, Global};
 
-#[tactic(auto, using(serde_json::specs::declared::value::Value::the_lemmas))]
-fn strings(alloc: Global, texts: &[Text]) -> Result<Value, AllocError>
-    ensures { IfOk result (λ v. view v ≡ array (strings texts.now)) }
-{
-    let mut list = Vec::new(alloc);
-    for text in texts {
-        let value = Value::try_from_str(alloc, text.as_str())?;
-        list.push(value)?;
-    }
-    Ok(Value::Array(list))
-}
-
-#[tactic(auto, unfolding(crate::specs::Replies::answer_data))]
-fn answer_value(alloc: Global, answer: &Answer) -> Result<Value, AllocError>
-    ensures { IfOk result (λ v. view v ≡ answer_data answer.now) }
-{
-    match answer {
-        Answer::GroupGet { display, name } => {
-            json!(in alloc; {"display": display.as_str(), "name": name.as_str(), "ok": true})
-        }
-        Answer::FolderList {
-            attributes,
-            definitions,
-            folders,
-            groups,
-        } => {
-            let attributes = strings(alloc, attributes.list())?;
-            let definitions = strings(alloc, definitions.list())?;
-            let folders = strings(alloc, folders.list())?;
-            let groups = strings(alloc, groups.list())?;
-            json!(in alloc; {"attributes": attributes, "definitions": definitions, "folders": folders, "groups": groups, "ok": true})
-        }
-        Answer::Members { members } => {
-            let texts = strings(alloc, members.list())?;
-            json!(in alloc; {"members": texts, "ok": true})
-        }
-        Answer::Rows { composite, rows } => {
-            let composite = factors_value(alloc, composite)?;
-            let rows = rows_value(alloc, rows.list())?;
-            json!(in alloc; {"composite": composite, "ok": true, "rows": rows})
-        }
-    }
-}
-
 #[tactic(auto, unfolding(crate::specs::Replies::reply_data))]
-fn reply_value(alloc: Global, reply: &Reply) -> Result<Value, AllocError>
-    ensures { IfOk result (λ v. view v ≡ reply_data reply.now) }
+fn put_reply(out: &mut Writer, reply: &Reply) -> Result<(), AllocError>
+    ensures ok { OnOk result (out.new.tokens ≡ out.old.tokens ++ json_tokens (outline (reply_data reply.now))) }
+    ensures before { out.new.before ≡ out.old.before }
 {
     match reply {
-        Reply::Number { number } => json!(in alloc; {"number": *number, "ok": true}),
-        Reply::Answer(answer) => answer_value(alloc, answer),
-        Reply::Refused(refusal) => refusal_value(alloc, refusal),
-        Reply::NoMemory => json!(in alloc; {"fault": "memory"}),
-        Reply::KeepFault => json!(in alloc; {"fault": "disk"}),
+        Reply::Number { number } => {
+            let number = ("number", Scalar::Number(*number));
+            put_object(out, &[number, ("ok", Scalar::Flag(true))])
+        }
+        Reply::Answer(answer) => put_answer(out, answer),
+        Reply::Refused(refusal) => put_refusal(out, refusal),
+        Reply::NoMemory => put_object(out, &[("fault", Scalar::Text("memory"))]),
+        Reply::KeepFault => put_object(out, &[("fault", Scalar::Text("disk"))]),
     }
+}
+
+/// The buffer, and behind what it held the text of a reply: compact JSON whose keys ascend, without
+/// an ending LF (`docs/REQUESTS.md`, "Replies"). The only error is out of memory.
+#[tactic(auto, using(crate::proofs::Printing::printed), unfolding(crate::specs::Replies::text))]
+pub fn append_reply(buffer: Vec<u8>, reply: &Reply) -> Result<Vec<u8>, AllocError>
+    ensures { IfOk result (λ bytes. bytes.items ≡ buffer.items ++ text reply.now) }
+{
+    let mut out = Writer::new(buffer);
+    put_reply(&mut out, reply)?;
+    Ok(out.into_inner())
+}
+
+/// The buffer, and behind what it held the text of a reply and LF. It serves the next reply again,
+/// once it is cleared. The only error is out of memory.
+pub fn append_line(buffer: Vec<u8>, reply: &Reply) -> Result<Vec<u8>, AllocError>
+    ensures { IfOk result (λ bytes. bytes.items ≡ buffer.items ++ (text reply.now ++ 10 ∷ [])) }
+{
+    let mut bytes = append_reply(buffer, reply)?;
+    bytes.push(b'\n')?;
+    Ok(bytes)
 }
 
 /// The text of a reply: compact JSON whose keys ascend, without an ending LF
-/// (`docs/REQUESTS.md`, "Replies").
-#[tactic(auto, using(crate::proofs::Floats::no_float), unfolding(crate::specs::Replies::text))]
+/// (`docs/REQUESTS.md`, "Replies"). The only error is out of memory.
+#[tactic(auto, using(crate::proofs::Printing::printed), unfolding(crate::specs::Replies::text))]
 pub fn write_reply(alloc: Global, reply: &Reply) -> Result<String, AllocError>
     ensures { IfOk result (λ s. string_bytes s ≡ text reply.now) }
 {
-    let value = reply_value(alloc, reply)?;
-    value.to_string(alloc)
+    let mut out = Writer::new(Vec::new(alloc));
+    put_reply(&mut out, reply)?;
+    match String::from_utf8(out.into_inner()) {
+        Ok(text) => Ok(text),
+        // what a writer has written is UTF-8
+        Err(_) => unreachable!(),
+    }
 }
 
 /// The text of the reply that there was no memory, with its LF. It takes none.

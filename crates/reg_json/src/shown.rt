@@ -1,54 +1,35 @@
 // What the query of memberships shows, as JSON.
-ghost use Rattle.std.specs.Prelude.{◌≡◌, IfOk};
-ghost use Rattle.reg_base.specs.MomentText.{text_of};
-ghost use Rattle.serde_json.specs.Data.{array, string};
-ghost use Rattle.serde_json.specs.View.{view};
-ghost use Rattle.reg_json.specs.Replies.{kind_word, moment_data, row_data, row_items, factors_data};
+ghost use Rattle.std.specs.Prelude.{◌≡◌, ◌++◌, OnOk};
+ghost use Rattle.json.specs.Tree.{json_tokens};
+ghost use Rattle.serde_json.specs.Data.{array};
+ghost use Rattle.serde_json.specs.Written.{outline};
+ghost use Rattle.reg_json.specs.Replies.{kind_word, row_data, row_items, factors_data};
 
-use reg_base::Moment;
+use crate::flat::{Scalar, put_object};
+use json::Writer;
 use reg_terms::{FactorsShown, RowShown, SetOp};
-use serde_json::{Value, json};
-use std::alloc::{AllocError, Global};
+use std::alloc::AllocError;
 
-fn moment_value(alloc: Global, moment: Moment) -> Result<Value, AllocError>
-    ensures { IfOk result (λ v. view v ≡ string (text_of moment)) }
+fn put_row(out: &mut Writer, row: &RowShown) -> Result<(), AllocError>
+    ensures ok { OnOk result (out.new.tokens ≡ out.old.tokens ++ json_tokens (outline (row_data row.now))) }
+    ensures before { out.new.before ≡ out.old.before }
 {
-    let text = moment.text();
-    match str::from_utf8(&text) {
-        Ok(text) => Value::try_from_str(alloc, text),
-        // the text of a moment is ASCII
-        Err(_) => unreachable!(),
-    }
+    let from = ("from", Scalar::Moment(Some(row.from)));
+    let member = ("member", Scalar::Text(row.member.as_str()));
+    let until = ("until", Scalar::Moment(row.until));
+    put_object(out, &[from, member, until])
 }
 
-fn until_value(alloc: Global, until: Option<Moment>) -> Result<Value, AllocError>
-    ensures { IfOk result (λ v. view v ≡ moment_data until) }
+/// Writes immediate memberships as an array. The only error is out of memory.
+pub fn put_rows(out: &mut Writer, rows: &[RowShown]) -> Result<(), AllocError>
+    ensures ok { OnOk result (out.new.tokens ≡ out.old.tokens ++ json_tokens (outline (array (row_items rows.now)))) }
+    ensures before { out.new.before ≡ out.old.before }
 {
-    match until {
-        Some(moment) => moment_value(alloc, moment),
-        None => Ok(Value::Null),
-    }
-}
-
-fn row_value(alloc: Global, row: &RowShown) -> Result<Value, AllocError>
-    ensures { IfOk result (λ v. view v ≡ row_data row.now) }
-{
-    let from = moment_value(alloc, row.from)?;
-    let until = until_value(alloc, row.until)?;
-    json!(in alloc; {"from": from, "member": row.member.as_str(), "until": until})
-}
-
-/// Immediate memberships as a JSON array. The only error is out of memory.
-#[tactic(auto, using(serde_json::specs::declared::value::Value::the_lemmas))]
-pub fn rows_value(alloc: Global, rows: &[RowShown]) -> Result<Value, AllocError>
-    ensures { IfOk result (λ v. view v ≡ array (row_items rows.now)) }
-{
-    let mut list = Vec::new(alloc);
+    out.begin_array()?;
     for row in rows {
-        let value = row_value(alloc, row)?;
-        list.push(value)?;
+        put_row(out, row)?;
     }
-    Ok(Value::Array(list))
+    out.end_array()
 }
 
 fn kind_word(kind: SetOp) -> &'static str
@@ -60,14 +41,17 @@ fn kind_word(kind: SetOp) -> &'static str
     }
 }
 
-/// The factors of a composite group as JSON, or null for another group. The only error is out of memory.
-pub fn factors_value(alloc: Global, factors: &Option<FactorsShown>) -> Result<Value, AllocError>
-    ensures { IfOk result (λ v. view v ≡ factors_data factors.now) }
+/// Writes the factors of a composite group, or null for another group. The only error is out of
+/// memory.
+pub fn put_factors(out: &mut Writer, factors: &Option<FactorsShown>) -> Result<(), AllocError>
+    ensures ok { OnOk result (out.new.tokens ≡ out.old.tokens ++ json_tokens (outline (factors_data factors.now))) }
+    ensures before { out.new.before ≡ out.old.before }
 {
-    match factors {
-        Some(factors) => {
-            json!(in alloc; {"kind": kind_word(factors.kind), "left": factors.left.as_str(), "right": factors.right.as_str()})
-        }
-        None => Ok(Value::Null),
-    }
+    let Some(factors) = factors else {
+        return out.null();
+    };
+    let kind = ("kind", Scalar::Text(kind_word(factors.kind)));
+    let left = ("left", Scalar::Text(factors.left.as_str()));
+    let right = ("right", Scalar::Text(factors.right.as_str()));
+    put_object(out, &[kind, left, right])
 }

@@ -1,0 +1,43 @@
+-- Refusals as JSON data.
+use Rattle.std.specs.Prelude.{ℕ, List, codes}
+use Rattle.serde_json.specs.Data.{Data, member, no_members, number, unsigned, string}
+use Rattle.serde_json.specs.Data as json
+use Rattle.reg_terms.specs.declared.refusal.Refusal.{Refusal}
+use Rattle.reg_terms.specs.declared.refusal.Refusal.TheVariants as refusal
+
+-- what a refusal carries: nothing, a limit, a field or an object by its text, a use, or a kind of which there would be more than its limit
+pub data Carries : Type 0 where
+  nothing : Carries
+  limit : ℕ → Carries
+  field : List ℕ → Carries
+  object : List ℕ → Carries
+  used : List ℕ → Carries
+  count : List ℕ → ℕ → Carries
+
+-- a refusal by its number, its word and what it carries
+unfoldable pub refused : ℕ → List ℕ → Carries → Data
+refused code word nothing = json.object (member (codes "code") (number (unsigned code)) (member (codes "refused") (string word) no_members))
+refused code word (limit n) = json.object (member (codes "code") (number (unsigned code)) (member (codes "limit") (number (unsigned n)) (member (codes "refused") (string word) no_members)))
+refused code word (field text) = json.object (member (codes "code") (number (unsigned code)) (member (codes "field") (string text) (member (codes "refused") (string word) no_members)))
+refused code word (object text) = json.object (member (codes "code") (number (unsigned code)) (member (codes "object") (string text) (member (codes "refused") (string word) no_members)))
+refused code word (used text) = json.object (member (codes "code") (number (unsigned code)) (member (codes "refused") (string word) (member (codes "use") (string text) no_members)))
+refused code word (count kind n) = json.object (member (codes "code") (number (unsigned code)) (member (codes "kind") (string kind) (member (codes "limit") (number (unsigned n)) (member (codes "refused") (string word) no_members))))
+
+-- each refusal as JSON data
+unfoldable pub refusal_data : Refusal → Data
+refusal_data (refusal.TooLong n) = refused 1 (codes "TooLong") (limit n)
+refusal_data (refusal.BadRequest text) = refused 2 (codes "BadRequest") (field text)
+refusal_data (refusal.BadName text) = refused 3 (codes "BadName") (field text)
+refusal_data (refusal.BadMoment text) = refused 4 (codes "BadMoment") (field text)
+refusal_data (refusal.NotFound name) = refused 6 (codes "NotFound") (object name)
+refusal_data refusal.BadWindow = refused 9 (codes "BadWindow") nothing
+refusal_data (refusal.WrongKind text) = refused 10 (codes "WrongKind") (field text)
+refusal_data (refusal.Taken name) = refused 11 (codes "Taken") (object name)
+refusal_data refusal.Already = refused 12 (codes "Already") nothing
+refusal_data refusal.NoSuch = refused 13 (codes "NoSuch") nothing
+refusal_data (refusal.IsComposite name) = refused 14 (codes "IsComposite") (object name)
+refusal_data refusal.HasMembers = refused 15 (codes "HasMembers") nothing
+refusal_data (refusal.Circular name) = refused 16 (codes "Circular") (object name)
+refusal_data (refusal.InUse text) = refused 17 (codes "InUse") (used text)
+refusal_data refusal.NotEmpty = refused 18 (codes "NotEmpty") nothing
+refusal_data (refusal.Full kind n) = refused 26 (codes "Full") (count kind n)

@@ -1,0 +1,17 @@
+-- What a refusal says, as JSON data.
+use Rattle.serde_json.specs.Data.{Data}
+use Rattle.reg_json.specs.declared.said.Said.{Said}
+use Rattle.reg_json.specs.declared.said.Carried.{Carried}
+use Rattle.reg_json.specs.declared.said.Carried.TheVariants as carried
+use Rattle.reg_json.specs.Refusals.{Carries, nothing, limit, field, object, used, count, refused}
+
+abbrev pub carries : Carried → Carries
+carries carried.Nothing = nothing
+carries (carried.Limit n) = limit n
+carries (carried.Field text) = field text.now
+carries (carried.Object name) = object name.now
+carries (carried.Use text) = used text.now
+carries (carried.Count kind n) = count kind.now n
+
+abbrev pub said_data : Said → Data
+said_data said = refused said.code said.word.now (carries said.carried)

@@ -1,0 +1,116 @@
+// Answers to queries as JSON.
+ghost use Rattle.std.specs.Prelude.{◌≡◌, ◌++◌, ◌∷◌, OnOk};
+ghost use Rattle.json.specs.Token.{key};
+ghost use Rattle.json.specs.Tree.{json_tokens};
+ghost use Rattle.serde_json.specs.Data.{array};
+ghost use Rattle.serde_json.specs.Written.{outline};
+ghost use Rattle.reg_json.specs.Replies.{strings, answer_data};
+ghost use Rattle.reg_terms.specs.declared.query.Answer.TheVariants as answer;
+
+use crate::flat::{Scalar, put_object};
+use crate::shown::{put_factors, put_rows};
+use json::Writer;
+use reg_base::{Name, Text};
+use reg_terms::{Answer, FactorsShown, RowsShown, Texts};
+use std::alloc::AllocError;
+
+fn put_strings(out: &mut Writer, texts: &Texts) -> Result<(), AllocError>
+    ensures ok { OnOk result (out.new.tokens ≡ out.old.tokens ++ json_tokens (outline (array (strings texts.now)))) }
+    ensures before { out.new.before ≡ out.old.before }
+{
+    out.begin_array()?;
+    let mut pieces = texts.pieces();
+    while let Some(text) = pieces.next() {
+        out.string(text)?;
+    }
+    out.end_array()
+}
+
+/// A member that is an array of texts.
+fn put_named_strings(out: &mut Writer, name: &str, texts: &Texts) -> Result<(), AllocError>
+    ensures ok { OnOk result (out.new.tokens ≡ out.old.tokens ++ key name.now ∷ json_tokens (outline (array (strings texts.now)))) }
+    ensures before { out.new.before ≡ out.old.before }
+{
+    out.key(name)?;
+    put_strings(out, texts)
+}
+
+#[tactic(auto, unfolding(crate::specs::Replies::answer_data))]
+fn put_group<'a>(out: &mut Writer, display: &'a Text, name: &'a Name) -> Result<(), AllocError>
+    ensures ok { OnOk result (out.new.tokens ≡ out.old.tokens ++ json_tokens (outline (answer_data (answer.GroupGet display.now name.now)))) }
+    ensures before { out.new.before ≡ out.old.before }
+{
+    let display = ("display", Scalar::Text(display.as_str()));
+    let name = ("name", Scalar::Text(name.as_str()));
+    put_object(out, &[display, name, ("ok", Scalar::Flag(true))])
+}
+
+#[tactic(auto, unfolding(crate::specs::Replies::answer_data))]
+fn put_listing(
+    out: &mut Writer,
+    attributes: &Texts,
+    definitions: &Texts,
+    folders: &Texts,
+    groups: &Texts,
+) -> Result<(), AllocError>
+    ensures ok { OnOk result (out.new.tokens ≡ out.old.tokens ++ json_tokens (outline (answer_data (answer.FolderList attributes.now definitions.now folders.now groups.now)))) }
+    ensures before { out.new.before ≡ out.old.before }
+{
+    out.begin_object()?;
+    put_named_strings(out, "attributes", attributes)?;
+    put_named_strings(out, "definitions", definitions)?;
+    put_named_strings(out, "folders", folders)?;
+    put_named_strings(out, "groups", groups)?;
+    out.key("ok")?;
+    out.boolean(true)?;
+    out.end_object()
+}
+
+#[tactic(auto, unfolding(crate::specs::Replies::answer_data))]
+fn put_members(out: &mut Writer, members: &Texts) -> Result<(), AllocError>
+    ensures ok { OnOk result (out.new.tokens ≡ out.old.tokens ++ json_tokens (outline (answer_data (answer.Members members.now)))) }
+    ensures before { out.new.before ≡ out.old.before }
+{
+    out.begin_object()?;
+    put_named_strings(out, "members", members)?;
+    out.key("ok")?;
+    out.boolean(true)?;
+    out.end_object()
+}
+
+#[tactic(auto, unfolding(crate::specs::Replies::answer_data))]
+fn put_memberships(
+    out: &mut Writer,
+    composite: &Option<FactorsShown>,
+    rows: &RowsShown,
+) -> Result<(), AllocError>
+    ensures ok { OnOk result (out.new.tokens ≡ out.old.tokens ++ json_tokens (outline (answer_data (answer.Rows composite.now rows.now)))) }
+    ensures before { out.new.before ≡ out.old.before }
+{
+    out.begin_object()?;
+    out.key("composite")?;
+    put_factors(out, composite)?;
+    out.key("ok")?;
+    out.boolean(true)?;
+    out.key("rows")?;
+    put_rows(out, rows.list())?;
+    out.end_object()
+}
+
+/// Writes what a query is answered. The only error is out of memory.
+pub fn put_answer(out: &mut Writer, answer: &Answer) -> Result<(), AllocError>
+    ensures ok { OnOk result (out.new.tokens ≡ out.old.tokens ++ json_tokens (outline (answer_data answer.now))) }
+    ensures before { out.new.before ≡ out.old.before }
+{
+    match answer {
+        Answer::GroupGet { display, name } => put_group(out, display, name),
+        Answer::FolderList {
+            attributes,
+            definitions,
+            folders,
+            groups,
+        } => put_listing(out, attributes, definitions, folders, groups),
+        Answer::Members { members } => put_members(out, members),
+        Answer::Rows { composite, rows } => put_memberships(out, composite, rows),
+    }
+}

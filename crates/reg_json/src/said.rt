@@ -1,0 +1,130 @@
+// What refusals say.
+ghost use Rattle.std.specs.Prelude.{◌≡◌, ◌++◌, OnOk};
+ghost use Rattle.json.specs.Tree.{json_tokens};
+ghost use Rattle.serde_json.specs.Written.{outline};
+ghost use Rattle.reg_json.specs.Refusals.{refused};
+ghost use Rattle.reg_json.specs.Refusals as say;
+ghost use Rattle.reg_json.specs.Said.{said_data};
+
+use crate::flat::{Scalar, put_object};
+use json::Writer;
+use reg_base::Text;
+use std::alloc::AllocError;
+
+/// What a refusal says: its number, its word and what it carries.
+#[derive(Drop)]
+pub struct Said<'a> {
+    pub code: u64,
+    pub word: &'static str,
+    pub carried: Carried<'a>,
+}
+
+/// What a refusal carries.
+#[derive(Drop)]
+pub enum Carried<'a> {
+    Nothing,
+    Limit(u64),
+    Field(&'a Text),
+    Object(&'a Text),
+    Use(&'a Text),
+    /// A kind of which there would be more than its limit.
+    Count(&'a Text, u64),
+}
+
+#[tactic(auto, unfolding(crate::specs::Refusals::refused))]
+fn put_nothing(out: &mut Writer, code: u64, word: &str) -> Result<(), AllocError>
+    ensures ok { OnOk result (out.new.tokens ≡ out.old.tokens ++ json_tokens (outline (refused code word.now say.nothing))) }
+    ensures before { out.new.before ≡ out.old.before }
+{
+    let code = ("code", Scalar::Number(code));
+    let word = ("refused", Scalar::Text(word));
+    put_object(out, &[code, word])
+}
+
+#[tactic(auto, unfolding(crate::specs::Refusals::refused))]
+fn put_limit(out: &mut Writer, code: u64, word: &str, limit: u64) -> Result<(), AllocError>
+    ensures ok { OnOk result (out.new.tokens ≡ out.old.tokens ++ json_tokens (outline (refused code word.now (say.limit limit)))) }
+    ensures before { out.new.before ≡ out.old.before }
+{
+    let code = ("code", Scalar::Number(code));
+    let limit = ("limit", Scalar::Number(limit));
+    let word = ("refused", Scalar::Text(word));
+    put_object(out, &[code, limit, word])
+}
+
+#[tactic(auto, unfolding(crate::specs::Refusals::refused))]
+fn put_field<'a>(
+    out: &mut Writer,
+    code: u64,
+    word: &'a str,
+    field: &'a str,
+) -> Result<(), AllocError>
+    ensures ok { OnOk result (out.new.tokens ≡ out.old.tokens ++ json_tokens (outline (refused code word.now (say.field field.now)))) }
+    ensures before { out.new.before ≡ out.old.before }
+{
+    let code = ("code", Scalar::Number(code));
+    let field = ("field", Scalar::Text(field));
+    let word = ("refused", Scalar::Text(word));
+    put_object(out, &[code, field, word])
+}
+
+#[tactic(auto, unfolding(crate::specs::Refusals::refused))]
+fn put_object_named<'a>(
+    out: &mut Writer,
+    code: u64,
+    word: &'a str,
+    name: &'a str,
+) -> Result<(), AllocError>
+    ensures ok { OnOk result (out.new.tokens ≡ out.old.tokens ++ json_tokens (outline (refused code word.now (say.object name.now)))) }
+    ensures before { out.new.before ≡ out.old.before }
+{
+    let code = ("code", Scalar::Number(code));
+    let name = ("object", Scalar::Text(name));
+    let word = ("refused", Scalar::Text(word));
+    put_object(out, &[code, name, word])
+}
+
+#[tactic(auto, unfolding(crate::specs::Refusals::refused))]
+fn put_use<'a>(out: &mut Writer, code: u64, word: &'a str, used: &'a str) -> Result<(), AllocError>
+    ensures ok { OnOk result (out.new.tokens ≡ out.old.tokens ++ json_tokens (outline (refused code word.now (say.used used.now)))) }
+    ensures before { out.new.before ≡ out.old.before }
+{
+    let code = ("code", Scalar::Number(code));
+    let word = ("refused", Scalar::Text(word));
+    let used = ("use", Scalar::Text(used));
+    put_object(out, &[code, word, used])
+}
+
+#[tactic(auto, unfolding(crate::specs::Refusals::refused))]
+fn put_count<'a>(
+    out: &mut Writer,
+    code: u64,
+    word: &'a str,
+    kind: &'a str,
+    limit: u64,
+) -> Result<(), AllocError>
+    ensures ok { OnOk result (out.new.tokens ≡ out.old.tokens ++ json_tokens (outline (refused code word.now (say.count kind.now limit)))) }
+    ensures before { out.new.before ≡ out.old.before }
+{
+    let code = ("code", Scalar::Number(code));
+    let kind = ("kind", Scalar::Text(kind));
+    let limit = ("limit", Scalar::Number(limit));
+    let word = ("refused", Scalar::Text(word));
+    put_object(out, &[code, kind, limit, word])
+}
+
+/// Writes what a refusal says. The only error is out of memory.
+pub fn put_said(out: &mut Writer, said: &Said<'_>) -> Result<(), AllocError>
+    ensures ok { OnOk result (out.new.tokens ≡ out.old.tokens ++ json_tokens (outline (said_data said.now))) }
+    ensures before { out.new.before ≡ out.old.before }
+{
+    let (code, word) = (said.code, said.word);
+    match &said.carried {
+        Carried::Nothing => put_nothing(out, code, word),
+        Carried::Limit(limit) => put_limit(out, code, word, *limit),
+        Carried::Field(field) => put_field(out, code, word, field.as_str()),
+        Carried::Object(object) => put_object_named(out, code, word, object.as_str()),
+        Carried::Use(used) => put_use(out, code, word, used.as_str()),
+        Carried::Count(kind, limit) => put_count(out, code, word, kind.as_str(), *limit),
+    }
+}
