@@ -1,9 +1,7 @@
-//! Tests that cross crates.
+//! Tests of what no clause says and no worked example shows.
 #![tactic(auto)]
 
 #[cfg(test)]
-mod live_tests;
+mod journal_tests;
 #[cfg(test)]
-mod machines;
-#[cfg(test)]
-mod names_tests;
+mod outside_tests;
