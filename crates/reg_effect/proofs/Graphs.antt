@@ -239,28 +239,6 @@ above_counted L graph k g xs a = record {
 }
 
 -- ---- rows of persons make no edges
-pub person_put : (g p : ℕ) (rows : List (ℕ × Member)) → row_edges (insert_key row_cmp rows (g, Person p)) ≡ row_edges rows
-person_put g p [] = refl
-person_put g p (r ∷ rs) = go (person_put g p rs) (row_cmp (g, Person p) r)
-  where
-    go : row_edges (insert_key row_cmp rs (g, Person p)) ≡ row_edges rs → (o : Ordering) → row_edges (match_ordering o ((g, Person p) ∷ r ∷ rs) (r ∷ rs) (r ∷ insert_key row_cmp rs (g, Person p))) ≡ row_edges (r ∷ rs)
-    go e Less = refl
-    go e Equal = refl
-    go e Greater = ap (λ es. edge_of r.0 r.1 es) e
-
-pub person_taken : (g p : ℕ) (rows : List (ℕ × Member)) → row_edges (remove_key (is_row g (Person p)) rows) ≡ row_edges rows
-person_taken g p [] = refl
-person_taken g p ((y, n) ∷ rs) =
-    let rest = person_taken g p rs in
-    elim (cases_Bool (is_row g (Person p) (y, n))) [
-      | inl t ↦ rw (t, (row_is g (Person p) y n t).1) refl
-      | inr f ↦ rw (f, rest) refl
-    ]
-
-pub person_on_edges : (L : Live) (g p : ℕ) → edges (changed (RowOn g (Person p)) L) ≡ edges L
-unfolding edges
-person_on_edges L g p = ap (λ es. es ++ factor_edges L.composites) (person_put g p L.rows)
-
 -- ---- fewer edges
 pub reaches_fewer : (es fs : List (ℕ × ℕ)) → ((a b : ℕ) → has_edge fs a b ≡ true → has_edge es a b ≡ true) → (a b : ℕ) → reaches fs a b ≡ true → reaches es a b ≡ true
 reaches_fewer es fs fewer a b r = kept_along (λ y. reaches es a y) fs (λ x y e p. reaches_trans es a x y p (reaches_edge es x y (fewer x y e))) a b r (reaches_self es a)

@@ -18,9 +18,7 @@ pub mod Totals
 pub mod Starting
 pub mod Rounds
 pub mod Own
-pub mod Examples
-pub mod Alone
 pub mod LiveOf
 pub mod LiveLaws
-pub mod RowsOff
 pub mod Standing
+pub mod Remembering

@@ -1,11 +1,9 @@
 -- The live data at a moment after one row or composite of the facts more or less.
-use Rattle.std.proofs.Common.{◌≡◌, ◌<◌, ◌≤◌, ◌+◌, ◌==◌, ◌&&◌, ◌||◌, ℕ, List, [], ◌∷◌, ◌++◌, Bool, true, false, not, cond, filter, Option, Some, None, length, take, get_or, arith, refl, sym, ◌∙◌, ap, inl, inr, nat_le}
-use Rattle.std.proofs.lemmas.Bool.{cases_Bool, both_ways, false_from_ne_true, or_cases, or_left, or_right, or_parts, or_from, and_parts, le-leb, eqb-true}
+use Rattle.std.proofs.Common.{◌≡◌, ◌<◌, ◌+◌, ◌==◌, ◌||◌, ℕ, List, [], ◌∷◌, ◌++◌, Bool, true, false, not, cond, filter, Option, Some, None, length, take, get_or, arith, refl, sym, ◌∙◌, ap, inl, inr, nat_le}
+use Rattle.std.proofs.lemmas.Bool.{cases_Bool, both_ways, false_from_ne_true, or_cases, or_left, or_right, or_parts, or_from, eqb-true}
 use Rattle.std.proofs.lemmas.Bool.Decides.{nat_tests}
 use Rattle.std.proofs.lemmas.Grind.{common_steps}
 use Rattle.std.proofs.lemmas.List.{take_more}
-use Rattle.std.proofs.lemmas.Map.Views.{any-filter_same}
-use Rattle.std.proofs.lemmas.List.Kept.{IsStrictlySortedBy-filter}
 use Rattle.std.specs.List.{list_any, find, AllByRecursion}
 use Rattle.std.specs.List.Sorted.{IsStrictlySortedBy}
 use Rattle.std.specs.BTreeSet.{insert_key}
@@ -24,10 +22,9 @@ use Rattle.reg_effect.specs.declared.live.Change.TheVariants.{RowOn, RowOff, Fac
 use Rattle.reg_effect.specs.Member.{is_composite}
 use Rattle.reg_effect.specs.Order.{row_cmp, composite_cmp, is_row, has_row}
 use Rattle.reg_effect.specs.Changes.{rows_on, composites_in, live_of, changed}
-use Rattle.reg_effect.specs.Standing.{AllOn}
-use Rattle.reg_effect.proofs.Edits.{any_put, row_same, row_is, composite_added, composite_absent, group_same}
+use Rattle.reg_effect.proofs.Edits.{composite_added, composite_absent, group_same}
 use Rattle.reg_effect.proofs.Places.{at_number}
-use Rattle.reg_effect.proofs.LiveOf.{put_sorted, all_later, empty_sorted, rows_on_sorted, rows_on_has, rows_on_more, rows_on_less, one_rows}
+use Rattle.reg_effect.proofs.LiveOf.{put_sorted, all_later, empty_sorted, rows_on_more, rows_on_less}
 
 -- ---- a row more
 -- a row that is on comes
@@ -70,33 +67,6 @@ pub row_later_less : (at g : ℕ) (m : Member) (rows : List MemberRow) → has_r
 row_later_less at g m rows h = row_on_less at g m rows ∙ none_taken (is_row g m) (rows_on at rows []) h
 
 -- ---- the rows of a group less
-pub rows_on_without : (at g : ℕ) (rows : List MemberRow) → rows_on at (filter (λ (row : MemberRow). not (row.group == g)) rows) [] ≡ filter (λ (p : ℕ × Member). not (p.0 == g)) (rows_on at rows [])
-rows_on_without at g rows =
-    one_rows (rows_on at left []) (filter keep_pair (rows_on at rows [])) (rows_on_sorted at left [] nothing_sorted) (IsStrictlySortedBy-filter row_cmp keep_pair (rows_on at rows []) (rows_on_sorted at rows [] nothing_sorted))
-    (λ x n. rows_on_has at x n left []
-    ∙ (ap (λ b. b || false) (any-filter_same (test x n) keep (not (x == g)) (λ r t. ap (λ y. not (y == g)) (row_is x n r.group r.member (and_parts (nat_le r.from at) (is_row x n (r.group, r.member)) t).1).0) rows)
-    ∙ (outside (not (x == g)) (list_any (test x n) rows)
-    ∙ sym (any-filter_same (is_row x n) keep_pair (not (x == g)) (λ p t. ap (λ y. not (y == g)) (row_is x n p.0 p.1 t).0) (rows_on at rows []) ∙ ap (λ b. not (x == g) && b) (rows_on_has at x n rows [])))))
-  where
-    keep : MemberRow → Bool
-    keep r = not (r.group == g)
-
-    keep_pair : ℕ × Member → Bool
-    keep_pair p = not (p.0 == g)
-
-    left : List MemberRow
-    left = filter (λ (r : MemberRow). not (r.group == g)) rows
-
-    test : ℕ → Member → MemberRow → Bool
-    test x n r = nat_le r.from at && is_row x n (r.group, r.member)
-
-    nothing_sorted : IsStrictlySortedBy row_cmp []
-    nothing_sorted = empty_sorted row_cmp
-
-    outside : (a b : Bool) → ((a && b) || false) ≡ (a && (b || false))
-    outside true b = refl
-    outside false b = refl
-
 -- ---- a composite more
 pub composites_in_more : (cs : List CompositeRow) (c : CompositeRow) (acc : List CompositeRow) → composites_in (cs ++ c ∷ []) acc ≡ insert_key composite_cmp (composites_in cs acc) c
 composites_in_more [] c acc = refl
@@ -283,36 +253,6 @@ found_in g (c ∷ cs) acc s = found_in g cs (insert_key composite_cmp acc c) (pu
     over (Some x) b p = refl
 
 -- ---- rows that are all on
-pub rows_all_on : (at later : ℕ) (rows : List MemberRow) (acc : List (ℕ × Member)) → AllOn at rows → at ≤ later → rows_on later rows acc ≡ rows_on at rows acc
-rows_all_on at later [] acc a h = refl
-rows_all_on at later (r ∷ rs) acc a h =
-    let is_on : nat_le r.from at ≡ true = le-leb r.from at a.0 in
-    let still_on : nat_le r.from later ≡ true = le-leb r.from later (until r.from at later a.0 h) in
-    rw (is_on, still_on) (rows_all_on at later rs (insert_key row_cmp acc (r.group, r.member)) a.1 h)
-  where
-    until : (x y z : ℕ) → x ≤ y → y ≤ z → x ≤ z
-    until x y z a b = omega (arith, a, b)
-
-pub all_on_later : (at later : ℕ) (rows : List MemberRow) → AllOn at rows → at ≤ later → AllOn later rows
-all_on_later at later [] a h = tt
-all_on_later at later (r ∷ rs) a h = (until r.from at later a.0 h, all_on_later at later rs a.1 h)
-  where
-    until : (x y z : ℕ) → x ≤ y → y ≤ z → x ≤ z
-    until x y z a b = omega (arith, a, b)
-
-pub all_on_more : (at : ℕ) (rows : List MemberRow) (r : MemberRow) → AllOn at rows → r.from ≤ at → AllOn at (rows ++ r ∷ [])
-all_on_more at [] r a h = (h, tt)
-all_on_more at (q ∷ qs) r a h = (a.0, all_on_more at qs r a.1 h)
-
-pub all_on_less : (at : ℕ) (keep : MemberRow → Bool) (rows : List MemberRow) → AllOn at rows → AllOn at (filter keep rows)
-all_on_less at keep [] a = tt
-all_on_less at keep (r ∷ rs) a =
-    let rest = all_on_less at keep rs a.1 in
-    elim (cases_Bool (keep r)) [
-      | inl t ↦ rw t (a.0, rest)
-      | inr f ↦ rw f rest
-    ]
-
 -- ---- tests of the rows that are on
 -- what is put comes, or was there
 pub any_put_from : {X : Type 0} (cmp : X → X → Ordering) (test : X → Bool) (x : X) (xs : List X) → list_any test (insert_key cmp xs x) ≡ true → (test x || list_any test xs) ≡ true
@@ -367,15 +307,3 @@ row_stands at g m rows h = test_stands (is_row g m) at rows h
 
 pub row_absent : (at g : ℕ) (m : Member) (rows : List MemberRow) → facts.has_row g m rows ≡ false → has_row g m (rows_on at rows []) ≡ false
 row_absent at g m rows h = test_absent (is_row g m) at rows h
-
-pub rows_all_has : (test : ℕ × Member → Bool) (at : ℕ) (rows : List MemberRow) (acc : List (ℕ × Member)) → AllOn at rows → list_any test (rows_on at rows acc) ≡ (list_any (λ (r : MemberRow). test (r.group, r.member)) rows || list_any test acc)
-rows_all_has test at [] acc a = refl
-rows_all_has test at (r ∷ rs) acc a =
-    let is_on : nat_le r.from at ≡ true = le-leb r.from at a.0 in
-    rw is_on (rows_all_has test at rs (insert_key row_cmp acc (r.group, r.member)) a.1 ∙ rw (any_put row_cmp test (r.group, r.member) (row_same r.group r.member test) acc) (turned (list_any (λ (r : MemberRow). test (r.group, r.member)) rs) (test (r.group, r.member)) (list_any test acc)))
-  where
-    turned : (a b c : Bool) → (a || (b || c)) ≡ ((b || a) || c)
-    turned true true c = refl
-    turned true false c = refl
-    turned false true c = refl
-    turned false false c = refl

@@ -22,7 +22,7 @@ use Rattle.reg_terms.specs.declared.kinds.Member.TheVariants.{Person, Group}
 use Rattle.reg_terms.specs.declared.rows.CompositeRow.{CompositeRow}
 use Rattle.reg_effect.specs.declared.composites.Factors.{Factors}
 use Rattle.reg_facts.specs.RowOrder.{place_of, place_cmp}
-use Rattle.reg_effect.specs.Order.{row_cmp, composite_cmp, row_at, is_row, has_row, has_rows, nested, row_members, ArePlaces}
+use Rattle.reg_effect.specs.Order.{row_cmp, composite_cmp, row_at, is_row, has_row, has_rows, nested, ArePlaces}
 use Rattle.reg_effect.specs.Factors.{composite_at}
 use Rattle.reg_effect.specs.Member.{is_composite}
 
@@ -190,18 +190,6 @@ range_all g = range_contains place_cmp (Included (g, 0, 0)) (Included (g, 1, 429
 
 pub in_range_all : (g x y z : ℕ) → y < 2 → z < 2 ^ 32 → range_all g (x, y, z) ≡ (x == g)
 in_range_all g x y z k h = grind (arith, nat_tests, common_steps)
-
-pub members_by : (g : ℕ) (ps : List (ℕ × ℕ × ℕ)) → AllByRecursion Small ps → map (λ (p : ℕ × ℕ × ℕ). (row_at p).1) (filter (range_all g) ps) ≡ row_members g (map row_at ps)
-members_by g [] h = refl
-members_by g ((x, y, z) ∷ ps) h =
-    let rest = members_by g ps h.1 in
-    rw (in_range_all g x y z h.0.0 h.0.1) (elim (cases_Bool (x == g)) [
-      | inl t ↦ rw t (ap (λ ms. (row_at (x, y, z)).1 ∷ ms) rest)
-      | inr f ↦ rw f rest
-    ])
-
-pub members_are : (g n : ℕ) (items : List Member) (xs ps : List (ℕ × ℕ × ℕ)) (view : List (ℕ × Member)) → items ≡ map (λ (p : ℕ × ℕ × ℕ). (row_at p).1) xs → xs ≡ filter (range_all n) ps → n ≡ g → ArePlaces ps → map row_at ps ≡ view → items ≡ row_members g view
-members_are g n items xs ps view a b c d e = a ∙ ap (λ ys. map (λ (p : ℕ × ℕ × ℕ). (row_at p).1) ys) b ∙ rw (c, ← e) (members_by g ps (by_place ps d))
 
 pub any_by : (g : ℕ) (ps : List (ℕ × ℕ × ℕ)) → AllByRecursion Small ps → has_rows g (map row_at ps) ≡ list_any (range_all g) ps
 any_by g [] h = refl

@@ -1,6 +1,6 @@
 -- The edges that stand in the facts' lists, and a graph that has them.
 use Rattle.std.proofs.Common.{◌≡◌, ◌+◌, ◌==◌, ◌&&◌, ◌||◌, ℕ, List, [], ◌∷◌, ◌++◌, Bool, true, false, not, map, filter, Option, Some, arith, refl, sym, ◌∙◌, ap, subst, inl, inr, nat_le}
-use Rattle.std.proofs.lemmas.Bool.{cases_Bool, or_cases, or_parts, or_from, or_left, or_right, and_parts, eqb-true, eqb-false, ne_eqb}
+use Rattle.std.proofs.lemmas.Bool.{cases_Bool, or_cases, or_left, or_right, and_parts, eqb-true}
 use Rattle.std.proofs.lemmas.List.Folds.{list_any-append}
 use Rattle.std.proofs.lemmas.List.Sorted.{IsPermutation-refl, IsPermutation-sym, IsPermutation-cons, IsPermutation-trans, IsPermutation-middle, list_any-IsPermutation, sum_by-IsPermutation}
 use Rattle.std.specs.List.{list_any, find}
@@ -24,7 +24,6 @@ use Rattle.reg_effect.specs.Asked.{Once}
 use Rattle.reg_effect.specs.Invariant.{copies}
 use Rattle.reg_effect.specs.Standing.{pair_of, standing, RowsOnce}
 use Rattle.reg_effect.proofs.Edits.{row_is}
-use Rattle.reg_effect.proofs.LiveOf.{row_turned}
 use Rattle.reg_effect.proofs.LiveLaws.{any_put_from, row_stands, row_absent, test_absent, composites_same, live_row_more, live_factors_more}
 use Rattle.reg_effect.proofs.Graphs.{one, two, copies_sum, copies_pushed, copies_taken, copies-append, edge_more, positive, one_self, acyclic_fewer}
 
@@ -283,48 +282,3 @@ module _ (rows : List MemberRow) (cs : List CompositeRow) where
       omega (arith, k, s, t, u, v, w))
 
 -- ---- rows and composites stand once after one more or less
-pub any_filtered_none : {X : Type 0} (test keep : X → Bool) (xs : List X) → list_any test xs ≡ false → list_any test (filter keep xs) ≡ false
-any_filtered_none test keep [] h = refl
-any_filtered_none test keep (x ∷ xs) h =
-    let parts = or_parts (test x) (list_any test xs) h in
-    let rest = any_filtered_none test keep xs parts.1 in
-    elim (cases_Bool (keep x)) [
-      | inl t ↦ rw t (or_from (test x) (list_any test (filter keep xs)) parts.0 rest)
-      | inr f ↦ rw f rest
-    ]
-
-pub any_pushed_none : {X : Type 0} (test : X → Bool) (xs : List X) (y : X) → list_any test xs ≡ false → test y ≡ false → list_any test (xs ++ y ∷ []) ≡ false
-any_pushed_none test xs y h f = list_any-append test xs (y ∷ []) ∙ or_from (list_any test xs) (test y || false) h (or_from (test y) false f refl)
-
-pub rows_once_more : (rows : List MemberRow) (r : MemberRow) → RowsOnce rows → facts.has_row r.group r.member rows ≡ false → RowsOnce (rows ++ r ∷ [])
-rows_once_more [] r o h = (refl, tt)
-rows_once_more (q ∷ qs) r o h =
-    let parts = or_parts (facts.is_row r.group r.member q) (facts.has_row r.group r.member qs) h in
-    (any_pushed_none (facts.is_row q.group q.member) qs r o.0 (row_turned q.group r.group q.member r.member ∙ parts.0), rows_once_more qs r o.1 parts.1)
-
-pub rows_once_less : (keep : MemberRow → Bool) (rows : List MemberRow) → RowsOnce rows → RowsOnce (filter keep rows)
-rows_once_less keep [] o = tt
-rows_once_less keep (r ∷ rs) o =
-    let rest = rows_once_less keep rs o.1 in
-    elim (cases_Bool (keep r)) [
-      | inl t ↦ rw t (any_filtered_none (facts.is_row r.group r.member) keep rs o.0, rest)
-      | inr f ↦ rw f rest
-    ]
-
-pub once_more : (cs : List CompositeRow) (c : CompositeRow) → Once cs → is_composite c.group cs ≡ false → Once (cs ++ c ∷ [])
-once_more [] c o h = (refl, tt)
-once_more (d ∷ ds) c o h =
-    let parts = or_parts (d.group == c.group) (is_composite c.group ds) h in
-    (any_pushed_none (λ (e : CompositeRow). e.group == d.group) ds c o.0 (turned c.group d.group parts.0), once_more ds c o.1 parts.1)
-  where
-    turned : (x y : ℕ) → (y == x) ≡ false → (x == y) ≡ false
-    turned x y f = let n = eqb-false y x f in ne_eqb x y (λ e. n (sym e))
-
-pub once_less : (keep : CompositeRow → Bool) (cs : List CompositeRow) → Once cs → Once (filter keep cs)
-once_less keep [] o = tt
-once_less keep (c ∷ cs) o =
-    let rest = once_less keep cs o.1 in
-    elim (cases_Bool (keep c)) [
-      | inl t ↦ rw t (any_filtered_none (λ (e : CompositeRow). e.group == c.group) keep cs o.0, rest)
-      | inr f ↦ rw f rest
-    ]

@@ -8,5 +8,5 @@ pub mod Bound
 pub mod Asked
 pub mod Walk
 pub mod Invariant
-pub mod Example
 pub mod Standing
+pub mod Turned

@@ -1,5 +1,5 @@
 -- The order of rows and composites: rows by group, then persons, then groups, and composites by group.
-use Rattle.std.specs.Prelude.{ℕ, ◌==◌, ◌&&◌, ◌<◌, ◌^◌, List, [], ◌∷◌, Bool, map, filter, if◌then◌else◌}
+use Rattle.std.specs.Prelude.{ℕ, ◌==◌, ◌&&◌, ◌<◌, ◌^◌, List, [], ◌∷◌, Bool, if◌then◌else◌}
 use Rattle.std.specs.List.{list_any, All}
 use Rattle.std.specs.Ordering.{nat_cmp}
 use Rattle.std.specs.declared.cmp.Ordering.{Ordering}
@@ -42,7 +42,3 @@ abbrev pub nested : ℕ → List (ℕ × Member) → List ℕ
 nested g [] = []
 nested g ((x, Person p) ∷ rows) = nested g rows
 nested g ((x, Group h) ∷ rows) = if x == g then h ∷ nested g rows else nested g rows
-
--- the members that the group's rows name, in order
-abbrev pub row_members : ℕ → List (ℕ × Member) → List Member
-row_members g rows = map (λ (row : ℕ × Member). row.1) (filter (λ (row : ℕ × Member). row.0 == g) rows)

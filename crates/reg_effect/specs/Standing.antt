@@ -1,6 +1,5 @@
 -- What stands in the facts' lists of rows and composites, whether a row is on yet or not.
-use Rattle.std.specs.Prelude.{◌≡◌, ◌≤◌, ⊤, ℕ, List, [], ◌∷◌, ◌++◌, false, map}
-use Rattle.std.specs.List.{AllByRecursion}
+use Rattle.std.specs.Prelude.{◌≡◌, ⊤, ℕ, List, [], ◌∷◌, ◌++◌, false, map}
 use Rattle.reg_terms.specs.declared.kinds.Member.{Member}
 use Rattle.reg_terms.specs.declared.rows.MemberRow.{MemberRow}
 use Rattle.reg_terms.specs.declared.rows.CompositeRow.{CompositeRow}
@@ -14,10 +13,6 @@ pair_of row = (row.group, row.member)
 -- all edges that stand: one of each row of a nested group, on yet or not, and two of each composite
 unfoldable pub standing : List MemberRow → List CompositeRow → List (ℕ × ℕ)
 standing rows composites = row_edges (map pair_of rows) ++ factor_edges composites
-
--- each row is on at the moment
-abbrev pub AllOn : ℕ → List MemberRow → Type 0
-AllOn at rows = AllByRecursion (λ (row : MemberRow). row.from ≤ at) rows
 
 -- no member stands twice in one group
 abbrev pub RowsOnce : List MemberRow → Type 0

@@ -13,10 +13,11 @@ mod pairs;
 mod plain;
 mod relink;
 mod rows;
+mod turned;
 mod uncounted;
 mod walk;
 
-pub use changing::{change_one, put_on, take_off, take_rows};
+pub use changing::{change_one, put_on};
 pub use composites::Composites;
 pub use incremental::Incremental;
 pub use kept::Kept;
@@ -25,6 +26,4 @@ pub use pairs::Pairs;
 pub use plain::Plain;
 pub use relink::link;
 pub use rows::Rows;
-
-#[cfg(test)]
-mod tests;
+pub use turned::Turned;

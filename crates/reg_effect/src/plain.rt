@@ -182,8 +182,16 @@ impl Kept for Plain {
     fn change<L: Ledger>(
         self,
         change: &Change,
-        _steps: &mut Steps<L>,
-    ) -> Result<(Self, Delta), AllocError> {
+        steps: &mut Steps<L>,
+    ) -> Result<(Self, Delta), AllocError>
+        requires { Suits change.now self }
+        ensures live { IfOk result (λ r. r.0 ≡ changed change.now self) }
+        ensures began { IfOk result (λ r. r.1.began ≡ began self (changed change.now self)) }
+        ensures ended { IfOk result (λ r. r.1.ended ≡ ended self (changed change.now self)) }
+        ensures cost { OnOk result (steps.new ≤ steps.old + most_steps change.now self) }
+        ensures no_step { steps.new ≡ steps.old }
+    {
+        let _steps = steps;
         let Plain { alloc, live, table } = self;
         let mut live = live;
         live.edit(change)?;

@@ -3,7 +3,7 @@ ghost use Rattle.std.specs.Prelude.{◌≡◌, ◌<◌, ◌^◌, [], IfOk, OnOk,
 ghost use Rattle.std.specs.BTreeSet.{insert_key};
 ghost use Rattle.std.specs.Set.{remove_key};
 ghost use Rattle.reg_facts.specs.RowOrder.{place_of};
-ghost use Rattle.reg_effect.specs.Order.{row_cmp, row_at, is_row, has_row, has_rows, nested, row_members};
+ghost use Rattle.reg_effect.specs.Order.{row_cmp, row_at, is_row, has_row, has_rows, nested};
 
 use reg_base::{GroupId, SubjectId};
 use reg_facts::Member;
@@ -116,21 +116,6 @@ impl Rows {
             groups.push(GroupId::new(place.2))?;
         }
         Ok(groups)
-    }
-
-    /// The members that the group's rows name: persons by id, then groups by id.
-    pub fn members(&self, group: GroupId) -> Result<Vec<Member>, AllocError>
-        ensures { IfOk result (λ v. v.items ≡ row_members group self.now) }
-    {
-        let number = group.number();
-        let mut members = Vec::new(self.alloc);
-        for place in self
-            .places
-            .range((number, PERSON, 0)..=(number, GROUP, u32::MAX))
-        {
-            members.push(row_at(*place).1)?;
-        }
-        Ok(members)
     }
 
     /// The rows in order.

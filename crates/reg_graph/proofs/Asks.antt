@@ -31,14 +31,14 @@ pub record Asks (lv : ℕ → ℕ) (level : ℕ) (done all : List ℕ) (old now 
 module _ (lv : ℕ → ℕ) (level : ℕ) (done all : List ℕ) (old now : List ((ℕ × ℕ) × ℕ)) (m : Asks lv level done all old now) where
   pub asks_one : (new : List ((ℕ × ℕ) × ℕ)) (x next : ℕ) → among x all ≡ true → next ≡ level + 1 → ((l q : ℕ) → wanted new l q ≡ cond ((l == lv x) && (q == x)) (max (wanted now l q) next) (wanted now l q))
       → ((l q : ℕ) → awaits new l q ≡ (((l == lv x) && (q == x)) || awaits now l q)) → Asks lv level (done ++ x ∷ []) all old new
-  asks_one new x next here is level_is known = record {
+  asks_one new x next here is level_is written = record {
     more = λ l q. let a : wanted old l q ≤ wanted now l q = m.more l q in let b : wanted now l q ≤ wanted new l q = grows l q in omega (arith, a, b);
     raised = λ q a. elim (or_cases (among q done) (q == x) (sym (among_more q x done) ∙ a)) [
       | inl o ↦ let r : level < max (lv q) (wanted now (lv q) q) = m.raised q o in let b : wanted now (lv q) q ≤ wanted new (lv q) q = grows (lv q) q in omega (arith, r, b)
       | inr t ↦ let e : q ≡ x = eqb-true q x t in
           let w : wanted new (lv q) q ≡ max (wanted now (lv q) q) next = level_is (lv q) q ∙ rw (eq-eqb (lv q) (lv x) (ap lv e), t) refl in omega (arith, w, is)
     ];
-    only = λ l q a. elim (or_cases ((l == lv x) && (q == x)) (awaits now l q) (sym (known l q) ∙ a)) [
+    only = λ l q a. elim (or_cases ((l == lv x) && (q == x)) (awaits now l q) (sym (written l q) ∙ a)) [
       | inl new ↦ let w = and_parts (l == lv x) (q == x) new in let e : q ≡ x = eqb-true q x w.1 in inr (eqb-true l (lv x) w.0 ∙ ap lv (sym e), rw e here)
       | inr o ↦ m.only l q o
     ];
@@ -60,9 +60,6 @@ module _ (lv : ℕ → ℕ) (level : ℕ) (done all : List ℕ) (old now : List 
     ];
     only = m.only;
   }
-
-pub asks_start : (lv : ℕ → ℕ) (level : ℕ) (all : List ℕ) (old : List ((ℕ × ℕ) × ℕ)) → Asks lv level [] all old old
-asks_start lv level all old = record { more = λ l q. omega arith; raised = λ q a. cc; only = λ l q a. inl a }
 
 pub among_at : (xs : List ℕ) (i : ℕ) → i < length xs → among (get_or xs i 0) xs ≡ true
 among_at [] i h = absurd (omega (arith, h))
@@ -94,6 +91,3 @@ all_awaiting P (((x, y), v) ∷ es) h a b w = elim (cases_Bool ((x == a) && (y =
   | inl t ↦ let p = and_parts (x == a) (y == b) t in rw (← (eqb-true x a p.0), ← (eqb-true y b p.1)) h.0
   | inr f ↦ all_awaiting P es h.1 a b (rw (at_pair a b x y, f) at w)
 ]
-
-pub none_wanted : (m : List ((ℕ × ℕ) × ℕ)) → m ≡ [] → (l q : ℕ) → wanted m l q ≡ 0
-none_wanted m e l q = rw e refl

@@ -11,11 +11,10 @@ use Rattle.std.specs.Map.Iter.{TakesFirst}
 use Rattle.std.proofs.lemmas.Map.Iter.{iter_turn}
 use Rattle.std.proofs.lemmas.List.{length-map}
 use Rattle.std.specs.List.{list_any, AllByRecursion}
-use Rattle.std.specs.List.Sorted.{IsStrictlySortedBy, IsStrictlyIncreasing}
+use Rattle.std.specs.List.Sorted.{IsStrictlySortedBy}
 use Rattle.std.specs.BTreeSet.{insert_key}
 use Rattle.std.specs.Set.{remove_key}
 use Rattle.std.proofs.lemmas.Map.Views.{All-insert_key, All-remove_key}
-use Rattle.std.proofs.lemmas.Map.Keys.{IsStrictlyIncreasing-from_sorted}
 use Rattle.std.proofs.lemmas.List.Elements.{recursion_from_All}
 use Rattle.std.specs.BTreeMap.Range.{range_contains}
 use Rattle.std.specs.declared.ops.Bound.TheVariants.{Included}
@@ -73,9 +72,6 @@ ascending_by g (k ∷ ks) h =
     let rest = ascending_by g ks h.1 in
     elim (cases_Bool (k.0 == g))
     [ inl t ↦ rw t (later_subjects g k ks t h.0, rest) | inr f ↦ rw f rest ]
-
-pub ascending_listed : (g : ℕ) (keys : List (ℕ × ℕ)) → IsKept keys → IsStrictlyIncreasing (subjects_of g keys)
-ascending_listed g keys k = IsStrictlyIncreasing-from_sorted (subjects_of g keys) (ascending_by g keys k.ordered)
 
 pub listed_is : (g n m : ℕ) (items : List ℕ) (xs keys view : List (ℕ × ℕ)) → items ≡ map (λ (p : ℕ × ℕ). p.1) xs → xs ≡ filter (range_contains pair_cmp (Included (n, 0)) (Included (m, 4294967295))) view → n ≡ g → m ≡ g → IsKept keys → keys ≡ view → items ≡ subjects_of g view
 listed_is g n m items xs keys view a b c d k e = a ∙ ap (λ ys. map (λ (p : ℕ × ℕ). p.1) ys) (b ∙ rw (c, d, ← e) (between_is g keys k))

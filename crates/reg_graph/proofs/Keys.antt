@@ -70,10 +70,6 @@ remove_permutes k (x ∷ xs) h =
     rest true f h = cc
     rest false f h = h
 
-pub edge_is : (z x : ℕ) (keys : List (ℕ × ℕ × ℕ)) → has_edge (map edge_of keys) z x ≡ list_any (λ (k : ℕ × ℕ × ℕ). (k.1 == z) && (k.0 == x)) keys
-edge_is z x [] = refl
-edge_is z x (k ∷ ks) = ap (λ b. ((k.1 == z) && (k.0 == x)) || b) (edge_is z x ks)
-
 -- all keys of a group
 pub between_group : (g x y z : ℕ) → y < 2 ^ 32 → z < 2 ^ 64 → range_contains key_cmp (Included (g, 0, 0)) (Included (g, 4294967295, 18446744073709551615)) (x, y, z) ≡ (x == g)
 between_group g x y z h i = grind (arith, nat_tests, common_steps)

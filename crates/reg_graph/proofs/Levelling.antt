@@ -12,7 +12,7 @@ use Rattle.reg_graph.proofs.Rising.{rising_last, planned_none, planned_more}
 -- the level of x becomes n, which those right above it stand above and those below it stand below
 pub set_level : (es old new : List (ℕ × ℕ)) (x n : ℕ) → IsLevelled es old → ((q : ℕ) → level_of new q ≡ cond (q == x) n (level_of old q)) → ((q : ℕ) → has_level new q ≡ ((q == x) || has_level old q))
     → ((z : ℕ) → has_edge es z x ≡ true → n < level_of old z) → ((y : ℕ) → has_edge es x y ≡ true → level_of old y < n) → IsLevelled es new
-set_level es old new x n w level known over under = record {
+set_level es old new x n w level written over under = record {
   falls = λ a b e. elim (cases_Bool (a == x)) [
     | inl t ↦
         let i : level_of new a ≡ n = level a ∙ rw t refl in
@@ -29,28 +29,25 @@ set_level es old new x n w level known over under = record {
           | inr g ↦ let j : level_of new b ≡ level_of old b = level b ∙ rw g refl in let d : level_of old b < level_of old a = w.falls a b e in omega (arith, i, j, d)
         ]
   ];
-  known = λ a b e. known a ∙ or_right (a == x) _ (w.known a b e);
+  written = λ a b e. written a ∙ or_right (a == x) _ (w.written a b e);
 }
 
 -- a level that is written down again
 pub same_level : (es old new : List (ℕ × ℕ)) (x : ℕ) → IsLevelled es old → ((q : ℕ) → level_of new q ≡ cond (q == x) (level_of old x) (level_of old q)) → ((q : ℕ) → has_level new q ≡ ((q == x) || has_level old q)) → IsLevelled es new
-same_level es old new x w level known = set_level es old new x (level_of old x) w level known (λ z e. w.falls z x e) (λ y e. w.falls x y e)
-
-pub level_stays : (old new : List (ℕ × ℕ)) (x q : ℕ) → ((q : ℕ) → level_of new q ≡ cond (q == x) (level_of old x) (level_of old q)) → level_of new q ≡ level_of old q
-level_stays old new x q level = level q ∙ elim (cases_Bool (q == x)) [ inl t ↦ rw (t, eqb-true q x t) refl | inr f ↦ rw f refl ]
+same_level es old new x w level written = set_level es old new x (level_of old x) w level written (λ z e. w.falls z x e) (λ y e. w.falls x y e)
 
 -- a group on which nothing stands sinks
 pub sink : (es old new : List (ℕ × ℕ)) (x n : ℕ) → IsLevelled es old → ((q : ℕ) → level_of new q ≡ cond (q == x) n (level_of old q)) → ((q : ℕ) → has_level new q ≡ ((q == x) || has_level old q))
     → has_level old x ≡ false → n ≤ level_of old x → IsLevelled es new
-sink es old new x n w level known none l = set_level es old new x n w level known
+sink es old new x n w level written none l = set_level es old new x n w level written
     (λ z e. let d : level_of old x < level_of old z = w.falls z x e in omega (arith, d, l))
-    (λ y e. absurd (both_ways (has_level old x) none (w.known x y e)))
+    (λ y e. absurd (both_ways (has_level old x) none (w.written x y e)))
 
 -- the last of a plan is raised: those right above it stand high enough
 pub raise_last : (es old new : List (ℕ × ℕ)) (lv aim : ℕ → ℕ) (rest : List (ℕ × ℕ)) (x v n : ℕ) → IsLevelled es old → Falls es lv → Falls es aim → IsRising lv (rest ++ (x, v) ∷ [])
     → ((q : ℕ) → max (level_of old q) (planned (rest ++ (x, v) ∷ []) q) ≡ aim q) → n ≡ max (level_of old x) v
     → ((q : ℕ) → level_of new q ≡ cond (q == x) n (level_of old q)) → ((q : ℕ) → has_level new q ≡ ((q == x) || has_level old q)) → IsLevelled es new
-raise_last es old new lv aim rest x v n w down falls rising total is level known = set_level es old new x n w level known over under
+raise_last es old new lv aim rest x v n w down falls rising total is level written = set_level es old new x n w level written over under
   where
     self : planned (rest ++ (x, v) ∷ []) x ≡ max (planned rest x) v
     self = planned_more rest x v x ∙ rw (eq-eqb x x refl) refl
@@ -98,9 +95,9 @@ levelled_more es fs levels a b p w l k = record {
     | inl here ↦ let v = and_parts (a == x) (b == y) here in rw (← (eqb-true a x v.0), ← (eqb-true b y v.1)) l
     | inr old ↦ w.falls x y old
   ];
-  known = λ x y e. elim (or_cases ((a == x) && (b == y)) (has_edge es x y) (sym (edge_more es fs a b p x y) ∙ e)) [
+  written = λ x y e. elim (or_cases ((a == x) && (b == y)) (has_edge es x y) (sym (edge_more es fs a b p x y) ∙ e)) [
     | inl here ↦ let v = and_parts (a == x) (b == y) here in rw (← (eqb-true a x v.0)) k
-    | inr old ↦ w.known x y old
+    | inr old ↦ w.written x y old
   ];
 }
 
@@ -108,11 +105,11 @@ pub edge_less : (es fs : List (ℕ × ℕ)) (a b : ℕ) → IsPermutation es ((a
 edge_less es fs a b p x y e = list_any-IsPermutation (λ (d : ℕ × ℕ). (d.0 == x) && (d.1 == y)) es ((a, b) ∷ fs) p ∙ or_right ((a == x) && (b == y)) _ e
 
 pub levelled_less : (es fs levels : List (ℕ × ℕ)) (a b : ℕ) → IsPermutation es ((a, b) ∷ fs) → IsLevelled es levels → IsLevelled fs levels
-levelled_less es fs levels a b p w = record { falls = λ x y e. w.falls x y (edge_less es fs a b p x y e); known = λ x y e. w.known x y (edge_less es fs a b p x y e) }
+levelled_less es fs levels a b p w = record { falls = λ x y e. w.falls x y (edge_less es fs a b p x y e); written = λ x y e. w.written x y (edge_less es fs a b p x y e) }
 
 -- a group of which no level is written down reaches itself alone
 pub reach_alone : (es levels : List (ℕ × ℕ)) (a b : ℕ) → IsLevelled es levels → has_level levels a ≡ false → reaches es a b ≡ (a == b)
 reach_alone es levels a b w none = elim (cases_Bool (a == b)) [
   | inl t ↦ rw (t, eqb-true a b t) (reaches_self es b)
-  | inr f ↦ rw f (false_from_ne_true (reaches es a b) (λ r. let s = first_step es a b r f in both_ways (has_level levels a) none (w.known a s.0 s.1)))
+  | inr f ↦ rw f (false_from_ne_true (reaches es a b) (λ r. let s = first_step es a b r f in both_ways (has_level levels a) none (w.written a s.0 s.1)))
 ]

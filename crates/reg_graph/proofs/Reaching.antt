@@ -25,11 +25,6 @@ reaches_trans (e ∷ es) a b c p q =
       ]
     ]
 
--- along one more edge
-pub reaches_more : (es : List (ℕ × ℕ)) (e : ℕ × ℕ) (a b : ℕ) → reaches es a b ≡ true → reaches (e ∷ es) a b ≡ true
-unfolding reaches
-reaches_more es e a b p = or_left _ _ p
-
 pub reaches_edge : (es : List (ℕ × ℕ)) (a b : ℕ) → has_edge es a b ≡ true → reaches es a b ≡ true
 unfolding reaches
 reaches_edge [] a b h = cc

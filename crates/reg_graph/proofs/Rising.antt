@@ -73,11 +73,11 @@ pub record Plans (es : List (ℕ × ℕ)) (lv : ℕ → ℕ) (high from to : ℕ
 
 pub plan_start : (es : List (ℕ × ℕ)) (lv : ℕ → ℕ) (high next from to : ℕ) (want : ℕ → ℕ → ℕ) (wait : ℕ → ℕ → Bool) → Falls es lv → next ≡ high + 1 → ((l q : ℕ) → want l q ≡ cond ((l == lv from) && (q == from)) (max 0 next) 0)
     → ((l q : ℕ) → wait l q ≡ (((l == lv from) && (q == from)) || false)) → Plans es lv high from to [] want wait
-plan_start es lv high next from to want wait falls is level known = record {
+plan_start es lv high next from to want wait falls is level written = record {
   falls = λ z y e. let f : lv y < lv z = falls z y e in omega (arith, f);
   raised = let w : want (lv from) from ≡ max 0 next = level (lv from) from ∙ rw (eq-eqb (lv from) (lv from) refl, eq-eqb from from refl) refl in omega (arith, w, is);
   stays = refl;
-  awaited = λ l q a. elim (or_cases ((l == lv from) && (q == from)) false (sym (known l q) ∙ a)) [
+  awaited = λ l q a. elim (or_cases ((l == lv from) && (q == from)) false (sym (written l q) ∙ a)) [
     | inl w ↦ let v = and_parts (l == lv from) (q == from) w in let e : q ≡ from = eqb-true q from v.1 in (eqb-true l (lv from) v.0 ∙ ap lv (sym e), rw e (reaches_self es from))
     | inr f ↦ absurd (both_ways false refl f)
   ];

@@ -19,7 +19,7 @@ has_level levels x = is_some (lookup (is_at (nat_cmp x)) levels)
 -- the level falls along each edge, and each group that depends on another has a level written down
 pub record IsLevelled (es : List (ℕ × ℕ)) (levels : List (ℕ × ℕ)) : Type 0 where
   pub falls : (x y : ℕ) → has_edge es x y ≡ true → level_of levels y < level_of levels x
-  pub known : (x y : ℕ) → has_edge es x y ≡ true → has_level levels x ≡ true
+  pub written : (x y : ℕ) → has_edge es x y ≡ true → has_level levels x ≡ true
 
 -- the edge of a key (to, from, number)
 abbrev pub edge_of : ℕ × ℕ × ℕ → ℕ × ℕ

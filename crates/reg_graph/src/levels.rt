@@ -48,7 +48,7 @@ impl Levels {
     pub(crate) fn set(&mut self, group: u32, level: u64) -> Result<(), AllocError>
         ensures level { OnOk result ((q : ℕ) → level_of self.new q
             ≡ (if q == group then level else level_of self.old q)) }
-        ensures known { OnOk result ((q : ℕ) → has_level self.new q
+        ensures written { OnOk result ((q : ℕ) → has_level self.new q
             ≡ ((q == group) || has_level self.old q)) }
         ensures err { OnErr result (self.new ≡ self.old) }
     {

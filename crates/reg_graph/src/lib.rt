@@ -6,8 +6,6 @@ mod edges;
 mod levels;
 mod raise;
 mod sets;
-#[cfg(test)]
-mod tests;
 
 pub use dag::{Dag, EdgeFault};
 pub use sets::Sets;

@@ -20,7 +20,7 @@ fn ask(
     ensures level { OnOk result ((l q : ℕ) → wanted pending.new.entries l q
         ≡ (if (l == old) && (q == group) then max (wanted pending.old.entries l q) level
         else wanted pending.old.entries l q)) }
-    ensures known { OnOk result ((l q : ℕ) → awaits pending.new.entries l q
+    ensures written { OnOk result ((l q : ℕ) → awaits pending.new.entries l q
         ≡ (((l == old) && (q == group)) || awaits pending.old.entries l q)) }
 {
     let wanted = pending.get(&(old, group)).copied().unwrap_or(0);
@@ -115,7 +115,7 @@ fn raise(
 
 /// Makes the level of a group greater than another's. Where nothing is known to stand below the
 /// other group, that one may sink instead.
-fn part(
+fn order_levels(
     alloc: Global,
     edges: &Edges,
     levels: &mut Levels,
@@ -150,10 +150,10 @@ pub(crate) fn make_room(
     requires { IsLevelled edges.now levels.old }
     ensures levelled { IsLevelled edges.now levels.new }
     ensures above { OnOk result (level_of levels.new to < level_of levels.new from) }
-    ensures known { OnOk result (has_level levels.new from ≡ true) }
+    ensures written { OnOk result (has_level levels.new from ≡ true) }
     ensures err { IfErr result (IsRefused edges.now from to) }
 {
-    part(alloc, edges, levels, from, to)?;
+    order_levels(alloc, edges, levels, from, to)?;
     let level = levels.of(from);
     levels.set(from, level)?;
     Ok(())

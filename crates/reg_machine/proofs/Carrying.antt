@@ -1,5 +1,5 @@
 -- What stands stays in step with an event, and with some, one after another.
-use Rattle.std.proofs.Common.{◌≡◌, ◌≤◌, ◌+◌, ℕ, List, [], ◌∷◌, length, refl, sym, ap, subst, ◌∙◌, arith}
+use Rattle.std.proofs.Common.{◌≡◌, ◌≤◌, ◌+◌, ℕ, List, [], ◌∷◌, None, length, refl, sym, ap, subst, ◌∙◌, arith}
 use Rattle.std.specs.List.Sorted.{IsPermutation}
 use Rattle.reg_terms.specs.declared.event.Event.{Event}
 use Rattle.reg_facts.specs.Events.{happened, all_happened}
@@ -11,25 +11,29 @@ use Rattle.reg_effect.specs.Changes.{changed_by, SuitAll}
 use Rattle.reg_effect.specs.Standing.{standing}
 use Rattle.reg_machine.specs.declared.dates.Dates.{Dates}
 use Rattle.reg_machine.specs.Coming.{FindsDates}
+use Rattle.reg_machine.specs.Dates.{due}
 use Rattle.reg_machine.specs.Holding.{Holds, AllHold}
 use Rattle.reg_machine.specs.Invariant.{IsBeside, Now}
 use Rattle.reg_machine.specs.Steps.{changes_of, event_steps, events_steps}
+use Rattle.reg_machine.proofs.DatesGone.{later_finds}
 use Rattle.reg_machine.proofs.Opening.{still_open}
+use Rattle.reg_machine.proofs.Passing.{live_stays}
 use Rattle.reg_machine.proofs.Stepping.{stepped, suit}
+use Rattle.reg_machine.proofs.Windows.{open_still}
 
 -- after an event
-pub carried : (at : ℕ) (e : Event) (known next : Lists) (kept sets : Live) (old new : List (ℕ × ℕ)) (before after : Dates) → IsBeside at known kept old before → Holds at e known
-    → next ≡ happened e known → sets ≡ changed_by (changes_of at e kept) kept → IsPermutation new (standing (happened e known).rows (happened e known).composites) → FindsDates after at (happened e known).rows → IsBeside at next sets new after
-carried at e known next kept sets old new before after h holds made changed edges coming = rw made (record {
-  sets = changed ∙ (ap (λ (L : Live). changed_by (changes_of at e L) L) h.sets ∙ sym (stepped at e known holds.suits));
+pub carried : (at : ℕ) (e : Event) (lists next : Lists) (kept sets : Live) (old new : List (ℕ × ℕ)) (before after : Dates) → IsBeside at lists kept old before → Holds at e lists
+    → next ≡ happened e lists → sets ≡ changed_by (changes_of at e kept) kept → IsPermutation new (standing (happened e lists).rows (happened e lists).composites) → FindsDates after at (happened e lists).rows → IsBeside at next sets new after
+carried at e lists next kept sets old new before after h holds made changed edges coming = rw made (record {
+  sets = changed ∙ (ap (λ (L : Live). changed_by (changes_of at e L) L) h.sets ∙ sym (stepped at e lists holds.suits));
   edges = edges;
-  ends = still_open at e known h.ends holds.later;
+  ends = still_open at e lists h.ends holds.later;
   coming = coming;
 })
 
 -- its changes suit
-pub carrying_suits : (at : ℕ) (e : Event) (known : Lists) (kept : Live) (graph : List (ℕ × ℕ)) (dates : Dates) → IsBeside at known kept graph dates → IsSound known → IsAcyclic graph → Holds at e known → SuitAll (changes_of at e kept) kept
-carrying_suits at e known kept graph dates h sound none holds = suit at e known graph kept sound h.edges none h.sets holds.suits holds.no_circle
+pub carrying_suits : (at : ℕ) (e : Event) (lists : Lists) (kept : Live) (graph : List (ℕ × ℕ)) (dates : Dates) → IsBeside at lists kept graph dates → IsSound lists → IsAcyclic graph → Holds at e lists → SuitAll (changes_of at e kept) kept
+carrying_suits at e lists kept graph dates h sound none holds = suit at e lists graph kept sound h.edges none h.sets holds.suits holds.no_circle
 
 -- some events are left, which lead from what stands now to what comes, in so many steps at most
 pub record AreLeft (left : List Event) (now after : Now) (steps most : ℕ) : Type 0 where
@@ -53,9 +57,17 @@ left_none [] now after steps most h all = (all.lead, omega (arith, all.cost))
 left_none (e ∷ left) now after steps most h all = absurd (omega (arith, h))
 
 -- ---- the same of what is seen as a moment and facts
-pub holds_known : (clock : ℕ) (known : Lists) (now : Now) (e : Event) → record { clock = clock; facts = known } ≡ now → Holds now.clock e now.facts → Holds clock e known
-holds_known clock known now e is h = subst (λ (n : Now). Holds n.clock e n.facts) (sym is) h
+pub holds_now : (clock : ℕ) (lists : Lists) (now : Now) (e : Event) → record { clock = clock; facts = lists } ≡ now → Holds now.clock e now.facts → Holds clock e lists
+holds_now clock lists now e is h = subst (λ (n : Now). Holds n.clock e n.facts) (sym is) h
 
--- what a list of events led to, field by field
-pub stood : (clock at : ℕ) (known g : Lists) (kept : Live) (graph : List (ℕ × ℕ)) (dates : Dates) (now : Now) → record { clock = clock; facts = known } ≡ now → now ≡ record { clock = at; facts = g } → IsBeside clock known kept graph dates → (known ≡ g) × IsBeside at known kept graph dates
-stood clock at known g kept graph dates now is led h = (ap (λ (n : Now). n.facts) (is ∙ led), subst (λ t. IsBeside t known kept graph dates) (ap (λ (n : Now). n.clock) (is ∙ led)) h)
+-- a moment up to which no date comes
+pub waited : (at to : ℕ) (f : Lists) (kept : Live) (graph : List (ℕ × ℕ)) (dates : Dates) (now : Now) → record { clock = at; facts = f } ≡ now → now.clock ≤ to → due now.clock to now.facts.rows ≡ None → IsBeside at f kept graph dates → IsBeside to f kept graph dates
+waited at to f kept graph dates now is later none h =
+    let l : at ≤ to = subst (λ (n : Now). n.clock ≤ to) (sym is) later in
+    let e : due at to f.rows ≡ None = subst (λ (n : Now). due n.clock to n.facts.rows ≡ None) (sym is) none in
+    record {
+      sets = h.sets ∙ sym (live_stays at to f l e);
+      edges = h.edges;
+      ends = open_still at to f.rows h.ends e;
+      coming = later_finds dates at to f.rows h.coming e l;
+    }

@@ -1,26 +1,27 @@
 // The machine.
-ghost use Rattle.std.specs.Prelude.{◌≡◌, ◌≤◌, ◌+◌, ◌++◌, ◌∷◌, ◌&&◌, [], ℕ, IfOk, OnOk, None, Some, true};
+ghost use Rattle.std.specs.Prelude.{◌≡◌, ◌≤◌, ◌+◌, ◌++◌, ◌∷◌, ◌&&◌, [], ℕ, IfOk, OnOk, None, Some, true, false};
 ghost use Rattle.std.specs.List.{list_any};
 ghost use Rattle.reg_base.specs.declared.entity.Entity.{Entity};
 ghost use Rattle.reg_terms.specs.declared.command.Command.{Command};
 ghost use Rattle.reg_terms.specs.declared.kinds.Member.{Member};
 ghost use Rattle.reg_terms.specs.declared.rows.MemberRow.{MemberRow};
 ghost use Rattle.reg_facts.specs.Edits.{is_row};
+ghost use Rattle.reg_facts.specs.Edits as edits;
+ghost use Rattle.reg_facts.specs.Events.{events_of};
 ghost use Rattle.reg_effect.specs.Order.{has_row};
 ghost use Rattle.reg_terms.specs.Forms.{has_form};
+ghost use Rattle.reg_machine.specs.Checks as checks;
 ghost use Rattle.reg_machine.specs.Dates.{due, is_on, pass_steps};
 ghost use Rattle.reg_machine.specs.History.{State, start, refusal, acted, appended};
+ghost use Rattle.reg_machine.specs.Holding.{AllHold};
 ghost use Rattle.reg_machine.specs.Live.{live};
-ghost use Rattle.reg_facts.specs.Events.{events_of};
 ghost use Rattle.reg_machine.specs.Steps.{events_steps};
 
-use crate::dates::Dates;
-use crate::ending::rows_gone;
-use crate::stand::Stand;
-use reg_base::{Entity, Moment, Steps};
-use reg_effect::Kept;
-use reg_facts::{Command, Facts, Refusal, Stamped};
-use reg_graph::Dag;
+use crate::current::Current;
+use reg_base::{Entity, GroupId, Moment, Steps};
+use reg_effect::{Kept, Turned};
+use reg_facts::{Command, Event, Facts, Refusal, Stamped};
+use reg_names::Names;
 use std::alloc::{AllocError, AllocFailed, Global};
 use std::marker::Model;
 use std::sync::ledger::Ledger;
@@ -41,17 +42,29 @@ impl<T: Drop> From<AllocFailed<T>> for Spent {
     }
 }
 
+/// A history with one command more.
+fn push_stamped(
+    alloc: Global,
+    stamped: Vec<Stamped>,
+    at: Moment,
+    by: &Entity,
+    command: Command,
+) -> Result<Vec<Stamped>, Spent>
+    ensures { IfOk result (λ v. v.items ≡ stamped.items ++ (record { at = at; by = by.now; command = command }) ∷ []) }
+{
+    let by = by.copy(alloc)?;
+    let mut stamped = stamped;
+    stamped.push(Stamped { at, by, command })?;
+    Ok(stamped)
+}
+
 /// The registry: its history and its clock, and what they give: the facts, the effective
 /// memberships, however `K` keeps them, the graph of all nested groups and factors that stand, and
 /// the dates to come. Contracts see history and clock.
 #[derive(Drop)]
 pub struct Machine<K: Kept> {
     stamped: Vec<Stamped>,
-    moment: Moment,
-    pub(crate) known: Facts,
-    sets: K,
-    pub(crate) graph: Dag,
-    dates: Dates,
+    current: Current<K>,
 }
 
 impl<K: Kept> Model for Machine<K> {
@@ -60,27 +73,23 @@ impl<K: Kept> Model for Machine<K> {
 
     ghost Value = { State };
 
-    ghost view = { λ m. record { history = m.stamped.items; clock = m.moment } };
+    ghost view = { λ m. record { history = m.stamped.items; clock = m.current.clock } };
 
-    ghost invariant = { λ m. IsInStep m.stamped.items m.moment m.known (K.held m.sets) m.graph m.dates };
+    ghost invariant = { λ m. IsInStep m.stamped.items m.current };
 }
 
 impl<K: Kept> Machine<K> {
     ghost use Rattle.reg_machine.specs.History.{facts};
+    ghost use Rattle.reg_machine.specs.Invariant.{IsLegal};
 
     /// No command, at the moment 0.
     pub fn start(alloc: Global) -> Result<Machine<K>, Spent>
         ensures { IfOk result (λ m. m ≡ start) }
     {
-        let known = Facts::start(alloc)?;
-        let sets = K::start(alloc)?;
+        let current = Current::start(alloc)?;
         Ok(Machine {
             stamped: Vec::new(alloc),
-            moment: Moment::start(),
-            known,
-            sets,
-            graph: Dag::new(alloc),
-            dates: Dates::new(alloc),
+            current,
         })
     }
 
@@ -91,25 +100,53 @@ impl<K: Kept> Machine<K> {
         &self.stamped
     }
 
+    /// Each command of the history isn't refused at its moment after those before it, and the
+    /// moments never fall. It does nothing.
+    pub fn law_legal(&self)
+        ensures { IsLegal self.now.history }
+    {
+        let _ = &self.stamped;
+    }
+
     /// The greatest moment used so far.
     pub fn clock(&self) -> Moment
         ensures { result ≡ self.now.clock }
     {
-        self.moment
+        self.current.clock()
     }
 
     /// The facts that the history gives at the clock.
     pub fn facts(&self) -> &Facts
         ensures { result.now ≡ facts self.now.history self.now.clock }
     {
-        &self.known
+        self.current.facts()
+    }
+
+    /// The index of names, which is in step with the facts. It takes no memory.
+    pub fn names(&self) -> &Names {
+        &Names
     }
 
     /// The effective memberships at the clock.
     pub fn kept(&self) -> &K
         ensures { K.held result.now ≡ live self.now.clock (facts self.now.history self.now.clock) }
     {
-        &self.sets
+        self.current.kept()
+    }
+
+    /// Whether the group is a factor of a composite, where no row names it.
+    pub(crate) fn is_factor(&self, group: GroupId) -> bool
+        requires { edits.is_nested group (facts self.now.history self.now.clock).rows ≡ false }
+        ensures { result ≡ edits.is_factor group (facts self.now.history self.now.clock).composites }
+    {
+        self.current.is_factor(group)
+    }
+
+    /// Whether a row of the group that names the other, or a factor, would lead back.
+    pub(crate) fn leads_back(&self, group: GroupId, other: GroupId) -> Result<bool, AllocError>
+        ensures { IfOk result (λ b. b ≡ checks.leads_back group other (facts self.now.history self.now.clock)) }
+    {
+        self.current.leads_back(group, other)
     }
 
     /// The next date of a membership, if it comes up to a moment. It is a look at the first dates
@@ -117,31 +154,31 @@ impl<K: Kept> Machine<K> {
     fn next_date(&self, to: Moment) -> Option<Moment>
         ensures { result ≡ due self.now.clock to (facts self.now.history self.now.clock).rows }
     {
-        self.dates.next(to)
+        self.current.next_date(to)
     }
 
     /// What stands from the clock on, as long as no command comes: nothing that is live changes
     /// between two dates, and a row that stands is on from its beginning until just before its end.
     /// It does nothing.
-    fn stays(&self)
+    fn law_stays(&self)
         ensures between { (u : ℕ) → self.now.clock ≤ u → due self.now.clock u (facts self.now.history self.now.clock).rows ≡ None → live u (facts self.now.history u) ≡ live self.now.clock (facts self.now.history self.now.clock) }
         ensures on { (u g : ℕ) (m : Member) → self.now.clock ≤ u → has_row g m (live u (facts self.now.history u)).rows ≡ list_any (λ (row : MemberRow). is_row g m row && is_on u row) (facts self.now.history self.now.clock).rows }
     {
-        let _ = &self.known;
+        self.current.law_rows_open();
     }
 
     /// The facts after one command more at the clock are those that it makes of the facts now. It does
     /// nothing.
     #[tactic(auto, using(crate::proofs::Moments::facts_push))]
     pub fn acts(&self)
-        ensures { (by : Entity) (command : Command) → facts (appended self.now by command).history self.now.clock ≡ acted self.now.clock command (facts self.now.history self.now.clock) }
+        ensures { (by : Entity) (command : Command) → facts (appended self.now by command).history self.now.clock ≡ acted self.now.clock by command (facts self.now.history self.now.clock) }
     {
-        let _ = &self.known;
+        let _ = &self.stamped;
     }
 
     /// The machine at the next date: the rows that end there go, and those that begin there come on.
     /// It takes at most the steps that the dates after it leave of those up to any later moment.
-    fn come_to<L: Ledger>(
+    fn pass_date<L: Ledger>(
         self,
         alloc: Global,
         date: Moment,
@@ -151,28 +188,10 @@ impl<K: Kept> Machine<K> {
         ensures moved { IfOk result (λ m. m ≡ record { history = self.history; clock = date }) }
         ensures cost { OnOk result ((u : ℕ) → due self.clock u (facts self.history self.clock).rows ≡ Some date → steps.new + pass_steps date u (facts self.history date) ≤ steps.old + pass_steps self.clock u (facts self.history self.clock)) }
     {
-        let machine = self;
-        machine.known.sound();
-        machine.graph.acyclic();
-        let ending = machine.dates.ending(date)?;
-        let events = rows_gone(alloc, &ending)?;
-        let stand = Stand {
-            moment: machine.moment,
-            known: machine.known,
-            sets: machine.sets,
-            graph: machine.graph,
-            dates: machine.dates,
-        };
-        let stand = stand.carry_all(alloc, events, steps)?;
-        let stand = stand.begin(date, steps)?;
-        Ok(Machine {
-            stamped: machine.stamped,
-            moment: date,
-            known: stand.known,
-            sets: stand.sets,
-            graph: stand.graph,
-            dates: stand.dates,
-        })
+        let Machine { stamped, current } = self;
+        let mut turned = Turned::new(alloc);
+        let current = current.pass_date(alloc, date, &mut turned, steps)?;
+        Ok(Machine { stamped, current })
     }
 
     /// Sets the clock forward, and changes nothing else: the dates of memberships up to the new
@@ -194,11 +213,11 @@ impl<K: Kept> Machine<K> {
         ensures on { (g : ℕ) (m : Member) → has_row g m (live to (facts self.history to)).rows ≡ list_any (λ (row : MemberRow). is_row g m row && is_on to row) (facts self.history self.clock).rows }
     {
         let mut machine = self;
-        machine.stays();
+        machine.law_stays();
         while let Some(date) = machine.next_date(to) {
-            machine = machine.come_to(alloc, date, steps)?;
+            machine = machine.pass_date(alloc, date, steps)?;
         }
-        machine.moment = to;
+        machine.current.wait(to);
         Ok(machine)
     }
 
@@ -251,6 +270,22 @@ impl<K: Kept> Machine<K> {
         }
     }
 
+    /// The events of a command that isn't refused, at the clock.
+    fn events_of(
+        &self,
+        alloc: Global,
+        by: &Entity,
+        command: &Command,
+    ) -> Result<Vec<Event>, AllocError>
+        requires allowed { refusal self.now.history self.now.clock command.now ≡ None }
+        requires form { has_form command.now ≡ true }
+        ensures events { IfOk result (λ events. events.items ≡ events_of self.now.clock by.now command.now (facts self.now.history self.now.clock)) }
+        ensures hold { AllHold self.now.clock (events_of self.now.clock by.now command.now (facts self.now.history self.now.clock)) (facts self.now.history self.now.clock) }
+    {
+        self.facts().sound();
+        self.facts().events_of(alloc, self.clock(), by, command)
+    }
+
     /// Takes a command that isn't refused into the history, at the clock. It takes at most the steps
     /// of the changes of live data that the command makes.
     pub fn apply<L: Ledger>(
@@ -263,30 +298,13 @@ impl<K: Kept> Machine<K> {
         requires allowed { refusal self.history self.clock command ≡ None }
         requires form { has_form command ≡ true }
         ensures appended { IfOk result (λ m. m ≡ appended self by.now command) }
-        ensures cost { OnOk result (steps.new ≤ steps.old + events_steps self.clock (events_of self.clock command (facts self.history self.clock)) (facts self.history self.clock)) }
+        ensures cost { OnOk result (steps.new ≤ steps.old + events_steps self.clock (events_of self.clock by.now command (facts self.history self.clock)) (facts self.history self.clock)) }
     {
-        let machine = self;
-        let by = by.copy(alloc)?;
-        let at = machine.moment;
-        machine.known.sound();
-        let events = machine.known.events_of(alloc, at, &command)?;
-        let stand = Stand {
-            moment: at,
-            known: machine.known,
-            sets: machine.sets,
-            graph: machine.graph,
-            dates: machine.dates,
-        };
-        let stand = stand.carry_all(alloc, events, steps)?;
-        let mut stamped = machine.stamped;
-        stamped.push(Stamped { at, by, command })?;
-        Ok(Machine {
-            stamped,
-            moment: at,
-            known: stand.known,
-            sets: stand.sets,
-            graph: stand.graph,
-            dates: stand.dates,
-        })
+        let events = self.events_of(alloc, by, &command)?;
+        let Machine { stamped, current } = self;
+        let stamped = push_stamped(alloc, stamped, current.clock(), by, command)?;
+        let mut turned = Turned::new(alloc);
+        let current = current.carry_all(alloc, events, &mut turned, steps)?;
+        Ok(Machine { stamped, current })
     }
 }

@@ -8,5 +8,5 @@ returns-clause-level c =
     let was : c.unwrap_or-wanted.result ≡ wanted c.args.pending.now.entries c.args.old c.args.group = search rules in
     asked_level _ _ c.args.old c.args.group c.args.level c.max.result c.in_ok-insert.ensures.updates.0 (c.max.ensures ∙ ap (λ w. max w c.args.level) was)
 
-pub returns-clause-known : goal.returns-clause-known
-returns-clause-known c = asked_known _ _ c.args.old c.args.group c.max.result c.in_ok-insert.ensures.updates.0
+pub returns-clause-written : goal.returns-clause-written
+returns-clause-written c = asked_known _ _ c.args.old c.args.group c.max.result c.in_ok-insert.ensures.updates.0

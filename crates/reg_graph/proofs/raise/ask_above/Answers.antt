@@ -15,7 +15,7 @@ loop-higher-preserved c =
     elim c.if-old-level.branch [
       | then-old-level+in_ok-ask w ↦
           rw (w.pending-is, t) (asks_one (level_of c.args.levels.now) c.args.level (take c.loop-higher.higher-index items) items c.args.pending.now.entries c.loop-higher.pending.entries c.loop-higher.invariant
-          w.ask.new.pending.entries h c.in-Some.next here c.in-Some.ensures.1 (rw c.of-old.ensures at w.in_ok-ask.ensures.level) (rw c.of-old.ensures at w.in_ok-ask.ensures.known))
+          w.ask.new.pending.entries h c.in-Some.next here c.in-Some.ensures.1 (rw c.of-old.ensures at w.in_ok-ask.ensures.level) (rw c.of-old.ensures at w.in_ok-ask.ensures.written))
       | else-old-level w ↦
           rw (w.pending-is, t) (asks_none (level_of c.args.levels.now) c.args.level (take c.loop-higher.higher-index items) items c.args.pending.now.entries c.loop-higher.pending.entries c.loop-higher.invariant
           h (rw c.of-old.ensures at w.if-old-level.false))

@@ -13,7 +13,7 @@ use Rattle.reg_graph.proofs.raise.plan.Goals as goal
 
 pub loop-group-init : goal.loop-group-init
 loop-group-init c = rw c.new-plan.ensures.items (plan_start c.args.edges.now (level_of c.args.levels.now) (level_of c.args.levels.now c.args.to) c.in-Some.next c.args.from c.args.to (wanted c.ask.new.pending.entries) (awaits c.ask.new.pending.entries)
-    c.requires.falls (rw c.of.ensures at c.in-Some.ensures.1) (rw (c.of-2.ensures, c.new-pending.ensures.empty) at c.in_ok-ask.ensures.level) (rw (c.of-2.ensures, c.new-pending.ensures.empty) at c.in_ok-ask.ensures.known))
+    c.requires.falls (rw c.of.ensures at c.in-Some.ensures.1) (rw (c.of-2.ensures, c.new-pending.ensures.empty) at c.in_ok-ask.ensures.level) (rw (c.of-2.ensures, c.new-pending.ensures.empty) at c.in_ok-ask.ensures.written))
 
 pub loop-group-smaller : goal.loop-group-smaller
 loop-group-smaller c =

@@ -15,7 +15,7 @@ loop-group-preserved c =
     let total : (q : ℕ) → max (level_of c.loop-group.levels q) (planned (rest ++ (x, v) ∷ []) q) ≡ target (level_of c.args.levels.now) c.in_ok-plan.plan.items q = λ q. rw cut at (c.loop-group.invariant.total q) in
     record {
       levelled = raise_last c.args.edges.now c.loop-group.levels c.set.new.self (level_of c.args.levels.now) (target (level_of c.args.levels.now) c.in_ok-plan.plan.items) rest x v c.max-level.result
-          c.loop-group.invariant.levelled c.requires.falls c.in_ok-plan.ensures.falls rising total is c.in_ok-set.ensures.level c.in_ok-set.ensures.known;
+          c.loop-group.invariant.levelled c.requires.falls c.in_ok-plan.ensures.falls rising total is c.in_ok-set.ensures.level c.in_ok-set.ensures.written;
       total = raise_total c.loop-group.levels c.set.new.self (target (level_of c.args.levels.now) c.in_ok-plan.plan.items) rest x v c.max-level.result total is c.in_ok-set.ensures.level;
       rising = (rising_last (level_of c.args.levels.now) rest x v rising).0;
     }

@@ -1,4 +1,3 @@
-use Rattle.std.proofs.Common.{◌≡◌}
 use Rattle.reg_graph.specs.Edges.{IsAcyclic}
 use Rattle.reg_graph.specs.Levels.{level_of}
 use Rattle.reg_graph.proofs.Orders.{acyclic}
