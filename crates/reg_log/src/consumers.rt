@@ -6,7 +6,8 @@ ghost use Rattle.reg_log.specs.Places.{place_of};
 use std::alloc::{AllocError, Global};
 use std::collections::BTreeMap;
 
-/// A number that can't be acknowledged: it is less than the place that is kept, or greater than the last number.
+/// A number that can't be acknowledged: it is less than the place that is kept, or greater than the
+/// last number.
 #[derive(Clone, Copy)]
 pub struct Place {
     pub kept: u64,
@@ -49,8 +50,8 @@ impl Places {
         self.places.get(name).copied()
     }
 
-    /// A consumer has read up to a number, where `last` is the number of the last entry. A number that is less than
-    /// the consumer's place, or greater than `last`, is refused. Takes no memory.
+    /// A consumer has read up to a number, where `last` is the number of the last entry. A number
+    /// that is less than the consumer's place, or greater than `last`, is refused. Takes no memory.
     pub fn ack(&mut self, name: &[u8], seq: u64, last: u64) -> Result<(), Place>
         requires { IsSome (place_of self.old name.now) }
         ensures answer { (kept : ℕ) → place_of self.old name.now ≡ Some kept

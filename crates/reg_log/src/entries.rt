@@ -14,7 +14,8 @@ pub struct Entry {
     pub object: Option<Object>,
     /// The member of a row, the holder of a privilege, or the person who is a member.
     pub entity: Option<Holder>,
-    /// A privilege's code, the number of an assignment, of a rule or of a job, or the rule that acted; else 0.
+    /// A privilege's code, the number of an assignment, of a rule or of a job, or the rule that
+    /// acted; else 0.
     pub number: u64,
 }
 

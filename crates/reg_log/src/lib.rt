@@ -1,4 +1,5 @@
-//! The change log: a numbered list of what commands, dates and rules changed, and how far each consumer of it has read.
+//! The change log: a numbered list of what commands, dates and rules changed, and how far each
+//! consumer of it has read.
 #![tactic(auto)]
 
 mod consumers;

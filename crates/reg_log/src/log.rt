@@ -24,7 +24,8 @@ impl Model for ChangeLog {
     ghost view = { λ log. log.lines.items };
 }
 
-/// Adds a line with its number at the end of some entries. The line's object and entity are passed beside it.
+/// Adds a line with its number at the end of some entries. The line's object and entity are passed
+/// beside it.
 fn put(
     entries: &mut Vec<Entry>,
     seq: u64,
@@ -88,7 +89,8 @@ impl ChangeLog {
         self.lines.len() as u64
     }
 
-    /// The entries whose numbers are greater than a place, at most `max` of them. Costs what it gives.
+    /// The entries whose numbers are greater than a place, at most `max` of them. Costs what it
+    /// gives.
     pub fn after(&self, place: u64, max: u64) -> Result<Vec<Entry>, AllocError>
         ensures { IfOk result (λ entries. entries.items ≡ entries_after place max self.now) }
     {

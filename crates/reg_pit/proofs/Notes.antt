@@ -68,3 +68,19 @@ noted_by at w ((m, v) ∷ notes) a = elim (answer (nat_cmp at m)) [
   | equal b ↦ rw b (a.0, a.1)
   | greater b ↦ rw b (a.0, noted_by at w notes a.1)
 ]
+
+-- what was noted by a moment was noted by a later one, and stays
+pub noted_later : (a b : ℕ) (notes : List (ℕ × Option ℕ)) → a ≤ b → AreNotedBy a notes → AreNotedBy b notes
+noted_later a b [] w h = tt
+noted_later a b (note ∷ notes) w h = (omega (arith, h.0), noted_later a b notes w h.1)
+
+all_up_to : (at t : ℕ) (before : Option ℕ) (notes : List (ℕ × Option ℕ)) → at ≤ t → AreNotedBy at notes → last_up_to t before notes ≡ last_up_to at before notes
+all_up_to at t before [] w h = refl
+all_up_to at t before (note ∷ notes) w h =
+    let k : note.0 ≤ at = h.0 in
+    let now : nat_le note.0 at ≡ true = grind (arith, nat_tests, k) in
+    let then_ : nat_le note.0 t ≡ true = grind (arith, nat_tests, k) in
+    rw (now, then_) (all_up_to at t note.1 notes w h.1)
+
+pub noted_stays : (at t : ℕ) (notes : List (ℕ × Option ℕ)) → at ≤ t → AreNotedBy at notes → noted_at notes t ≡ noted_at notes at
+noted_stays at t notes w h = all_up_to at t None notes w h

@@ -8,7 +8,8 @@ use std::marker::Model;
 /// The number after all moments.
 const NEVER: u64 = 253_402_300_800_000_000;
 
-/// The end of an interval: the first moment that isn't in it. One that has no end ends after all moments.
+/// The end of an interval: the first moment that isn't in it. One that has no end ends after all
+/// moments.
 #[derive(Clone, Copy, PartialEq, Eq, PartialOrd, Ord)]
 pub(crate) struct End {
     micros: u64,

@@ -17,7 +17,8 @@ use std::alloc::{AllocError, Global};
 use std::marker::Model;
 use std::sync::ledger::Ledger;
 
-/// Who held which privilege on each object. Contracts see the intervals by object, privilege and holder.
+/// Who held which privilege on each object. Contracts see the intervals by object, privilege and
+/// holder.
 #[derive(Drop)]
 pub(crate) struct Grants {
     alloc: Global,
@@ -86,7 +87,8 @@ impl Grants {
         }
     }
 
-    /// From a moment on the privileges held on an object are exactly these; nothing was noted later.
+    /// From a moment on the privileges held on an object are exactly these; nothing was noted
+    /// later.
     pub(crate) fn note(
         self,
         object: Object,
@@ -109,7 +111,8 @@ impl Grants {
         Ok(Grants { alloc, granted })
     }
 
-    /// Whether a holder had a privilege on an object at a moment. A step is one interval looked at. Takes no memory.
+    /// Whether a holder had a privilege on an object at a moment. A step is one interval looked at.
+    /// Takes no memory.
     pub(crate) fn at<L: Ledger>(
         &self,
         object: Object,

@@ -13,8 +13,9 @@ use std::collections::BTreeMap;
 use std::marker::Model;
 use std::sync::ledger::Ledger;
 
-/// Intervals of moments for each key: from a start until just before an end, or without an end. None is empty, and no two
-/// of a key touch. Contracts see the list of the intervals of each key, in order.
+/// Intervals of moments for each key: from a start until just before an end, or without an end.
+/// None is empty, and no two of a key touch. Contracts see the list of the intervals of each key,
+/// in order.
 #[derive(Drop)]
 pub struct Intervals<K: Ord + Copy> {
     alloc: Global,
@@ -97,8 +98,8 @@ impl<K: Ord + Copy> Intervals<K> {
         }
     }
 
-    /// From a moment on the key is on, or it isn't; nothing was set later. What was so before the moment stays so. Out of
-    /// memory the intervals stay as they were.
+    /// From a moment on the key is on, or it isn't; nothing was set later. What was so before the
+    /// moment stays so. Out of memory the intervals stay as they were.
     pub fn set(&mut self, key: K, on: bool, at: Moment) -> Result<(), AllocError>
         requires { (k : K) → NoLater at (spans_of K.cmp self.old k) }
         ensures set { OnOk result ((k : K) (t : ℕ) → covers (spans_of K.cmp self.new k) t ≡ (if eq_by_cmp K.cmp key k && nat_le at t then on else covers (spans_of K.cmp self.old k) t)) }
@@ -145,7 +146,8 @@ impl<K: Ord + Copy> Intervals<K> {
         Ok(rows)
     }
 
-    /// The keys from `from` up to `to` that are on at a moment, in order, each once. Costs what was ever set between them.
+    /// The keys from `from` up to `to` that are on at a moment, in order, each once. Costs what was
+    /// ever set between them.
     pub fn on_between(&self, from: K, to: K, t: Moment) -> Result<Vec<K>, AllocError>
         requires { is_gt (K.cmp from to) ≡ false }
         ensures ascending { IfOk result (λ keys. IsStrictlySortedBy K.cmp keys.items) }
@@ -161,8 +163,8 @@ impl<K: Ord + Copy> Intervals<K> {
         Ok(keys)
     }
 
-    /// From a moment on none of the keys from `from` up to `to` is on; nothing was set later. Out of memory the intervals
-    /// are given up.
+    /// From a moment on none of the keys from `from` up to `to` is on; nothing was set later. Out
+    /// of memory the intervals are given up.
     pub fn clear(self, from: K, to: K, at: Moment) -> Result<Intervals<K>, AllocError>
         requires forward { is_gt (K.cmp from to) ≡ false }
         requires last { (k : K) → NoLater at (spans_of K.cmp self k) }
@@ -177,8 +179,8 @@ impl<K: Ord + Copy> Intervals<K> {
         Ok(intervals)
     }
 
-    /// The intervals of each key are the one list for their moments: none is empty, no two touch, starts ascend, and the last
-    /// alone may have no end. It does nothing.
+    /// The intervals of each key are the one list for their moments: none is empty, no two touch,
+    /// starts ascend, and the last alone may have no end. It does nothing.
     pub fn law_rows_apart(&self)
         ensures { (k : K) → AreSpans (spans_of K.cmp self.now k) }
     {

@@ -10,7 +10,8 @@ use std::alloc::{AllocError, Global};
 use std::marker::Model;
 use std::sync::ledger::Ledger;
 
-/// When each person was an effective member of each group. Contracts see the intervals by group and person.
+/// When each person was an effective member of each group. Contracts see the intervals by group and
+/// person.
 #[derive(Drop)]
 pub(crate) struct Memberships {
     alloc: Global,
@@ -77,7 +78,8 @@ impl Memberships {
         })
     }
 
-    /// Whether a person was a member of a group at a moment. A step is one interval looked at. Takes no memory.
+    /// Whether a person was a member of a group at a moment. A step is one interval looked at.
+    /// Takes no memory.
     pub(crate) fn at<L: Ledger>(
         &self,
         g: GroupId,

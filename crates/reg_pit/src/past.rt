@@ -42,8 +42,8 @@ impl Past {
         }
     }
 
-    /// From a moment on a person is a member of a group, or isn't; nothing was noted later. What was so before the moment
-    /// stays so. Out of memory the past is given up.
+    /// From a moment on a person is a member of a group, or isn't; nothing was noted later. What
+    /// was so before the moment stays so. Out of memory the past is given up.
     pub fn note_member(
         self,
         g: GroupId,
@@ -70,8 +70,9 @@ impl Past {
         })
     }
 
-    /// From a moment on the privileges held on an object are exactly these; nothing was noted later. What was so before the
-    /// moment stays so. Out of memory the past is given up. Costs what was ever noted of the object.
+    /// From a moment on the privileges held on an object are exactly these; nothing was noted
+    /// later. What was so before the moment stays so. Out of memory the past is given up. Costs
+    /// what was ever noted of the object.
     pub fn note_grants(
         self,
         object: Object,
@@ -97,8 +98,8 @@ impl Past {
         })
     }
 
-    /// From a moment on the wheel group is this, or there is none; nothing was noted later. What was so before the moment
-    /// stays so. Out of memory the past is given up.
+    /// From a moment on the wheel group is this, or there is none; nothing was noted later. What
+    /// was so before the moment stays so. Out of memory the past is given up.
     pub fn note_wheel(self, wheel: Option<GroupId>, at: Moment) -> Result<Past, AllocError>
         requires { NotedBy at self }
         ensures noted { IfOk result (λ past. (t : ℕ) → wheel_at past t ≡ (if nat_le at t then wheel else wheel_at self t)) }
@@ -119,7 +120,8 @@ impl Past {
         })
     }
 
-    /// Whether a person was an effective member of a group at a moment. A step is one interval looked at. Takes no memory.
+    /// Whether a person was an effective member of a group at a moment. A step is one interval
+    /// looked at. Takes no memory.
     pub fn was_member<L: Ledger>(
         &self,
         g: GroupId,
@@ -134,7 +136,8 @@ impl Past {
         self.memberships.at(g, s, t, steps)
     }
 
-    /// The intervals in which a person was a member of a group, in order: the one list that stands for these moments.
+    /// The intervals in which a person was a member of a group, in order: the one list that stands
+    /// for these moments.
     pub fn spans(
         &self,
         g: GroupId,
@@ -153,14 +156,16 @@ impl Past {
         self.memberships.persons(g, t)
     }
 
-    /// The groups of which a person was a member at a moment, by id. Costs what was ever noted of the person.
+    /// The groups of which a person was a member at a moment, by id. Costs what was ever noted of
+    /// the person.
     pub fn groups_at(&self, s: SubjectId, t: Moment) -> Result<Vec<GroupId>, AllocError>
         ensures { IfOk result (λ groups. Lists (λ g. was_member self.now g s t) groups.items) }
     {
         self.memberships.groups(s, t)
     }
 
-    /// Whether a holder had a privilege on an object at a moment. A step is one interval looked at. Takes no memory.
+    /// Whether a holder had a privilege on an object at a moment. A step is one interval looked at.
+    /// Takes no memory.
     pub fn was_granted<L: Ledger>(
         &self,
         object: Object,
@@ -176,8 +181,8 @@ impl Past {
         self.grants.at(object, privilege, holder, t, steps)
     }
 
-    /// The privileges that were held on an object at a moment: by privilege, and then everyone, persons and groups by id.
-    /// Costs what was ever noted of the object.
+    /// The privileges that were held on an object at a moment: by privilege, and then everyone,
+    /// persons and groups by id. Costs what was ever noted of the object.
     pub fn grants_at(
         &self,
         object: Object,
@@ -189,11 +194,27 @@ impl Past {
         self.grants.held(object, t)
     }
 
-    /// The wheel group at a moment: none where the last note of it up to the moment was none, or there is no such note.
-    /// Takes no memory.
+    /// The wheel group at a moment: none where the last note of it up to the moment was none, or
+    /// there is no such note. Takes no memory.
     pub fn wheel_at(&self, t: Moment) -> Option<GroupId>
         ensures { result ≡ wheel_at self.now t }
     {
         self.wheel.at(t)
+    }
+
+    /// What was noted by a moment was noted by each later one. It does nothing.
+    pub fn law_noted_later(&self)
+        ensures { (a b : ℕ) → a ≤ b → NotedBy a self.now → NotedBy b self.now }
+    {
+        let _ = &self.memberships;
+    }
+
+    /// From the last note on all stays as it was then. It does nothing.
+    pub fn law_stays(&self)
+        ensures members { (at t g s : ℕ) → at ≤ t → NotedBy at self.now → was_member self.now g s t ≡ was_member self.now g s at }
+        ensures grants { (at t : ℕ) (o : Object) (p : Privilege) (h : Holder) → at ≤ t → NotedBy at self.now → was_granted self.now o p h t ≡ was_granted self.now o p h at }
+        ensures wheel { (at t : ℕ) → at ≤ t → NotedBy at self.now → wheel_at self.now t ≡ wheel_at self.now at }
+    {
+        let _ = &self.memberships;
     }
 }

@@ -7,7 +7,8 @@ use std::alloc::{AllocError, Global};
 use std::collections::BTreeMap;
 use std::marker::Model;
 
-/// The wheel group, if there was one, as it was noted at some moments. Contracts see the notes by their moments.
+/// The wheel group, if there was one, as it was noted at some moments. Contracts see the notes by
+/// their moments.
 #[derive(Drop)]
 pub(crate) struct Wheel {
     notes: BTreeMap<Moment, Option<GroupId>>,
