@@ -1,6 +1,6 @@
 // Answers to queries as JSON.
-ghost use Rattle.std.specs.Prelude.{◌≡◌, ◌++◌, ◌∷◌, OnOk};
-ghost use Rattle.json.specs.Token.{key};
+ghost use Rattle.std.specs.Prelude.{◌≡◌, ◌++◌, ◌∷◌, [], OnOk, codes, true};
+ghost use Rattle.json.specs.Token.{key, boolean};
 ghost use Rattle.json.specs.Tree.{json_tokens};
 ghost use Rattle.serde_json.specs.Data.{array};
 ghost use Rattle.serde_json.specs.Written.{outline};
@@ -45,6 +45,15 @@ fn put_group<'a>(out: &mut Writer, display: &'a Text, name: &'a Name) -> Result<
     put_object(out, &[display, name, ("ok", Scalar::Flag(true))])
 }
 
+/// The member that each answer has.
+fn put_ok(out: &mut Writer) -> Result<(), AllocError>
+    ensures ok { OnOk result (out.new.tokens ≡ out.old.tokens ++ key (codes "ok") ∷ (boolean true ∷ [])) }
+    ensures before { out.new.before ≡ out.old.before }
+{
+    out.key("ok")?;
+    out.boolean(true)
+}
+
 #[tactic(auto, unfolding(crate::specs::Replies::answer_data))]
 fn put_listing(
     out: &mut Writer,
@@ -61,8 +70,7 @@ fn put_listing(
     put_named_strings(out, "definitions", definitions)?;
     put_named_strings(out, "folders", folders)?;
     put_named_strings(out, "groups", groups)?;
-    out.key("ok")?;
-    out.boolean(true)?;
+    put_ok(out)?;
     out.end_object()
 }
 
@@ -73,8 +81,7 @@ fn put_members(out: &mut Writer, members: &Texts) -> Result<(), AllocError>
 {
     out.begin_object()?;
     put_named_strings(out, "members", members)?;
-    out.key("ok")?;
-    out.boolean(true)?;
+    put_ok(out)?;
     out.end_object()
 }
 
@@ -90,8 +97,7 @@ fn put_memberships(
     out.begin_object()?;
     out.key("composite")?;
     put_factors(out, composite)?;
-    out.key("ok")?;
-    out.boolean(true)?;
+    put_ok(out)?;
     out.key("rows")?;
     put_rows(out, rows.list())?;
     out.end_object()

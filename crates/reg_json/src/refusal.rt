@@ -15,28 +15,23 @@ use std::alloc::AllocError;
 fn said(refusal: &Refusal) -> Said<'_>
     ensures { said_data result ≡ refusal_data refusal.now }
 {
-    let (code, word, carried) = match refusal {
-        Refusal::TooLong { limit } => (1, "TooLong", Carried::Limit(*limit)),
-        Refusal::BadRequest { field } => (2, "BadRequest", Carried::Field(field)),
-        Refusal::BadName { field } => (3, "BadName", Carried::Field(field)),
-        Refusal::BadMoment { field } => (4, "BadMoment", Carried::Field(field)),
-        Refusal::NotFound { object } => (6, "NotFound", Carried::Object(object)),
-        Refusal::BadWindow => (9, "BadWindow", Carried::Nothing),
-        Refusal::WrongKind { field } => (10, "WrongKind", Carried::Field(field)),
-        Refusal::Taken { object } => (11, "Taken", Carried::Object(object)),
-        Refusal::Already => (12, "Already", Carried::Nothing),
-        Refusal::NoSuch => (13, "NoSuch", Carried::Nothing),
-        Refusal::IsComposite { object } => (14, "IsComposite", Carried::Object(object)),
-        Refusal::HasMembers => (15, "HasMembers", Carried::Nothing),
-        Refusal::Circular { object } => (16, "Circular", Carried::Object(object)),
-        Refusal::InUse { used } => (17, "InUse", Carried::Use(used)),
-        Refusal::NotEmpty => (18, "NotEmpty", Carried::Nothing),
-        Refusal::Full { kind, limit } => (26, "Full", Carried::Count(kind, *limit)),
-    };
-    Said {
-        code,
-        word,
-        carried,
+    match refusal {
+        Refusal::TooLong { limit } => Said::new(1, "TooLong", Carried::Limit(*limit)),
+        Refusal::BadRequest { field } => Said::new(2, "BadRequest", Carried::Field(field)),
+        Refusal::BadName { field } => Said::new(3, "BadName", Carried::Field(field)),
+        Refusal::BadMoment { field } => Said::new(4, "BadMoment", Carried::Field(field)),
+        Refusal::NotFound { object } => Said::new(6, "NotFound", Carried::Object(object)),
+        Refusal::BadWindow => Said::new(9, "BadWindow", Carried::Nothing),
+        Refusal::WrongKind { field } => Said::new(10, "WrongKind", Carried::Field(field)),
+        Refusal::Taken { object } => Said::new(11, "Taken", Carried::Object(object)),
+        Refusal::Already => Said::new(12, "Already", Carried::Nothing),
+        Refusal::NoSuch => Said::new(13, "NoSuch", Carried::Nothing),
+        Refusal::IsComposite { object } => Said::new(14, "IsComposite", Carried::Object(object)),
+        Refusal::HasMembers => Said::new(15, "HasMembers", Carried::Nothing),
+        Refusal::Circular { object } => Said::new(16, "Circular", Carried::Object(object)),
+        Refusal::InUse { used } => Said::new(17, "InUse", Carried::Use(used)),
+        Refusal::NotEmpty => Said::new(18, "NotEmpty", Carried::Nothing),
+        Refusal::Full { kind, limit } => Said::new(26, "Full", Carried::Count(kind, *limit)),
     }
 }
 

@@ -4,7 +4,7 @@ ghost use Rattle.json.specs.Tree.{json_tokens};
 ghost use Rattle.serde_json.specs.Written.{outline};
 ghost use Rattle.reg_json.specs.Refusals.{refused};
 ghost use Rattle.reg_json.specs.Refusals as say;
-ghost use Rattle.reg_json.specs.Said.{said_data};
+ghost use Rattle.reg_json.specs.Said.{carries, said_data};
 
 use crate::flat::{Scalar, put_object};
 use json::Writer;
@@ -29,6 +29,18 @@ pub enum Carried<'a> {
     Use(&'a Text),
     /// A kind of which there would be more than its limit.
     Count(&'a Text, u64),
+}
+
+impl<'a> Said<'a> {
+    pub fn new(code: u64, word: &'static str, carried: Carried<'a>) -> Said<'a>
+        ensures { said_data result ≡ refused code word.now (carries carried.entry) }
+    {
+        Said {
+            code,
+            word,
+            carried,
+        }
+    }
 }
 
 #[tactic(auto, unfolding(crate::specs::Refusals::refused))]

@@ -6,5 +6,5 @@ use Rattle.reg_json.proofs.answer.put_memberships.Goals as goal
 pub returns-clause-ok : goal.returns-clause-ok
 unfolding answer_data
 returns-clause-ok c =
-    let chained = rw (c.in_ok-put_rows.ensures.ok, c.list.ensures, c.in_ok-key-3.ensures.ok, c.in_ok-boolean.ensures.ok, c.in_ok-key-2.ensures.ok, c.in_ok-put_factors.ensures.ok, c.in_ok-key.ensures.ok, c.in_ok-begin_object.ensures.ok) at c.end_object.ensures.ok in
+    let chained = rw (c.in_ok-put_rows.ensures.ok, c.list.ensures, c.in_ok-key-2.ensures.ok, c.in_ok-put_ok.ensures.ok, c.in_ok-put_factors.ensures.ok, c.in_ok-key.ensures.ok, c.in_ok-begin_object.ensures.ok) at c.end_object.ensures.ok in
     simp append_assoc at chained
