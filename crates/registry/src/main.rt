@@ -1,21 +1,8 @@
 //! The registry: reads requests line by line, and answers each.
 #![tactic(auto)]
 
-#[cfg(test)]
-mod dates_tests;
-#[cfg(test)]
-mod nesting_tests;
-mod pending;
-mod perform;
-mod run;
-mod service;
-mod session;
-mod task;
-#[cfg(test)]
-mod tests;
-mod uncounted;
-
 use reg_outside::{FileDisk, StdSink, StdSource, SystemClock};
+use reg_run::run;
 use std::process::ExitCode;
 use std::{env, io};
 
@@ -32,7 +19,7 @@ fn over(rt: &HostRuntime, path: &str, words: &[String]) -> u8 {
     let mut notes = StdSink::new(rt.stderr());
     let mut disk = FileDisk::new(rt, path);
     let mut clock = SystemClock::new(rt);
-    run::run(
+    run(
         rt.alloc(),
         words,
         &mut input,

@@ -1,0 +1,4 @@
+pub mod Asking
+pub mod Crashing
+pub mod Ending
+pub mod Opened

@@ -1,0 +1,66 @@
+use Rattle.std.proofs.Common.{refl, inl, inr, arith, ◌-◌, length, ◌≤◌}
+use Rattle.reg_keep.specs.JournalWords.{disk_of}
+use Rattle.reg_run.proofs.Crashing.{untouched_same, survives_kept, stops_whole, stops_halted, no_shorter, answered_front}
+use Rattle.reg_run.proofs.Ending.{stop_status, apply_stopped}
+use Rattle.reg_run.proofs.perform.apply_over.Goals as goal
+
+-- the journal didn't open, so the disk was only read
+pub returns-in-Err-clause-did : goal.returns-in-Err-clause-did
+returns-in-Err-clause-did g c name = inl (record {
+  cause = c.in-Err.ensures.cause;
+  input = (refl, refl);
+  output = (refl, refl, refl);
+  clock = refl;
+  disk = untouched_same g.D.Disk c.args.disk c.in-Err.disk c.in-Err.ensures.crash_err (g.met.D.Disk.only_now c.args.disk) c.in-Err.ensures.same_err;
+})
+
+-- all lines were answered
+pub returns-in-Ok-answer_input-clause-did : goal.returns-in-Ok-answer_input-clause-did
+returns-in-Ok-answer_input-clause-did g c name =
+    let from = c.in-Ok.service.state in
+    let to = c.in-Ok-answer_input.service.state in
+    let mid = disk_of c.in-Ok.service.keeper in
+    let new = disk_of c.in-Ok-answer_input.service.keeper in
+    let k = c.in-Ok-answer_input.ensures.kept in
+    let a = c.in-Ok-answer_input.ensures.answered in
+    inr (
+      from,
+      c.in-Ok.ensures.opens,
+      record {
+        taken = a.taken;
+        input = a.input;
+        few = omega (arith, a.few);
+        cut = a.cut;
+        accepted = a.accepted;
+        answered = length to.history - length from.history;
+        ends = record { to = _; all = a.all; written = refl; flushed = c.in-Ok-answer_input.ensures.flushed; ended = a.ended; few = a.few; opens = c.close.ensures.opens };
+        disk = rw c.close.ensures.disk (survives_kept g.D.Disk from.history to.history to.history a.accepted 0 c.args.disk mid new c.in-Ok.ensures.crash (g.met.D.Disk.only_now c.args.disk) c.in-Ok.ensures.same (g.met.D.Disk.reads_now new)
+            a.all.grown (no_shorter from.history to.history a.accepted a.all.grown) (inl refl) (λ is. refl)
+            (stops_whole from.history to.history c.in-Ok.service.keeper c.in-Ok-answer_input.service.keeper k.crash c.close.ensures.again (rw c.close.ensures.disk at c.close.ensures.images)));
+      },
+    )
+
+-- the session stopped
+pub returns-in-Err-answer_input-clause-did : goal.returns-in-Err-answer_input-clause-did
+returns-in-Err-answer_input-clause-did g c name =
+    let from = c.in-Ok.service.state in
+    let mid = disk_of c.in-Ok.service.keeper in
+    let new = disk_of c.in-Err-answer_input.keeper in
+    let s = c.in-Err-answer_input.ensures.halted in
+    let h = s.halted in
+    rw (c.into_disk.ensures, c.end_of_stop.ensures) (inr (
+      from,
+      c.in-Ok.ensures.opens,
+      record {
+        taken = s.taken;
+        input = s.input;
+        few = s.few;
+        cut = s.cut;
+        accepted = h.kept.more;
+        answered = length h.answered - length from.history;
+        ends = apply_stopped c.in-Err-answer_input.stop from s.taken _ _ h.kept.more (length h.answered - length from.history) h.answered h.after c.in-Err-answer_input.ensures.input c.in-Err-answer_input.ensures.output
+            (λ is. omega (arith, c.in-Err-answer_input.ensures.disk is, c.in-Ok.ensures.later)) (answered_front from.history h.answered h.after h.kept.more h.kept.grown h.first h.last) h.kept.grown s.ends;
+        disk = survives_kept g.D.Disk from.history h.answered h.after h.kept.more _ c.args.disk mid new c.in-Ok.ensures.crash (g.met.D.Disk.only_now c.args.disk) c.in-Ok.ensures.same (g.met.D.Disk.reads_now new)
+            h.kept.grown h.first h.last (λ is. absurd (stop_status c.in-Err-answer_input.stop is)) (stops_halted from.history h.answered h.after c.in-Ok.service.keeper c.in-Err-answer_input.keeper h.kept.crash h.stopped);
+      },
+    ))

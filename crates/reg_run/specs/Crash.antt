@@ -1,0 +1,66 @@
+-- What a crash leaves of the disk: at any moment of a run, and after it.
+use Rattle.std.specs.Prelude.{◌≡◌, ◌⊎◌, ◌≤◌, ◌+◌, ℕ, List, [], ◌∷◌, ◌++◌, length, take, Option, Some, None, Ok, Err, IfSome, true}
+use Rattle.reg_terms.specs.declared.command.Stamped.{Stamped}
+use Rattle.reg_machine.specs.History.{State, start}
+use Rattle.reg_outside.specs.declared.disk.Disk.{Ghosts}
+use Rattle.reg_keep.specs.Begin.{is_taken}
+use Rattle.reg_keep.specs.Frames.{payloads_in}
+use Rattle.reg_service.specs.Opening.{opens, at_last}
+
+-- the file has the payloads, or the damage, that one of these images had
+abbrev pub AsBefore : (List ℕ → Type 0) → List ℕ → Type 0
+AsBefore was file = (c : List ℕ) × was c × (payloads_in file ≡ payloads_in c)
+
+-- the file opens to a history followed by at least so many of the commands that were accepted after it
+abbrev pub OpensWith : List Stamped → List Stamped → ℕ → List ℕ → Type 0
+OpensWith before accepted least file = (n : ℕ) × (least ≤ n) × (n ≤ length accepted) × (opens file ≡ Ok (at_last (before ++ take n accepted)))
+
+-- the other is this history, or lacks its last command, or has one command more
+abbrev pub IsNear : List Stamped → List Stamped → Type 0
+IsNear history other = (other ≡ history) ⊎ (((last : Stamped) × (history ≡ other ++ last ∷ [])) ⊎ ((one : Stamped) × (other ≡ history ++ one ∷ [])))
+
+-- A disk is sound for a history: its bytes open to it, and each image to it, to it without its last command or with one
+-- command more.
+pub record IsSound (held : Option (List ℕ)) (images : List ℕ → Type 0) (history : List Stamped) : Type 0 where
+  pub bytes : IfSome held (λ file. opens file ≡ Ok (at_last history))
+  pub near : (c : List ℕ) → images c → (other : List Stamped) × IsNear history other × (opens c ≡ Ok (at_last other))
+
+-- What a run leaves that began at a history, accepted these commands after it, and answered all of them but perhaps the
+-- last. Its disk held these bytes and might leave these images before, and does those now.
+pub record Survives (before accepted : List Stamped) (answered status : ℕ) (held : Option (List ℕ)) (was : List ℕ → Type 0) (left : Option (List ℕ)) (images since : List ℕ → Type 0) : Type 0 where
+  pub few : (answered ≤ length accepted) × (length accepted ≤ answered + 1)
+  -- at any moment since the start a crash leaves what it might have left before, or a front of the accepted commands
+  pub always : (c : List ℕ) → since c → AsBefore was c ⊎ OpensWith before accepted 0 c
+  -- now it leaves all that were answered
+  pub now : (c : List ℕ) → images c → ((accepted ≡ []) × AsBefore was c) ⊎ OpensWith before accepted answered c
+  -- at status 0 it leaves all that were accepted
+  pub done : status ≡ 0 → (c : List ℕ) → images c → opens c ≡ Ok (at_last (before ++ accepted))
+  -- a sound disk stays sound
+  pub sound : IsSound held was before → (n : ℕ) × (answered ≤ n) × (n ≤ length accepted) × IsSound left images (before ++ take n accepted)
+
+-- Of a disk whose file opens to this history: each image since the start is one from before, and where the disk was sound
+-- for the history, it is sound for it again.
+pub record StaysAt (history : List Stamped) (held : Option (List ℕ)) (was : List ℕ → Type 0) (left : Option (List ℕ)) (images since : List ℕ → Type 0) : Type 0 where
+  pub always : (c : List ℕ) → since c → was c
+  pub sound : IsSound held was history → IsSound left images history
+
+-- Each image since the start is one from before, or opens to the empty history, or is damaged. At status 0 each image
+-- now opens to the empty history. At every status `StaysAt` holds of the history that the file opened to, where it did.
+abbrev pub Begins : ℕ → (held : Option (List ℕ)) (was : List ℕ → Type 0) (left : Option (List ℕ)) (images since : List ℕ → Type 0) → Type 0
+Begins status held was left images since = ((c : List ℕ) → since c → was c ⊎ ((opens c ≡ Ok start) ⊎ ((at : ℕ) × (opens c ≡ Err at))))
+    × (status ≡ 0 → (c : List ℕ) → images c → opens c ≡ Ok start)
+    × IfSome held (λ file. (from : State) → opens file ≡ Ok from → StaysAt from.history held was left images since)
+
+-- the bytes are those from before, and each image since the start is one from before
+abbrev pub IsUntouched : {D : Type 0} → Ghosts D → D → D → Type 0
+IsUntouched g old new = (g.contents new ≡ g.contents old) × ((c : List ℕ) → g.left_since new (g.moment old) c → g.may_leave old c)
+
+-- what a run leaves of a disk that opened to a history, with these commands accepted and so many of them answered
+abbrev pub DiskSurvives : {D : Type 0} → Ghosts D → List Stamped → List Stamped → (answered status : ℕ) → D → D → Type 0
+DiskSurvives g before accepted answered status old new =
+    IfSome (g.contents old) (λ file. Survives before accepted answered status (g.contents old) (g.may_leave old) (g.contents new) (g.may_leave new) (g.left_since new (g.moment old)))
+
+-- what beginning a journal leaves of a disk; over a file that is taken nothing is written
+pub record DiskBegins {D : Type 0} (g : Ghosts D) (status : ℕ) (old new : D) : Type 0 where
+  pub begins : Begins status (g.contents old) (g.may_leave old) (g.contents new) (g.may_leave new) (g.left_since new (g.moment old))
+  pub taken : IfSome (g.contents old) (λ file. is_taken file ≡ true → IsUntouched g old new)

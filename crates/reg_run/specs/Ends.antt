@@ -1,0 +1,242 @@
+-- How a run ends: each end, its cause, and what was done.
+use Rattle.std.specs.Prelude.{◌≡◌, ◌⊎◌, ◌<◌, ◌≤◌, ◌^◌, ◌++◌, ℕ, List, [], Bool, true, false, Option, Some, None, Result, Ok, Err, codes, length, take, option_map, IfSome, if◌then◌else◌}
+use Rattle.std.specs.Io.KnownBytes.{append_known, IsAtEnd}
+use Rattle.reg_outside.specs.Faults.{Rose}
+use Rattle.reg_outside.specs.Streams.{first_moment, WritesFront}
+use Rattle.reg_outside.specs.declared.disk.Disk.{Ghosts}
+use Rattle.reg_base.specs.Names.{is_name}
+use Rattle.reg_base.specs.declared.entity.Entity.TheVariants.{System}
+use Rattle.reg_terms.specs.declared.command.Stamped.{Stamped}
+use Rattle.reg_terms.specs.declared.refusal.Refusal.{Refusal}
+use Rattle.reg_terms.specs.declared.refusal.Refusal.TheVariants.{BadName}
+use Rattle.reg_terms.specs.declared.request.Request.{Request}
+use Rattle.reg_terms.specs.declared.request.Op.TheVariants as op
+use Rattle.reg_terms.specs.declared.query.Query.TheVariants as query
+use Rattle.reg_terms.specs.declared.reply.Reply.{Reply}
+use Rattle.reg_terms.specs.declared.reply.Reply.TheVariants as reply
+use Rattle.reg_machine.specs.History.{State}
+use Rattle.reg_keep.specs.Begin.{is_taken}
+use Rattle.reg_keep.specs.Frames.{journal_bytes}
+use Rattle.reg_keep.specs.declared.open.OpenFault.{OpenFault}
+use Rattle.reg_keep.specs.declared.open.OpenFault.TheVariants as fault
+use Rattle.reg_service.specs.Opening.{opens, at_last}
+use Rattle.reg_service.specs.Turn.{turn, Turns}
+use Rattle.reg_session.specs.Lines.{lines, IsCutAtLineFeeds}
+use Rattle.reg_session.specs.Replies.{line_of}
+use Rattle.reg_session.specs.Answered.{Point, Accepted}
+use Rattle.reg_session.specs.Input.{Takes, EndsInput}
+use Rattle.reg_session.specs.declared.stop.Stop.{Stop}
+use Rattle.reg_session.specs.declared.stop.Stop.TheVariants as stop
+use Rattle.reg_run.specs.Crash.{IsUntouched, DiskSurvives, DiskBegins}
+use Rattle.reg_run.specs.Status.{check_line, status_of}
+use Rattle.reg_run.specs.World.{World}
+use Rattle.reg_run.specs.declared.task.Task.{Task}
+use Rattle.reg_run.specs.declared.task.Task.TheVariants as task
+use Rattle.reg_run.specs.declared.task.End.{End}
+use Rattle.reg_run.specs.declared.task.End.TheVariants as the_end
+
+-- nothing of the input was read
+abbrev pub SameInput : World → World → Type 0
+SameInput before after = (after.left ≡ before.left) × (after.reads ≡ before.reads)
+
+-- nothing was written
+abbrev pub SameOutput : World → World → Type 0
+SameOutput before after = (after.written ≡ before.written) × (after.flushed ≡ before.flushed) × (after.writes ≡ before.writes)
+
+-- the clock wasn't looked at
+abbrev pub SameClock : World → World → Type 0
+SameClock before after = after.moments ≡ before.moments
+
+-- the file opens to this, where it is told
+abbrev pub OpensTo : Option (List ℕ) → Result State ℕ → Type 0
+OpensTo held r = IfSome held (λ file. opens file ≡ r)
+
+-- all that was written is flushed
+abbrev pub IsFlushed : World → Type 0
+IsFlushed after = after.flushed ≡ option_map length after.written
+
+-- why the journal wasn't opened: there was no memory, the disk failed, or the file is damaged
+abbrev pub OpenCaused : End → Option (List ℕ) → ℕ → ℕ → Type 0
+OpenCaused the_end.Done held before after = ⊥
+OpenCaused the_end.Usage held before after = ⊥
+OpenCaused the_end.Memory held before after = Unit {0}
+OpenCaused the_end.Disk held before after = Rose before after
+OpenCaused the_end.Input held before after = ⊥
+OpenCaused the_end.Output held before after = ⊥
+OpenCaused (the_end.Damaged at) held before after = OpensTo held (Err at)
+OpenCaused the_end.TooMuch held before after = ⊥
+OpenCaused the_end.Exists held before after = ⊥
+OpenCaused the_end.Refused held before after = ⊥
+
+-- The journal wasn't opened: nothing was read but the disk, nothing was written, and the clock not looked at.
+pub record NotOpened {D : Type 0} (g : Ghosts D) (end : End) (before after : World) (old new : D) : Type 0 where
+  pub cause : OpenCaused end before.held before.faults after.faults
+  pub input : SameInput before after
+  pub output : SameOutput before after
+  pub clock : SameClock before after
+  pub disk : IsUntouched g old new
+
+-- what a run did over a journal: it wasn't opened; or it was, to a state from which this was done
+abbrev pub OverJournal : {D : Type 0} → Ghosts D → (State → Type 0) → End → World → World → D → D → Type 0
+OverJournal g Did end before after old new = NotOpened g end before after old new ⊎ ((from : State) × OpensTo before.held (Ok from) × Did from)
+
+-- how beginning a journal ends: it was begun over a file that isn't taken; or the file is taken; or the disk failed
+abbrev pub InitEnds : End → Option (List ℕ) → ℕ → Option (List ℕ) → ℕ → Type 0
+InitEnds the_end.Done held before new after = (new ≡ option_map (λ file. journal_bytes []) held) × IfSome held (λ file. is_taken file ≡ false)
+InitEnds the_end.Usage held before new after = ⊥
+InitEnds the_end.Memory held before new after = ⊥
+InitEnds the_end.Disk held before new after = Rose before after
+InitEnds the_end.Input held before new after = ⊥
+InitEnds the_end.Output held before new after = ⊥
+InitEnds (the_end.Damaged at) held before new after = ⊥
+InitEnds the_end.TooMuch held before new after = ⊥
+InitEnds the_end.Exists held before new after = IfSome held (λ file. is_taken file ≡ true)
+InitEnds the_end.Refused held before new after = ⊥
+
+-- `init`: a journal was begun or not; beside the disk all is as it was
+pub record DidInit {D : Type 0} (g : Ghosts D) (end : End) (before after : World) (old new : D) : Type 0 where
+  pub ends : InitEnds end before.held before.faults after.held after.faults
+  pub disk : DiskBegins g (status_of end) old new
+  pub input : SameInput before after
+  pub output : SameOutput before after
+  pub clock : SameClock before after
+
+-- where a session begins
+abbrev pub begins_at : World → State → Point
+begins_at before from = record { written = before.written; moments = before.moments; state = from }
+
+-- All lines of the bytes that were taken were answered, and the replies flushed; the input has ended, and the file opens to
+-- the last history.
+pub record AppliedAll (from : State) (taken : List ℕ) (before after : World) (accepted : List Stamped) : Type 0 where
+  pub to : Point
+  pub all : Accepted (begins_at before from) (lines taken) to accepted
+  pub written : after.written ≡ to.written
+  pub flushed : IsFlushed after
+  pub ended : IsAtEnd after.left
+  pub few : length taken < 2 ^ 32
+  pub opens : OpensTo after.held (Ok (at_last to.state.history))
+
+-- How `apply` ends, over the bytes that it took: with its cause, and what was answered and kept.
+abbrev pub ApplyEnds : End → State → List ℕ → World → World → (accepted : List Stamped) → (answered : List Stamped) → Type 0
+ApplyEnds the_end.Done from taken before after accepted answered = AppliedAll from taken before after accepted
+ApplyEnds the_end.Usage from taken before after accepted answered = ⊥
+ApplyEnds the_end.Memory from taken before after accepted answered = EndsInput (begins_at before from) taken after.left after.written answered (from.history ++ accepted) stop.Memory
+ApplyEnds the_end.Disk from taken before after accepted answered =
+    Rose before.faults after.faults × EndsInput (begins_at before from) taken after.left after.written answered (from.history ++ accepted) stop.Disk
+ApplyEnds the_end.Input from taken before after accepted answered =
+    Rose before.reads after.reads × EndsInput (begins_at before from) taken after.left after.written answered (from.history ++ accepted) stop.Input
+ApplyEnds the_end.Output from taken before after accepted answered =
+    Rose before.writes after.writes × EndsInput (begins_at before from) taken after.left after.written answered (from.history ++ accepted) stop.Output
+ApplyEnds (the_end.Damaged at) from taken before after accepted answered = ⊥
+ApplyEnds the_end.TooMuch from taken before after accepted answered = EndsInput (begins_at before from) taken after.left after.written answered (from.history ++ accepted) stop.TooMuch
+ApplyEnds the_end.Exists from taken before after accepted answered = ⊥
+ApplyEnds the_end.Refused from taken before after accepted answered = ⊥
+
+-- `apply` from the state that the file opened to: the bytes that were taken, cut at each LF, the commands that were accepted
+-- and how many of them were answered, how it ended, and what it leaves of the disk.
+pub record DidApply {D : Type 0} (g : Ghosts D) (end : End) (before after : World) (old new : D) (from : State) : Type 0 where
+  pub taken : List ℕ
+  pub input : Takes before.left taken after.left
+  pub few : length taken ≤ 2 ^ 32
+  pub cut : IsCutAtLineFeeds (lines taken) taken
+  pub accepted : List Stamped
+  pub answered : ℕ
+  pub ends : ApplyEnds end from taken before after accepted (from.history ++ take answered accepted)
+  pub disk : DiskSurvives g from.history accepted answered (status_of end) old new
+
+-- how printing these bytes ends: they were written and flushed, and the end is this one; or the output failed, and a front of
+-- them stands there; or there was no memory, and nothing was written
+abbrev pub Printed : End → List ℕ → End → Option (List ℕ) → ℕ → Option (List ℕ) → Option ℕ → ℕ → Type 0
+Printed good bytes end old before new flushed after =
+    ((end ≡ good) × (new ≡ append_known old bytes) × (flushed ≡ option_map length new))
+    ⊎ (((end ≡ the_end.Output) × Rose before after × WritesFront old new bytes) ⊎ ((end ≡ the_end.Memory) × (new ≡ old)))
+
+-- `check` from the state that the file opened to: it printed how many commands there are
+pub record DidCheck {D : Type 0} (g : Ghosts D) (end : End) (before after : World) (old new : D) (from : State) : Type 0 where
+  pub printed : Printed the_end.Done (check_line from) end before.written before.writes after.written after.flushed after.writes
+  pub input : SameInput before after
+  pub clock : SameClock before after
+  pub disk : DiskSurvives g from.history [] 0 (status_of end) old new
+
+-- what the word `members` with this name asks
+abbrev pub name_reading : List ℕ → Result Request Refusal
+name_reading name = if is_name name then Ok (record { by = System; op = op.Query (query.Members name) }) else Err (BadName (codes "group"))
+
+-- a reply that refuses
+abbrev pub is_refused : Reply → Bool
+is_refused (reply.Number n) = false
+is_refused (reply.Answer a) = false
+is_refused (reply.Refused r) = true
+is_refused reply.NoMemory = false
+is_refused reply.KeepFault = false
+
+-- the one reply to a reading, at the next moment, was written
+abbrev pub Replied : Result Request Refusal → Bool → State → World → World → Type 0
+Replied reading refused from before after = IfSome before.moments (λ moments.
+    (after.written ≡ append_known before.written (line_of (turn from (first_moment moments) reading).0)) × (is_refused (turn from (first_moment moments) reading).0 ≡ refused))
+
+-- why a journal doesn't open, as a run's end
+abbrev pub end_of_open : OpenFault → End
+end_of_open (fault.Damaged at) = the_end.Damaged at
+end_of_open fault.Fault = the_end.Disk
+end_of_open fault.NoMemory = the_end.Memory
+
+-- why a run stopped, as its end
+abbrev pub end_of_stop : Stop → End
+end_of_stop stop.Memory = the_end.Memory
+end_of_stop stop.Disk = the_end.Disk
+end_of_stop stop.Input = the_end.Input
+end_of_stop stop.Output = the_end.Output
+end_of_stop stop.TooMuch = the_end.TooMuch
+
+-- the end of a run that printed this one reply
+abbrev pub end_of_reply : Reply → End
+end_of_reply (reply.Number n) = the_end.Done
+end_of_reply (reply.Answer a) = the_end.Done
+end_of_reply (reply.Refused r) = the_end.Refused
+end_of_reply reply.NoMemory = the_end.Memory
+end_of_reply reply.KeepFault = the_end.Disk
+
+-- a reply that may be given to a reading at the next moment was printed, and the end is this one
+pub record Asked (s : State) (moments : Option (List ℕ)) (reading : Result Request Refusal) (last : State) (end : End) (old : Option (List ℕ)) (before : ℕ) (new : Option (List ℕ)) (flushed : Option ℕ) (after : ℕ) : Type 0 where
+  pub told : Reply
+  pub at : ℕ
+  pub moment : IfSome moments (λ ms. at ≡ first_moment ms)
+  pub turn : Turns s at reading told last
+  pub printed : Printed (end_of_reply told) (line_of told) end old before new flushed after
+
+-- How `members` ends: its reply, that of the turn from the state that the file opened to, was printed, with status 0 where it
+-- isn't refused; or there was no memory, or the output failed, and a front of a reply stands there.
+abbrev pub MembersEnds : List ℕ → End → State → World → World → Type 0
+MembersEnds name the_end.Done from before after = Replied (name_reading name) false from before after × IsFlushed after
+MembersEnds name the_end.Usage from before after = ⊥
+MembersEnds name the_end.Memory from before after = Unit {0}
+MembersEnds name the_end.Disk from before after = Rose before.faults after.faults
+MembersEnds name the_end.Input from before after = ⊥
+MembersEnds name the_end.Output from before after = Rose before.writes after.writes
+MembersEnds name (the_end.Damaged at) from before after = ⊥
+MembersEnds name the_end.TooMuch from before after = ⊥
+MembersEnds name the_end.Exists from before after = ⊥
+MembersEnds name the_end.Refused from before after = Replied (name_reading name) true from before after × IsFlushed after
+
+-- `members` from the state that the file opened to
+pub record DidMembers {D : Type 0} (g : Ghosts D) (name : List ℕ) (end : End) (before after : World) (old new : D) (from : State) : Type 0 where
+  pub ends : MembersEnds name end from before after
+  pub input : SameInput before after
+  pub disk : DiskSurvives g from.history [] 0 (status_of end) old new
+
+-- a service that was asked stopped for want of memory, or since its keeper failed
+abbrev pub StopCaused : End → ℕ → ℕ → Type 0
+StopCaused end before after = (end ≡ the_end.Memory) ⊎ ((end ≡ the_end.Disk) × Rose before after)
+
+-- what a run of a task did
+abbrev pub Did : {D : Type 0} → Ghosts D → Task → List ℕ → End → World → World → D → D → Type 0
+Did g task.Init name end before after old new = DidInit g end before after old new
+Did g task.Apply name end before after old new = OverJournal g (DidApply g end before after old new) end before after old new
+Did g task.Check name end before after old new = OverJournal g (DidCheck g end before after old new) end before after old new
+Did g task.Members name end before after old new = OverJournal g (DidMembers g name end before after old new) end before after old new
+
+-- what a run of these words did; words that ask for nothing leave all as it was
+abbrev pub RunDid : {D : Type 0} → Ghosts D → Option Task → List ℕ → End → World → World → D → D → Type 0
+RunDid g None name end before after old new = (end ≡ the_end.Usage) × (after ≡ before) × (new ≡ old)
+RunDid g (Some asked) name end before after old new = Did g asked name end before after old new

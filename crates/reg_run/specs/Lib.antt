@@ -1,0 +1,4 @@
+pub mod Crash
+pub mod Ends
+pub mod Status
+pub mod World

@@ -1,0 +1,70 @@
+-- The words of the program, its exit statuses and its notes.
+use Rattle.std.specs.Prelude.{◌≡◌, ◌⊎◌, ◌++◌, ℕ, List, [], ◌∷◌, Option, Some, None, codes, length, if◌then◌else◌}
+use Rattle.std.specs.Str.{bytes_eq}
+use Rattle.std.specs.Fmt.{decimal}
+use Rattle.std.specs.Io.KnownBytes.{append_known}
+use Rattle.reg_outside.specs.Faults.{Rose}
+use Rattle.reg_outside.specs.Streams.{WritesFront}
+use Rattle.reg_base.specs.MomentText.{text_of}
+use Rattle.reg_machine.specs.History.{State}
+use Rattle.reg_run.specs.declared.task.Task.{Task}
+use Rattle.reg_run.specs.declared.task.Task.TheVariants as task
+use Rattle.reg_run.specs.declared.task.End.{End}
+use Rattle.reg_run.specs.declared.task.End.TheVariants as the_end
+
+-- what one word asks for
+abbrev pub task_of_one : List ℕ → Option Task
+task_of_one word = if bytes_eq word (codes "init") then Some task.Init else
+    (if bytes_eq word (codes "apply") then Some task.Apply else
+    (if bytes_eq word (codes "check") then Some task.Check else None))
+
+-- what the words ask for: `init`, `apply`, `check`, or `members` and a name
+abbrev pub task_of : List (List ℕ) → Option Task
+task_of [] = None
+task_of (word ∷ []) = task_of_one word
+task_of (word ∷ name ∷ []) = if bytes_eq word (codes "members") then Some task.Members else None
+task_of (word ∷ name ∷ more ∷ words) = None
+
+-- the second word
+abbrev pub name_of : List (List ℕ) → List ℕ
+name_of [] = []
+name_of (word ∷ []) = []
+name_of (word ∷ name ∷ words) = name
+
+-- the exit status of a run that ended so
+abbrev pub status_of : End → ℕ
+status_of the_end.Done = 0
+status_of the_end.Usage = 2
+status_of the_end.Memory = 3
+status_of the_end.Disk = 4
+status_of the_end.Input = 5
+status_of the_end.Output = 6
+status_of (the_end.Damaged at) = 7
+status_of the_end.TooMuch = 9
+status_of the_end.Exists = 10
+status_of the_end.Refused = 11
+
+-- the note of a run that ended so
+abbrev pub note_of : End → List ℕ
+note_of the_end.Done = []
+note_of the_end.Usage = codes "usage\n"
+note_of the_end.Memory = codes "memory\n"
+note_of the_end.Disk = codes "disk\n"
+note_of the_end.Input = codes "input\n"
+note_of the_end.Output = codes "output\n"
+note_of (the_end.Damaged at) = codes "damaged at " ++ decimal at ++ 10 ∷ []
+note_of the_end.TooMuch = codes "too much input\n"
+note_of the_end.Exists = codes "exists\n"
+note_of the_end.Refused = []
+
+-- the note was written; or the sink failed, and some front of it was; or there was no memory for it
+abbrev pub NotesOnce : End → Option (List ℕ) → ℕ → Option (List ℕ) → ℕ → Type 0
+NotesOnce end old before new after = (new ≡ append_known old (note_of end)) ⊎ ((Rose before after × WritesFront old new (note_of end)) ⊎ (new ≡ old))
+
+-- the exit statuses that a run has
+abbrev pub IsStatus : ℕ → Type 0
+IsStatus n = (n ≡ 0) ⊎ (n ≡ 2) ⊎ (n ≡ 3) ⊎ (n ≡ 4) ⊎ (n ≡ 5) ⊎ (n ≡ 6) ⊎ (n ≡ 7) ⊎ (n ≡ 9) ⊎ (n ≡ 10) ⊎ (n ≡ 11)
+
+-- what `check` prints: how many commands there are, and the last one's moment, or moment 0, at which the journal opens
+abbrev pub check_line : State → List ℕ
+check_line s = codes "commands " ++ decimal (length s.history) ++ codes " moment " ++ text_of s.clock ++ 10 ∷ []

@@ -1,0 +1,281 @@
+// The tasks, each over a disk that it gives back.
+ghost use Rattle.std.specs.Prelude.{◌≡◌, ◌≤◌, List, ℕ, Option, Ok, Err, codes, length, option_map, IfOk, IfErr, IfSome, OnOk};
+ghost use Rattle.std.specs.Io.KnownBytes.{append_known};
+ghost use Rattle.reg_outside.specs.Disk.{Changes, Same};
+ghost use Rattle.reg_outside.specs.Faults.{Rose, HasCause};
+ghost use Rattle.reg_outside.specs.Streams.{WritesFront};
+ghost use Rattle.reg_keep.specs.JournalWords.{disk_of};
+ghost use Rattle.reg_service.specs.Opening.{opens, at_last, FrontsReopen};
+ghost use Rattle.reg_service.specs.Kept.{KeptOn, Halted};
+ghost use Rattle.reg_session.specs.Pending.{ReadsAs, AsksFormed};
+ghost use Rattle.reg_session.specs.Replies.{line_of};
+ghost use Rattle.reg_run.specs.Ends.{Did, DidInit, OpenCaused, Asked, StopCaused, Printed, name_reading, end_of_reply, end_of_stop, end_of_open};
+ghost use Rattle.reg_run.specs.Status.{check_line};
+ghost use Rattle.reg_run.specs.World.{World, world, holding, printing, at_clock};
+
+use crate::task::{End, Task};
+use reg_base::{Entity, Name, Text};
+use reg_effect::Incremental;
+use reg_keep::{InitFault, Journal, Keeper, OpenFault};
+use reg_machine::Machine;
+use reg_outside::{Clock, Disk, Failed, Sink, Source, write_whole};
+use reg_service::{Next, Service};
+use reg_session::{LineReading, Stop, answer_input, reply_line, stop_of, turn};
+use reg_terms::{Op, Query, Refusal, Reply, Request};
+use std::alloc::{AllocError, Global};
+
+fn end_of_open(fault: OpenFault) -> End
+    ensures { result ≡ end_of_open fault }
+{
+    match fault {
+        OpenFault::Damaged(at) => End::Damaged(at),
+        OpenFault::Fault => End::Disk,
+        OpenFault::NoMemory => End::Memory,
+    }
+}
+
+fn end_of_stop(stop: Stop) -> End
+    ensures { result ≡ end_of_stop stop }
+{
+    match stop {
+        Stop::Memory => End::Memory,
+        Stop::Disk => End::Disk,
+        Stop::Input => End::Input,
+        Stop::Output => End::Output,
+        Stop::TooMuch => End::TooMuch,
+    }
+}
+
+/// The service over the journal on a disk. A refusal gives the disk back.
+fn open<D: Disk>(alloc: Global, disk: D) -> Result<Service<Journal<D>>, (End, D)>
+    ensures opens { IfOk result (λ s. IfSome (D.contents disk) (λ file. opens file ≡ Ok s.state)) }
+    ensures same { IfOk result (λ s. D.contents (disk_of s.keeper) ≡ D.contents disk) }
+    ensures crash { IfOk result (λ s. Changes D.moment D.may_leave D.left_since Same disk (disk_of s.keeper)) }
+    ensures object { IfOk result (λ s. D.name (disk_of s.keeper) ≡ D.name disk) }
+    ensures later { IfOk result (λ s. D.faults disk ≤ D.faults (disk_of s.keeper)) }
+    ensures cause { IfErr result (λ e. OpenCaused e.0 (D.contents disk) (D.faults disk) (D.faults e.1)) }
+    ensures same_err { IfErr result (λ e. D.contents e.1 ≡ D.contents disk) }
+    ensures crash_err { IfErr result (λ e. Changes D.moment D.may_leave D.left_since Same disk e.1) }
+    ensures object_err { IfErr result (λ e. D.name e.1 ≡ D.name disk) }
+    ensures later_err { IfErr result (λ e. D.faults disk ≤ D.faults e.1) }
+{
+    match Journal::reopen(alloc, disk) {
+        Ok((journal, records)) => match Service::start(alloc, journal, records) {
+            Ok(service) => Ok(service),
+            Err((fault, journal)) => Err((end_of_open(fault), journal.into_disk())),
+        },
+        Err((fault, disk)) => Err((end_of_open(fault), disk)),
+    }
+}
+
+/// The disk under a service. It opens to the service's history.
+fn close<D: Disk>(service: Service<Journal<D>>) -> D
+    ensures disk { result ≡ disk_of service.keeper }
+    ensures opens { IfSome (D.contents result) (λ file. opens file ≡ Ok (at_last service.state.history)) }
+    ensures images { (c : List ℕ) → D.may_leave result c → opens c ≡ Ok (at_last service.state.history) }
+    ensures again { FrontsReopen service.state.history }
+{
+    service.into_keeper().into_disk()
+}
+
+/// Begins a journal.
+fn init<D: Disk>(disk: D) -> (End, D)
+    ensures did { (w : World) → DidInit ⟦<D as Disk>⟧ result.0 (holding ⟦<D as Disk>⟧ w disk) (holding ⟦<D as Disk>⟧ w result.1) disk result.1 }
+    ensures object { D.name result.1 ≡ D.name disk }
+    ensures later { D.faults disk ≤ D.faults result.1 }
+{
+    match Journal::init(disk) {
+        Ok(journal) => (End::Done, journal.into_disk()),
+        Err((InitFault::Exists, disk)) => (End::Exists, disk),
+        Err((InitFault::Fault, disk)) => (End::Disk, disk),
+    }
+}
+
+/// Answers the lines of the input over the journal on a disk.
+fn apply_over<S: Source, K: Sink, D: Disk, C: Clock>(
+    alloc: Global,
+    input: &mut S,
+    out: &mut K,
+    disk: D,
+    clock: &mut C,
+) -> (End, D)
+    ensures did { (name : List ℕ) → Did ⟦<D as Disk>⟧ Task.Apply name result.0 (world ⟦<S as Source>⟧ ⟦<K as Sink>⟧ ⟦<D as Disk>⟧ ⟦<C as Clock>⟧ input.old out.old disk clock.old) (world ⟦<S as Source>⟧ ⟦<K as Sink>⟧ ⟦<D as Disk>⟧ ⟦<C as Clock>⟧ input.new out.new result.1 clock.new) disk result.1 }
+    ensures object { D.name result.1 ≡ D.name disk }
+    ensures later { D.faults disk ≤ D.faults result.1 }
+{
+    match open(alloc, disk) {
+        Err((end, disk)) => (end, disk),
+        Ok(service) => match answer_input(alloc, service, input, out, clock) {
+            Ok(service) => (End::Done, close(service)),
+            Err((stop, keeper)) => (end_of_stop(stop), keeper.into_disk()),
+        },
+    }
+}
+
+/// Writes bytes, and flushes.
+fn print<K: Sink>(out: &mut K, bytes: &[u8]) -> Result<(), Failed>
+    ensures written { OnOk result (K.written out.new ≡ append_known (K.written out.old) bytes.now) }
+    ensures flushed { OnOk result (K.flushed out.new ≡ option_map length (K.written out.new)) }
+    ensures front { WritesFront (K.written out.old) (K.written out.new) bytes.now }
+    ensures cause { HasCause (K.write_faults out.old) (K.write_faults out.new) result }
+{
+    write_whole(out, bytes)?;
+    out.flush()
+}
+
+fn check_line(alloc: Global, machine: &Machine<Incremental>) -> Result<Vec<u8>, AllocError>
+    ensures { IfOk result (λ v. v.items ≡ check_line machine.now) }
+{
+    let count = machine.history().len();
+    let mut line = format!(in alloc; "commands {count} moment ")?.into_bytes();
+    line.extend_from_slice(&machine.clock().text())?;
+    line.push(b'\n')?;
+    Ok(line)
+}
+
+fn print_check<K: Sink>(alloc: Global, machine: &Machine<Incremental>, out: &mut K) -> End
+    ensures { Printed End.Done (check_line machine.now) result (K.written out.old) (K.write_faults out.old) (K.written out.new) (K.flushed out.new) (K.write_faults out.new) }
+{
+    match check_line(alloc, machine) {
+        Err(AllocError) => End::Memory,
+        Ok(line) => match print(out, &line) {
+            Ok(()) => End::Done,
+            Err(Failed) => End::Output,
+        },
+    }
+}
+
+/// Opens the journal on a disk, and says how many commands it has, and the last one's moment.
+fn check_over<K: Sink, D: Disk>(alloc: Global, out: &mut K, disk: D) -> (End, D)
+    ensures did { (name : List ℕ) (w : World) → Did ⟦<D as Disk>⟧ Task.Check name result.0
+        (holding ⟦<D as Disk>⟧ (printing ⟦<K as Sink>⟧ w out.old) disk) (holding ⟦<D as Disk>⟧ (printing ⟦<K as Sink>⟧ w out.new) result.1) disk result.1 }
+    ensures object { D.name result.1 ≡ D.name disk }
+    ensures later { D.faults disk ≤ D.faults result.1 }
+{
+    match open(alloc, disk) {
+        Err((end, disk)) => (end, disk),
+        Ok(service) => {
+            service.stays();
+            let end = print_check(alloc, service.machine(), out);
+            (end, close(service))
+        }
+    }
+}
+
+/// The refusal of a text that is no name.
+fn bad_name(alloc: Global) -> LineReading
+    ensures reads { ReadsAs result (Err (Refusal.BadName (codes "group"))) }
+    ensures form { AsksFormed result }
+{
+    match Text::new(alloc, "group") {
+        Ok(field) => LineReading::Refused(Refusal::BadName { field }),
+        Err(AllocError) => LineReading::NoMemory,
+    }
+}
+
+/// What the word `members` with this name asks.
+fn name_reading(alloc: Global, name: &str) -> LineReading
+    ensures reads { ReadsAs result (name_reading name.now) }
+    ensures form { AsksFormed result }
+{
+    match Name::parse(alloc, name.as_bytes()) {
+        Ok(Some(group)) => LineReading::Asked(Request {
+            by: Entity::System,
+            op: Op::Query(Query::Members { group }),
+        }),
+        Ok(None) => bad_name(alloc),
+        Err(AllocError) => LineReading::NoMemory,
+    }
+}
+
+fn end_of_reply(reply: &Reply) -> End
+    ensures { result ≡ end_of_reply reply.now }
+{
+    match reply {
+        Reply::Number { .. } | Reply::Answer(_) => End::Done,
+        Reply::Refused(_) => End::Refused,
+        Reply::NoMemory => End::Memory,
+        Reply::KeepFault => End::Disk,
+    }
+}
+
+fn print_reply<K: Sink>(alloc: Global, reply: &Reply, out: &mut K) -> End
+    ensures { Printed (end_of_reply reply.now) (line_of reply.now) result (K.written out.old) (K.write_faults out.old) (K.written out.new) (K.flushed out.new) (K.write_faults out.new) }
+{
+    match reply_line(alloc, reply) {
+        Err(AllocError) => End::Memory,
+        Ok(line) => match print(out, &line) {
+            Ok(()) => end_of_reply(reply),
+            Err(Failed) => End::Output,
+        },
+    }
+}
+
+/// Asks a service for the members of a group, as GrouperSystem at the clock.
+fn members<J: Keeper, K: Sink, C: Clock>(
+    alloc: Global,
+    service: Service<J>,
+    name: &str,
+    out: &mut K,
+    clock: &mut C,
+) -> Result<(End, Service<J>), (End, J)>
+    ensures asked { IfOk result (λ r. Asked service.state (C.moments clock.old) (name_reading name.now) r.1.state r.0 (K.written out.old) (K.write_faults out.old) (K.written out.new) (K.flushed out.new) (K.write_faults out.new)) }
+    ensures kept { IfOk result (λ r. KeptOn ⟦<J as Keeper>⟧ service.state.history service.keeper r.1.state.history r.1.keeper) }
+    ensures same { IfOk result (λ r. r.1.state.history ≡ service.state.history) }
+    ensures stopped { IfErr result (λ e. StopCaused e.0 (J.keep_faults service.keeper) (J.keep_faults e.1)) }
+    ensures halted { IfErr result (λ e. (h : Halted ⟦<J as Keeper>⟧ service.state.history service.keeper e.1) × (h.after ≡ service.state.history)) }
+{
+    let at = clock.now();
+    let reading = name_reading(alloc, name);
+    let (reply, next) = turn(alloc, service, at, reading);
+    let end = print_reply(alloc, &reply, out);
+    match next {
+        Next::Go(service) => Ok((end, service)),
+        Next::Stop(cause, keeper) => Err((end_of_stop(stop_of(cause)), keeper)),
+    }
+}
+
+/// Asks the journal on a disk for the members of a group.
+fn members_over<K: Sink, D: Disk, C: Clock>(
+    alloc: Global,
+    name: &str,
+    out: &mut K,
+    disk: D,
+    clock: &mut C,
+) -> (End, D)
+    ensures did { (w : World) → Did ⟦<D as Disk>⟧ Task.Members name.now result.0
+        (holding ⟦<D as Disk>⟧ (printing ⟦<K as Sink>⟧ (at_clock ⟦<C as Clock>⟧ w clock.old) out.old) disk)
+        (holding ⟦<D as Disk>⟧ (printing ⟦<K as Sink>⟧ (at_clock ⟦<C as Clock>⟧ w clock.new) out.new) result.1) disk result.1 }
+    ensures object { D.name result.1 ≡ D.name disk }
+    ensures later { D.faults disk ≤ D.faults result.1 }
+{
+    match open(alloc, disk) {
+        Err((end, disk)) => (end, disk),
+        Ok(service) => match members(alloc, service, name, out, clock) {
+            Ok((end, service)) => (end, close(service)),
+            Err((end, keeper)) => (end, keeper.into_disk()),
+        },
+    }
+}
+
+/// Does a task.
+pub fn perform<S: Source, K: Sink, D: Disk, C: Clock>(
+    alloc: Global,
+    task: Task,
+    name: &str,
+    input: &mut S,
+    out: &mut K,
+    disk: D,
+    clock: &mut C,
+) -> (End, D)
+    ensures did { Did ⟦<D as Disk>⟧ task name.now result.0 (world ⟦<S as Source>⟧ ⟦<K as Sink>⟧ ⟦<D as Disk>⟧ ⟦<C as Clock>⟧ input.old out.old disk clock.old) (world ⟦<S as Source>⟧ ⟦<K as Sink>⟧ ⟦<D as Disk>⟧ ⟦<C as Clock>⟧ input.new out.new result.1 clock.new) disk result.1 }
+    ensures object { D.name result.1 ≡ D.name disk }
+    ensures later { D.faults disk ≤ D.faults result.1 }
+{
+    match task {
+        Task::Init => init(disk),
+        Task::Apply => apply_over(alloc, input, out, disk, clock),
+        Task::Check => check_over(alloc, out, disk),
+        Task::Members => members_over(alloc, name, out, disk, clock),
+    }
+}

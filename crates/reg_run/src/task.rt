@@ -1,0 +1,130 @@
+// What the words ask for, and how a run ends.
+ghost use Rattle.std.specs.Prelude.{◌≡◌, ◌≤◌, ◌++◌, List, ℕ, map, codes, string_bytes, IfOk, IsErr};
+ghost use Rattle.reg_outside.specs.Faults.{Rose};
+ghost use Rattle.reg_outside.specs.Streams.{WritesFront};
+ghost use Rattle.reg_run.specs.Status.{task_of_one, task_of, name_of, status_of, note_of, NotesOnce};
+
+use reg_outside::{Sink, write_whole};
+use std::alloc::{AllocError, Global};
+
+/// What the words ask for.
+#[derive(Clone, Copy, Debug, PartialEq, Eq)]
+pub enum Task {
+    /// Begin a journal.
+    Init,
+    /// Answer the lines of the input.
+    Apply,
+    /// Open the journal.
+    Check,
+    /// List the members of the group that the second word names.
+    Members,
+}
+
+/// How a run ends.
+#[derive(Clone, Copy, Debug, PartialEq, Eq)]
+pub enum End {
+    Done,
+    /// The words are none of the program's.
+    Usage,
+    /// There was no memory.
+    Memory,
+    /// The disk failed.
+    Disk,
+    /// The input failed.
+    Input,
+    /// The output failed.
+    Output,
+    /// The journal doesn't open; the place of the damage.
+    Damaged(u64),
+    /// Too many bytes were read.
+    TooMuch,
+    /// The file isn't free for a new journal.
+    Exists,
+    /// The query was refused.
+    Refused,
+}
+
+fn task_of_one(word: &str) -> Option<Task>
+    ensures { result ≡ task_of_one word.now }
+{
+    match word {
+        "init" => Some(Task::Init),
+        "apply" => Some(Task::Apply),
+        "check" => Some(Task::Check),
+        _ => None,
+    }
+}
+
+/// What the words ask for. None where they are none of the program's.
+pub fn task_of(words: &[String]) -> Option<Task>
+    ensures { result ≡ task_of (map string_bytes words.now) }
+{
+    match words {
+        [word] => task_of_one(word.as_str()),
+        [word, _name] => {
+            if word.as_str() == "members" {
+                Some(Task::Members)
+            } else {
+                None
+            }
+        }
+        _ => None,
+    }
+}
+
+/// The second word, if there is one.
+pub fn name_of(words: &[String]) -> &str
+    ensures { result.now ≡ name_of (map string_bytes words.now) }
+{
+    match words {
+        [_, name, ..] => name.as_str(),
+        _ => "",
+    }
+}
+
+/// The exit status of a run that ended so.
+pub fn status_of(end: End) -> u8
+    ensures { result ≡ status_of end }
+{
+    match end {
+        End::Done => 0,
+        End::Usage => 2,
+        End::Memory => 3,
+        End::Disk => 4,
+        End::Input => 5,
+        End::Output => 6,
+        End::Damaged(_) => 7,
+        End::TooMuch => 9,
+        End::Exists => 10,
+        End::Refused => 11,
+    }
+}
+
+fn note_of(alloc: Global, end: End) -> Result<String, AllocError>
+    ensures { IfOk result (λ s. string_bytes s ≡ note_of end) }
+{
+    match end {
+        End::Done | End::Refused => Ok(String::new(alloc)),
+        End::Usage => String::from_str(alloc, "usage\n"),
+        End::Memory => String::from_str(alloc, "memory\n"),
+        End::Disk => String::from_str(alloc, "disk\n"),
+        End::Input => String::from_str(alloc, "input\n"),
+        End::Output => String::from_str(alloc, "output\n"),
+        End::Damaged(at) => format!(in alloc; "damaged at {at}\n"),
+        End::TooMuch => String::from_str(alloc, "too much input\n"),
+        End::Exists => String::from_str(alloc, "exists\n"),
+    }
+}
+
+/// Writes the note of a run that ended so. Where the sink fails, some front of it is written;
+/// where there is no memory for it, none.
+pub fn write_note<N: Sink>(alloc: Global, notes: &mut N, end: End)
+    ensures { NotesOnce end (N.written notes.old) (N.write_faults notes.old) (N.written notes.new) (N.write_faults notes.new) }
+{
+    match note_of(alloc, end) {
+        Ok(note) => {
+            let _written = write_whole(notes, note.as_bytes());
+        }
+        Err(AllocError) => {}
+    }
+}

@@ -1,0 +1,194 @@
+-- What a keeper has after a request.
+use Rattle.std.proofs.Common.{◌≡◌, ◌≤◌, ◌<◌, ◌^◌, ◌++◌, ◌∷◌, [], List, ℕ, Bool, Option, Some, None, Result, Ok, Err, true, false, refl, ap, sym, ◌∙◌, append-nil, subst, arith, option_map, length, length-append, ◌⊎◌, inl, inr}
+use Rattle.std.specs.Prelude.{IfSome, is_some}
+use Rattle.std.proofs.lemmas.List.{take_all, take_at}
+use Rattle.reg_outside.specs.Disk.{Leaves}
+use Rattle.reg_outside.specs.Faults.{Rose}
+use Rattle.reg_terms.specs.declared.command.Stamped.{Stamped}
+use Rattle.reg_terms.specs.declared.request.Op.TheVariants as op
+use Rattle.reg_machine.specs.History.{State, appended, refusal}
+use Rattle.reg_wire.specs.Payload.{payload, stamped_of}
+use Rattle.reg_keep.specs.declared.keeper.Keeper.{Ghosts}
+use Rattle.reg_keep.specs.Keeping.{IsOneOf, AreOneOf}
+use Rattle.reg_service.specs.Opening.{payloads_of, IsServed, Served, Reopens, FrontsReopen}
+use Rattle.reg_service.specs.Kept.{KeptOn, IsBetween, Stopped, IsAcknowledged}
+use Rattle.reg_service.specs.Turn.{requested}
+use Rattle.reg_service.specs.declared.service.Next.TheVariants as next
+use Rattle.reg_service.proofs.Opens.{payloads_more, served_more, opens_more, fronts_more, whole_reopens}
+
+between_same : (h : List Stamped) (r : Result (List (List ℕ)) ℕ) → r ≡ Ok (payloads_of h) → IsBetween h h r
+between_same h r e = (length h, omega arith, omega arith, e ∙ ap (λ (l : List Stamped). Ok (payloads_of l)) (sym (take_all (length h) h (omega arith))))
+
+between_one : (h : List Stamped) (s : Stamped) (ps : List (List ℕ)) (r : Result (List (List ℕ)) ℕ) → ps ≡ payloads_of h → IsOneOf ps (payload s) r → IsBetween h (h ++ s ∷ []) r
+between_one h s ps r is (inl e) =
+    (length h, omega arith, omega (arith, length-append h (s ∷ [])), e ∙ (ap (λ (l : List (List ℕ)). Ok l) is ∙ ap (λ (l : List Stamped). Ok (payloads_of l)) (sym (take_at h (s ∷ []) (length h) refl))))
+between_one h s ps r is (inr e) = (
+  length (h ++ s ∷ []),
+  omega (arith, length-append h (s ∷ [])),
+  omega arith,
+  e ∙ (ap (λ (l : List (List ℕ)). Ok (l ++ payload s ∷ [])) is ∙ (ap (λ (l : List (List ℕ)). Ok l) (sym (payloads_more h s))
+      ∙ ap (λ (l : List Stamped). Ok (payloads_of l)) (sym (take_all (length (h ++ s ∷ [])) (h ++ s ∷ []) (omega arith))))),
+)
+
+told_same : (told : Option (List (List ℕ))) → IfSome told (λ ps. is_some told ≡ true)
+told_same None = tt
+told_same (Some ps) = refl
+
+-- a keeper that goes on leaves its payloads
+pub kept_same : {K : Type 0} (g : Ghosts K) (s : State) (k : K) → IsServed s (g.payloads k) (g.has_failed k)
+    → ((r : Result (List (List ℕ)) ℕ) → g.has_failed k ≡ false → g.stop_leaves k r → (ps : List (List ℕ)) × (g.payloads k ≡ Some ps) × (r ≡ Ok ps))
+    → ((r : Result (List (List ℕ)) ℕ) → g.stopped_since k (g.keep_moment k) r → g.stop_leaves k r) → KeptOn g s.history k s.history k
+kept_same g s k served now only = record {
+  more = [];
+  grown = sym (append-nil s.history);
+  object = refl;
+  later = omega arith;
+  told = told_same (g.payloads k);
+  crash = crash (g.payloads k) refl;
+}
+  where
+    one : (r : Result (List (List ℕ)) ℕ) → g.stopped_since k (g.keep_moment k) r → IsBetween s.history s.history r
+    one r left =
+        let found = now r served.going (only r left) in
+        let is : found.0 ≡ payloads_of s.history = subst (λ (o : Option (List (List ℕ))). IfSome o (λ ps. ps ≡ payloads_of s.history)) found.1 served.payloads in
+        between_same s.history r (found.2 ∙ ap (λ (l : List (List ℕ)). Ok l) is)
+
+    crash : (o : Option (List (List ℕ))) → g.payloads k ≡ o → IfSome o (λ ps. Leaves g.keep_moment g.stopped_since (IsBetween s.history s.history) k k)
+    crash None e = tt
+    crash (Some ps) e = record { later = omega arith; each = one; since = λ t x le left. inl left }
+
+leaves_by : {K X : Type 0} (moment : K → ℕ) (since : K → ℕ → X → Type 0) (P Q : X → Type 0) (old new : K) → ((x : X) → P x → Q x) → Leaves moment since P old new → Leaves moment since Q old new
+leaves_by moment since P Q old new h l = record { later = l.later; each = λ x left. h x (l.each x left); since = λ t x le left. either (l.since t x le left) }
+  where
+    either : {A : Type 0} {x : _} → A ⊎ P x → A ⊎ Q x
+    either (inl a) = inl a
+    either (inr p) = inr (h _ p)
+
+-- an append leaves the history with one command more or without it
+pub kept_one : {K : Type 0} (g : Ghosts K) (s : State) (st : Stamped) (old new : K) → IsServed s (g.payloads old) (g.has_failed old) → g.keep_name new ≡ g.keep_name old
+    → g.keep_faults old ≤ g.keep_faults new → IfSome (g.payloads old) (λ ps. is_some (g.payloads new) ≡ true)
+    → IfSome (g.payloads old) (λ ps. Leaves g.keep_moment g.stopped_since (IsOneOf ps (payload st)) old new) → KeptOn g s.history old (s.history ++ st ∷ []) new
+kept_one g s st old new served object later told leaves = record {
+  more = st ∷ [];
+  grown = refl;
+  object = object;
+  later = later;
+  told = told;
+  crash = crash (g.payloads old) served.payloads leaves;
+}
+  where
+    crash : (o : Option (List (List ℕ))) → IfSome o (λ ps. ps ≡ payloads_of s.history) → IfSome o (λ ps. Leaves g.keep_moment g.stopped_since (IsOneOf ps (payload st)) old new)
+        → IfSome o (λ ps. Leaves g.keep_moment g.stopped_since (IsBetween s.history (s.history ++ st ∷ [])) old new)
+    crash None is l = tt
+    crash (Some ps) is l = leaves_by g.keep_moment g.stopped_since (IsOneOf ps (payload st)) (IsBetween s.history (s.history ++ st ∷ [])) old new (λ r p. between_one s.history st ps r is p) l
+
+pub told_kept : (old new : Option (List (List ℕ))) (f : List (List ℕ) → List (List ℕ)) → new ≡ option_map f old → IfSome old (λ ps. is_some new ≡ true)
+told_kept None new f e = tt
+told_kept (Some ps) new f e = rw e refl
+
+pub told_failed : (old new : Option (List (List ℕ))) (p : List ℕ) → AreOneOf old p new → IfSome old (λ ps. is_some new ≡ true)
+told_failed None new p e = tt
+told_failed (Some ps) new p (inl e) = rw e refl
+told_failed (Some ps) new p (inr e) = rw e refl
+
+-- after an append that failed a stop leaves the history with the command or without it
+pub stopped_one : {K : Type 0} (g : Ghosts K) (s : State) (st : Stamped) (old new : K) → IsServed s (g.payloads old) (g.has_failed old) → st.at ≡ s.clock
+    → refusal s.history s.clock st.command ≡ None → stamped_of (payload st) ≡ Some st
+    → ((r : Result (List (List ℕ)) ℕ) → g.keep_moment old ≤ g.keep_moment new → g.stop_leaves new r → g.stopped_since new (g.keep_moment old) r)
+    → IfSome (g.payloads old) (λ ps. Leaves g.keep_moment g.stopped_since (IsOneOf ps (payload st)) old new) → IfSome (g.payloads old) (λ ps. Stopped g s.history (s.history ++ st ∷ []) new)
+stopped_one g s st old new served at sure back counts leaves = stopped (g.payloads old) served.payloads leaves
+  where
+    again : Reopens (s.history ++ st ∷ [])
+    again = opens_more s.history st back (omega (arith, served.last)) (subst (λ (n : ℕ). refusal s.history n st.command ≡ None) (sym at) sure) (whole_reopens s.history served.opens)
+
+    stopped : (o : Option (List (List ℕ))) → IfSome o (λ ps. ps ≡ payloads_of s.history) → IfSome o (λ ps. Leaves g.keep_moment g.stopped_since (IsOneOf ps (payload st)) old new)
+        → IfSome o (λ ps. Stopped g s.history (s.history ++ st ∷ []) new)
+    stopped None is l = tt
+    stopped (Some ps) is l = (fronts_more s.history st served.opens again, λ r left. between_one s.history st ps r is (l.each r (counts r l.later left)))
+
+-- the same where the values are told by equations
+pub kept_at : {K : Type 0} (g : Ghosts K) (s : State) (k k0 : K) (h0 h1 : List Stamped) → IsServed s (g.payloads k) (g.has_failed k)
+    → ((r : Result (List (List ℕ)) ℕ) → g.has_failed k ≡ false → g.stop_leaves k r → (ps : List (List ℕ)) × (g.payloads k ≡ Some ps) × (r ≡ Ok ps))
+    → ((r : Result (List (List ℕ)) ℕ) → g.stopped_since k (g.keep_moment k) r → g.stop_leaves k r)
+    → s.history ≡ h0 → k ≡ k0 → s.history ≡ h1 → KeptOn g h0 k0 h1 k
+kept_at g s k k0 h0 h1 served now only a b c =
+    subst (λ (h : List Stamped). KeptOn g h k0 h1 k) a (subst (λ (x : _). KeptOn g s.history x h1 k) b (subst (λ (h : List Stamped). KeptOn g s.history k h k) c (kept_same g s k served now only)))
+
+-- a stop leaves the history of a service that goes on
+pub leaves_history : {K : Type 0} (g : Ghosts K) (s : State) (k : K) → IsServed s (g.payloads k) (g.has_failed k)
+    → ((r : Result (List (List ℕ)) ℕ) → g.has_failed k ≡ false → g.stop_leaves k r → (ps : List (List ℕ)) × (g.payloads k ≡ Some ps) × (r ≡ Ok ps))
+    → (r : Result (List (List ℕ)) ℕ) → g.stop_leaves k r → r ≡ Ok (payloads_of s.history)
+leaves_history g s k served now r left =
+    let found = now r served.going left in
+    let is : found.0 ≡ payloads_of s.history = subst (λ (o : Option (List (List ℕ))). IfSome o (λ ps. ps ≡ payloads_of s.history)) found.1 served.payloads in
+    found.2 ∙ ap (λ (l : List (List ℕ)). Ok l) is
+
+-- a keeper that each stop leaves with this history
+pub stopped_whole : {K : Type 0} (g : Ghosts K) (s : State) (h : List Stamped) (k : K) (o told : Option (List (List ℕ))) (failed : Bool) → IsServed s told failed → s.history ≡ h
+    → ((r : Result (List (List ℕ)) ℕ) → g.stop_leaves k r → r ≡ Ok (payloads_of s.history)) → IfSome o (λ ps. Stopped g h h k)
+stopped_whole g s h k None told failed served is left = tt
+stopped_whole g s h k (Some ps) told failed served is left =
+    subst (λ (l : List Stamped). Stopped g l l k) is (served.opens, λ r here. between_same s.history r (left r here))
+
+-- a service that stopped for want of memory has its history
+pub stopped_at : {K : Type 0} (g : Ghosts K) (s : State) (k k0 : K) (h0 : List Stamped) → IsServed s (g.payloads k) (g.has_failed k)
+    → ((r : Result (List (List ℕ)) ℕ) → g.has_failed k ≡ false → g.stop_leaves k r → (ps : List (List ℕ)) × (g.payloads k ≡ Some ps) × (r ≡ Ok ps))
+    → ((r : Result (List (List ℕ)) ℕ) → g.stopped_since k (g.keep_moment k) r → g.stop_leaves k r)
+    → s.history ≡ h0 → k ≡ k0 → (x : List Stamped) × (x ≡ h0) × KeptOn g h0 k0 x k × IfSome (g.payloads k0) (λ ps. Stopped g h0 x k) × Unit {0}
+stopped_at g s k k0 h0 served now only a b =
+    (h0, refl, kept_at g s k k0 h0 h0 served now only a b a, stopped_whole g s h0 k (g.payloads k0) (g.payloads k) (g.has_failed k) served a (leaves_history g s k served now), tt)
+
+-- an accepted command that is kept is served
+pub served_one : (s m : State) (st : Stamped) (bytes : List ℕ) (told told2 : Option (List (List ℕ))) (failed failed2 : Bool) → IsServed s told failed → st.at ≡ s.clock
+    → refusal s.history s.clock st.command ≡ None → stamped_of (payload st) ≡ Some st → m ≡ appended s st.by st.command → bytes ≡ payload st → told2 ≡ option_map (λ ps. ps ++ bytes ∷ []) told → failed2 ≡ false → IsServed m told2 failed2
+served_one s m st bytes told told2 failed failed2 served at sure back is same kept going =
+    rw is (served_more s st told told2 failed failed2 served at sure back (subst (λ (b : List ℕ). told2 ≡ option_map (λ ps. ps ++ b ∷ []) told) same kept) going)
+
+pub size_one : (bytes : List ℕ) (st : Stamped) → bytes ≡ payload st → length (payload st) < 2 ^ 32 → length bytes < 2 ^ 32
+size_one bytes st is short = rw is short
+
+with_payload : {K : Type 0} (g : Ghosts K) (st : Stamped) (bytes : List ℕ) (old new : K) → bytes ≡ payload st → IfSome (g.payloads old) (λ ps. Leaves g.keep_moment g.stopped_since (IsOneOf ps bytes) old new)
+    → IfSome (g.payloads old) (λ ps. Leaves g.keep_moment g.stopped_since (IsOneOf ps (payload st)) old new)
+with_payload g st bytes old new is l = subst (λ (b : List ℕ). IfSome (g.payloads old) (λ ps. Leaves g.keep_moment g.stopped_since (IsOneOf ps b) old new)) is l
+
+-- and each stop meanwhile leaves the history with it or without it
+pub kept_ok : {K : Type 0} (g : Ghosts K) (s m : State) (st : Stamped) (bytes : List ℕ) (old new : K) → IsServed s (g.payloads old) (g.has_failed old) → st.at ≡ s.clock → m ≡ appended s st.by st.command
+    → bytes ≡ payload st → g.keep_name new ≡ g.keep_name old → g.keep_faults old ≤ g.keep_faults new → g.payloads new ≡ option_map (λ ps. ps ++ bytes ∷ []) (g.payloads old)
+    → IfSome (g.payloads old) (λ ps. Leaves g.keep_moment g.stopped_since (IsOneOf ps bytes) old new) → KeptOn g s.history old m.history new
+kept_ok g s m st bytes old new served at is same object later kept leaves =
+    let history : m.history ≡ s.history ++ st ∷ [] = ap (λ (t : State). t.history) is ∙ ap (λ (n : ℕ). s.history ++ (record { at = n; by = st.by; command = st.command }) ∷ []) (sym at) in
+    rw history (kept_one g s st old new served object later (told_kept (g.payloads old) (g.payloads new) (λ ps. ps ++ bytes ∷ []) kept) (with_payload g st bytes old new same leaves))
+
+-- an append that failed
+pub kept_err : {K : Type 0} (g : Ghosts K) (s : State) (st : Stamped) (bytes : List ℕ) (old new : K) (expected : List Stamped) → IsServed s (g.payloads old) (g.has_failed old) → st.at ≡ s.clock
+    → refusal s.history s.clock st.command ≡ None → stamped_of (payload st) ≡ Some st → expected ≡ s.history ++ st ∷ []
+    → bytes ≡ payload st → g.keep_name new ≡ g.keep_name old → g.keep_faults old ≤ g.keep_faults new → Rose (g.keep_faults old) (g.keep_faults new) → AreOneOf (g.payloads old) bytes (g.payloads new)
+    → ((t : ℕ) (r : Result (List (List ℕ)) ℕ) → t ≤ g.keep_moment new → g.stop_leaves new r → g.stopped_since new t r)
+    → IfSome (g.payloads old) (λ ps. Leaves g.keep_moment g.stopped_since (IsOneOf ps bytes) old new)
+    → (x : List Stamped) × ((x ≡ s.history) ⊎ (x ≡ expected)) × KeptOn g s.history old x new × IfSome (g.payloads old) (λ ps. Stopped g s.history x new) × Rose (g.keep_faults old) (g.keep_faults new)
+kept_err g s st bytes old new expected served at sure back would same object later rose failed counts leaves =
+    let all = with_payload g st bytes old new same leaves in (
+      s.history ++ st ∷ [],
+      inr (sym would),
+      kept_one g s st old new served object later (told_failed (g.payloads old) (g.payloads new) bytes failed) all,
+      stopped_one g s st old new served at sure back (λ r le left. counts (g.keep_moment old) r le left) all,
+      rose,
+    )
+
+-- what an accepted command would lead to
+pub would_keep : (s : State) (st : Stamped) → st.at ≡ s.clock → refusal s.history s.clock st.command ≡ None → (requested s st.by (op.Command st.command)).1.history ≡ s.history ++ st ∷ []
+would_keep s st at sure = rw (sure, ← at) refl
+
+-- a command that was kept is acknowledged
+pub acknowledged_one : {K : Type 0} (g : Ghosts K) (s m : State) (st : Stamped) (k : K) (n : ℕ) → IsServed m (g.payloads k) (g.has_failed k)
+    → ((r : Result (List (List ℕ)) ℕ) → g.has_failed k ≡ false → g.stop_leaves k r → (ps : List (List ℕ)) × (g.payloads k ≡ Some ps) × (r ≡ Ok ps))
+    → m ≡ appended s st.by st.command → n ≡ length m.history → IsAcknowledged g s.history n (next.Go (record { state = m; keeper = k }))
+acknowledged_one g s m st k n served now is count =
+    let one : Stamped = record { at = s.clock; by = st.by; command = st.command } in
+    let history : m.history ≡ s.history ++ one ∷ [] = ap (λ (t : State). t.history) is in (
+      one,
+      history,
+      count ∙ ap (λ (l : List Stamped). length l) history,
+      subst (λ (l : List Stamped). IfSome (g.payloads k) (λ ps. ps ≡ payloads_of l)) history served.payloads,
+      λ r left. subst (λ (l : List Stamped). r ≡ Ok (payloads_of l)) history (leaves_history g m k served now r left),
+    )

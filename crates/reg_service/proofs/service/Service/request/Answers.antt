@@ -1,0 +1,36 @@
+use Rattle.std.proofs.Common.{◌≡◌, ◌∙◌, ℕ, ap, subst, max, Ok}
+use Rattle.reg_machine.specs.History.{State}
+use Rattle.reg_service.specs.Kept.{KeepsNext}
+use Rattle.reg_terms.specs.declared.request.Op.TheVariants as op
+use Rattle.reg_service.specs.Turn.{turn, requested, at_moment}
+use Rattle.reg_service.specs.Opening.{Served}
+use Rattle.reg_service.proofs.Forms.{command_form}
+use Rattle.reg_service.proofs.Keeping.{stopped_at}
+use Rattle.reg_service.proofs.service.Service.request.Goals as goal
+
+-- there was no memory to move the clock
+pub returns-in_default-clause-kept : goal.returns-in_default-clause-kept
+returns-in_default-clause-kept g c =
+    stopped_at g.K.Keeper c.self.inside.machine c.self.inside.keeper _ _ c.self.invariant (g.met.K.Keeper.stop_now c.self.inside.keeper) (g.met.K.Keeper.stop_only_now c.self.inside.keeper)
+    (ap (λ (v : Served g.row.K.Denot). v.state.history) c.self.view_is) (ap (λ (v : Served g.row.K.Denot). v.keeper) c.self.view_is)
+
+-- a query keeps nothing
+pub returns-in-Query-clause-kept : goal.returns-in-Query-clause-kept
+returns-in-Query-clause-kept g c =
+    let same : c.in-Ok.machine.history ≡ c.self.inside.machine.history = ap (λ (s : State). s.history) c.in-Ok.ensures in
+    let expected = (turn c.args.self.state c.args.at (Ok c.args.request)).1.history in
+    let kept : KeepsNext g.K.Keeper c.in-Ok.machine.history expected c.self.inside.keeper c.asked.result.1 = c.asked.ensures.kept expected in
+    subst (λ (v : Served g.row.K.Denot). KeepsNext g.K.Keeper v.state.history expected v.keeper c.asked.result.1) c.self.view_is (rw same at kept)
+
+-- a command is carried out at the later moment
+pub returns-in-Command-clause-kept : goal.returns-in-Command-clause-kept
+returns-in-Command-clause-kept g c =
+    let later : State = at_moment c.self.inside.machine c.args.at in
+    let moved : c.in-Ok.machine ≡ later = c.in-Ok.ensures ∙ ap (λ (n : ℕ). let s : State = record { history = c.self.inside.machine.history; clock = n } in s) (c.later_of-now.ensures.value ∙ ap (λ (n : ℕ). max n c.args.at) c.clock.ensures) in
+    let kept : KeepsNext g.K.Keeper c.self.inside.machine.history (requested later c.args.request.by (op.Command c.in-Command.command)).1.history c.self.inside.keeper c.carried_out.result.1 =
+    subst (λ (m : State). KeepsNext g.K.Keeper m.history (requested m c.args.request.by (op.Command c.in-Command.command)).1.history c.self.inside.keeper c.carried_out.result.1) moved c.carried_out.ensures.kept in
+    subst (λ (v : Served g.row.K.Denot). KeepsNext g.K.Keeper v.state.history (requested (at_moment v.state c.args.at) c.args.request.by c.args.request.op).1.history v.keeper c.carried_out.result.1) c.self.view_is (rw c.in-Command.is kept)
+
+-- and has its form
+pub carried_out-requires-clause-form : goal.carried_out-requires-clause-form
+carried_out-requires-clause-form g c = command_form c.in-Command.command (rw c.in-Command.is at c.requires.1)

@@ -1,0 +1,85 @@
+-- One request: the reply, and the registry after it.
+use Rattle.std.specs.Prelude.{◌≡◌, ◌⊎◌, ◌≤◌, ℕ, [], ◌∷◌, ◌++◌, Option, Some, None, Result, Ok, Err, length, max, true}
+use Rattle.reg_base.specs.declared.entity.Entity.{Entity}
+use Rattle.reg_terms.specs.declared.command.Command.{Command}
+use Rattle.reg_terms.specs.declared.command.Stamped.{Stamped}
+use Rattle.reg_terms.specs.declared.refusal.Refusal.{Refusal}
+use Rattle.reg_machine.specs.History.{State, facts, refusal, appended}
+use Rattle.reg_view.specs.Answers.{answer_of}
+use Rattle.reg_terms.specs.declared.query.Answer.{Answer}
+use Rattle.reg_terms.specs.declared.request.Request.{Request}
+use Rattle.reg_terms.specs.declared.request.Op.{Op}
+use Rattle.reg_terms.specs.declared.request.Op.TheVariants as op
+use Rattle.reg_terms.specs.declared.reply.Reply.{Reply}
+use Rattle.reg_terms.specs.declared.reply.Reply.TheVariants as reply
+use Rattle.reg_terms.specs.Forms.{is_entity, op_has_form}
+use Rattle.reg_service.specs.declared.service.Next.{Next}
+use Rattle.reg_service.specs.declared.service.Next.TheVariants as next
+use Rattle.reg_service.specs.declared.service.Cause.{Cause}
+use Rattle.reg_service.specs.declared.service.Cause.TheVariants as cause
+
+-- the clock moves to a moment, and never back
+abbrev pub at_moment : State → ℕ → State
+at_moment s m = record { history = s.history; clock = max s.clock m }
+
+-- a command that isn't refused is appended and answered with its place in the history
+abbrev pub decided : State → Entity → Command → Option Refusal → Reply × State
+decided s by command None = (reply.Number (length (appended s by command).history), appended s by command)
+decided s by command (Some r) = (reply.Refused r, s)
+
+-- the reply to a query
+abbrev pub answered : Result Answer Refusal → Reply
+answered (Ok a) = reply.Answer a
+answered (Err r) = reply.Refused r
+
+-- the reply to what is asked at the clock, and the state after it
+abbrev pub requested : State → Entity → Op → Reply × State
+requested s by (op.Command command) = decided s by command (refusal s.history s.clock command)
+requested s by (op.Query query) = (answered (answer_of query s.clock (facts s.history s.clock)), s)
+
+-- the reply to a reading at a moment, and the state after it
+abbrev pub turn : State → ℕ → Result Request Refusal → Reply × State
+turn s m (Err r) = (reply.Refused r, at_moment s m)
+turn s m (Ok request) = requested (at_moment s m) request.by request.op
+
+-- there was no memory to answer: the history stays, and the clock moved or not
+pub record WantsMemory (s : State) (m : ℕ) (told : Reply) (after : State) : Type 0 where
+  pub fault : told ≡ reply.NoMemory
+  pub history : after.history ≡ s.history
+  pub clock : (after.clock ≡ s.clock) ⊎ (after.clock ≡ max s.clock m)
+
+-- a reply that may be given to a reading, and the state after it
+abbrev pub Turns : State → ℕ → Result Request Refusal → Reply → State → Type 0
+Turns s m reading told after = ((told, after) ≡ turn s m reading) ⊎ WantsMemory s m told after
+
+-- the reply of a service that stopped for this cause
+abbrev pub last_reply : Cause → Reply
+last_reply cause.Memory = reply.NoMemory
+last_reply cause.Disk = reply.KeepFault
+
+-- what follows at the clock: what is expected, or no memory with the state as it was
+abbrev pub Carries : {K : Type 0} → State → Reply × State → Reply × Next K → Type 0
+Carries s expected (told, next.Go after) = ((told, after.state) ≡ expected) ⊎ ((told ≡ reply.NoMemory) × (after.state ≡ s))
+Carries s expected (told, next.Stop why keeper) = told ≡ last_reply why
+
+-- what follows a reading: the service goes on after the turn, or stops for a cause
+abbrev pub Follows : {K : Type 0} → State → ℕ → Result Request Refusal → Reply × Next K → Type 0
+Follows s m reading (told, next.Go after) = Turns s m reading told after.state
+Follows s m reading (told, next.Stop why keeper) = told ≡ last_reply why
+
+-- an accepted command alone goes into the history, at its end; whatever else is answered leaves the history as it was
+abbrev pub KeepsHistory : State → Reply → State → Type 0
+KeepsHistory s (reply.Number n) after = (stamped : Stamped) × (after.history ≡ s.history ++ stamped ∷ []) × (n ≡ length after.history)
+KeepsHistory s (reply.Answer a) after = after.history ≡ s.history
+KeepsHistory s (reply.Refused r) after = after.history ≡ s.history
+KeepsHistory s reply.NoMemory after = after.history ≡ s.history
+KeepsHistory s reply.KeepFault after = ⊥
+
+-- the history after a request is the one before or that with one command more, and the clock doesn't go back
+abbrev pub GoesOn : {K : Type 0} → State → ℕ → Reply × Next K → Type 0
+GoesOn s m (told, next.Go after) = KeepsHistory s told after.state × ((after.state.clock ≡ s.clock) ⊎ (after.state.clock ≡ max s.clock m))
+GoesOn s m (told, next.Stop why keeper) = Unit {0}
+
+-- the caller and the fields of what is asked have their forms
+abbrev pub HasForm : Request → Type 0
+HasForm request = (is_entity request.by ≡ true) × (op_has_form request.op ≡ true)

@@ -1,0 +1,158 @@
+// The machine of a journal's records.
+ghost use Rattle.std.specs.Prelude.{◌≡◌, ◌≤◌, is_some, true, ℕ, Ok, Err, Some, None, IfOk, IfErr, IsErrOf};
+ghost use Rattle.reg_machine.specs.History.{start, refusal, appended};
+ghost use Rattle.reg_keep.specs.declared.open.OpenFault.TheVariants.{Damaged};
+ghost use Rattle.reg_terms.specs.Forms.{has_form};
+ghost use Rattle.reg_service.specs.Opening.{judged, or_place, accepted, after_stamped, after_payload};
+
+use crate::uncounted::{advance, apply};
+use reg_base::{Entity, Moment};
+use reg_effect::Incremental;
+use reg_facts::{Command, Stamped};
+use reg_keep::{OpenFault, Records};
+use reg_machine::Machine;
+use reg_wire::decode;
+use std::alloc::{AllocError, Global};
+
+/// Whether a command is refused now.
+fn is_refused(
+    alloc: Global,
+    machine: &Machine<Incremental>,
+    by: &Entity,
+    command: &Command,
+) -> Result<bool, AllocError>
+    ensures { IfOk result (λ b. b ≡ is_some (refusal machine.now.history machine.now.clock command.now)) }
+{
+    let found = machine.decide(alloc, by, command)?;
+    Ok(found.is_some())
+}
+
+/// The machine with its clock at a later moment.
+fn moved(
+    alloc: Global,
+    machine: Machine<Incremental>,
+    to: Moment,
+) -> Result<Machine<Incremental>, AllocError>
+    requires { machine.clock ≤ to }
+    ensures { IfOk result (λ m. m ≡ record { history = machine.history; clock = to }) }
+{
+    match advance(alloc, machine, to) {
+        Ok(machine) => Ok(machine),
+        Err(_) => Err(AllocError),
+    }
+}
+
+/// The machine after a command that isn't refused.
+fn taken(
+    alloc: Global,
+    machine: Machine<Incremental>,
+    by: &Entity,
+    command: Command,
+) -> Result<Option<Machine<Incremental>>, AllocError>
+    requires allowed { refusal machine.history machine.clock command ≡ None }
+    requires form { has_form command ≡ true }
+    ensures { IfOk result (λ found. found ≡ Some (appended machine by.now command)) }
+{
+    match apply(alloc, machine, by, command) {
+        Ok(machine) => Ok(Some(machine)),
+        Err(_) => Err(AllocError),
+    }
+}
+
+/// The machine after a command at the clock. None where it is refused.
+fn decided(
+    alloc: Global,
+    machine: Machine<Incremental>,
+    by: &Entity,
+    command: Command,
+) -> Result<Option<Machine<Incremental>>, AllocError>
+    requires { has_form command ≡ true }
+    ensures { IfOk result (λ found. found ≡ accepted machine (record { at = machine.clock; by = by.now; command = command }) (refusal machine.history machine.clock command)) }
+{
+    if is_refused(alloc, &machine, by, &command)? {
+        return Ok(None);
+    }
+    taken(alloc, machine, by, command)
+}
+
+/// The machine after a command that acts at a moment. None where it is refused.
+fn act(
+    alloc: Global,
+    machine: Machine<Incremental>,
+    at: Moment,
+    by: &Entity,
+    command: Command,
+) -> Result<Option<Machine<Incremental>>, AllocError>
+    requires form { has_form command ≡ true }
+    requires later { machine.clock ≤ at }
+    ensures { IfOk result (λ found. found ≡ accepted machine (record { at = at; by = by.now; command = command }) (refusal machine.history at command)) }
+{
+    let machine = moved(alloc, machine, at)?;
+    decided(alloc, machine, by, command)
+}
+
+/// The machine after a stamped command. None where its moment is less than the clock, or it is
+/// refused.
+fn accept(
+    alloc: Global,
+    machine: Machine<Incremental>,
+    stamped: Stamped,
+) -> Result<Option<Machine<Incremental>>, AllocError>
+    requires { has_form stamped.command ≡ true }
+    ensures { IfOk result (λ found. found ≡ after_stamped machine (Some stamped)) }
+{
+    let Stamped { at, by, command } = stamped;
+    if at.micros() < machine.clock().micros() {
+        return Ok(None);
+    }
+    act(alloc, machine, at, &by, command)
+}
+
+/// The machine after a payload. None where it is no command's, or that command isn't accepted.
+#[tactic(auto, unfolding(crate::specs::Opening::after_payload))]
+fn take_payload(
+    alloc: Global,
+    machine: Machine<Incremental>,
+    bytes: &[u8],
+) -> Result<Option<Machine<Incremental>>, AllocError>
+    ensures { IfOk result (λ found. found ≡ after_payload machine bytes.now) }
+{
+    match decode(alloc, bytes)? {
+        Some(stamped) => accept(alloc, machine, stamped),
+        None => Ok(None),
+    }
+}
+
+/// The machine after a record, or the record's place.
+fn take_record(
+    alloc: Global,
+    machine: Machine<Incremental>,
+    place: u64,
+    bytes: &[u8],
+) -> Result<Machine<Incremental>, OpenFault>
+    ensures ok { IfOk result (λ m. or_place place (after_payload machine bytes.now) ≡ Ok m) }
+    ensures damaged { IfErr result (λ e. (at : ℕ) → e ≡ Damaged at → or_place place (after_payload machine bytes.now) ≡ Err at) }
+    ensures fault { IsErrOf result OpenFault.Fault → ⊥ }
+{
+    match take_payload(alloc, machine, bytes) {
+        Ok(Some(machine)) => Ok(machine),
+        Ok(None) => Err(OpenFault::Damaged(place)),
+        Err(AllocError) => Err(OpenFault::NoMemory),
+    }
+}
+
+/// The machine of these records.
+pub fn replay(alloc: Global, records: &Records) -> Result<Machine<Incremental>, OpenFault>
+    ensures ok { IfOk result (λ m. judged start records.now ≡ Ok m) }
+    ensures damaged { IfErr result (λ e. (at : ℕ) → e ≡ Damaged at → judged start records.now ≡ Err at) }
+    ensures fault { IsErrOf result OpenFault.Fault → ⊥ }
+{
+    let Ok(mut machine) = Machine::start(alloc) else {
+        return Err(OpenFault::NoMemory);
+    };
+    for item in records.list() {
+        let (place, payload) = item;
+        machine = take_record(alloc, machine, *place, payload.bytes())?;
+    }
+    Ok(machine)
+}

@@ -1,0 +1,232 @@
+// One request after another, over a keeper.
+ghost use Rattle.std.specs.Prelude.{◌≡◌, ℕ, List, Result, true, false, Ok, Err, None, IfOk, IfErr, IfSome};
+ghost use Rattle.reg_machine.specs.History.{start, refusal};
+ghost use Rattle.reg_keep.specs.Frames.{payloads_of_records};
+ghost use Rattle.reg_keep.specs.declared.open.OpenFault.TheVariants.{Damaged};
+ghost use Rattle.reg_terms.specs.declared.command.Stamped.{Stamped};
+ghost use Rattle.reg_terms.specs.Forms.{is_entity, has_form};
+ghost use Rattle.reg_wire.specs.Payload.{IsWritable};
+ghost use Rattle.reg_service.specs.Opening.{payloads_of, judged, FrontsReopen, IsServed};
+ghost use Rattle.reg_service.specs.Kept.{KeepsNext, KeptOn, IsAcknowledged, keeper_of};
+ghost use Rattle.reg_service.specs.Turn.{turn, requested, HasForm, Carries, Follows, GoesOn};
+
+use crate::opening::replay;
+use crate::uncounted::{advance, apply};
+use reg_base::{Entity, Moment};
+use reg_effect::Incremental;
+use reg_facts::{Command, Refusal, Stamped};
+use reg_keep::{KeepFault, Keeper, OpenFault, Records};
+use reg_machine::Machine;
+use reg_view::{Op, Query, Reply, Request, ask};
+use reg_wire::{encode, payload_is_short, payload_reads_back, read_is_payload};
+use std::alloc::{AllocError, Global};
+use std::marker::Model;
+
+/// Why a service stopped.
+#[derive(Clone, Copy, Debug, PartialEq, Eq)]
+pub enum Cause {
+    /// There was no memory to go on.
+    Memory,
+    /// The keeper failed.
+    Disk,
+}
+
+/// The registry, taking requests, and what keeps its commands. Contracts see its history and its
+/// clock, and the keeper.
+#[derive(Drop)]
+pub struct Service<K: Keeper> {
+    machine: Machine<Incremental>,
+    keeper: K,
+}
+
+impl<K: Keeper> Model for Service<K> {
+    ghost use Rattle.reg_service.specs.Opening.{Served, IsServed};
+
+    ghost Value = { Served K };
+
+    ghost view = { λ s. record { state = s.machine; keeper = s.keeper } };
+
+    ghost invariant = { λ s. IsServed s.machine (K.payloads s.keeper) (K.has_failed s.keeper) };
+}
+
+/// What follows a request: the service goes on, or it stopped and gives the keeper back.
+#[derive(Drop)]
+pub enum Next<K: Keeper> {
+    Go(Service<K>),
+    Stop(Cause, K),
+}
+
+/// Asks the machine.
+fn asked<K: Keeper>(
+    alloc: Global,
+    machine: Machine<Incremental>,
+    keeper: K,
+    by: &Entity,
+    query: &Query,
+) -> (Reply, Next<K>)
+    requires { IsServed machine (K.payloads keeper) (K.has_failed keeper) }
+    ensures turn { Carries machine (requested machine by.now (Op.Query query.now)) result }
+    ensures kept { (expected : List Stamped) → KeepsNext ⟦<K as Keeper>⟧ machine.history expected keeper result.1 }
+    ensures same { keeper_of result.1 ≡ keeper }
+    ensures unnumbered { (n : ℕ) → result.0 ≡ Reply.Number n → ⊥ }
+{
+    let reply = match ask(alloc, &machine, by, query) {
+        Ok(Ok(answer)) => Reply::Answer(answer),
+        Ok(Err(refusal)) => Reply::Refused(refusal),
+        Err(AllocError) => Reply::NoMemory,
+    };
+    (reply, Next::Go(Service { machine, keeper }))
+}
+
+/// Takes an accepted command into the history and keeps it. All its memory is taken before it is
+/// kept.
+fn keep<K: Keeper>(
+    alloc: Global,
+    machine: Machine<Incremental>,
+    keeper: K,
+    stamped: Stamped,
+) -> (Reply, Next<K>)
+    requires served { IsServed machine (K.payloads keeper) (K.has_failed keeper) }
+    requires accepted { refusal machine.history machine.clock stamped.command ≡ None }
+    requires now { stamped.at ≡ machine.clock }
+    requires writable { IsWritable stamped }
+    ensures turn { Carries machine (requested machine stamped.by (Op.Command stamped.command)) result }
+    ensures kept { KeepsNext ⟦<K as Keeper>⟧ machine.history (requested machine stamped.by (Op.Command stamped.command)).1.history keeper result.1 }
+    ensures acknowledged { (n : ℕ) → result.0 ≡ Reply.Number n → IsAcknowledged ⟦<K as Keeper>⟧ machine.history n result.1 }
+{
+    let mut keeper = keeper;
+    let Ok(payload) = encode(alloc, &stamped) else {
+        return (Reply::NoMemory, Next::Go(Service { machine, keeper }));
+    };
+    payload_reads_back();
+    payload_is_short();
+    let Stamped { by, command, .. } = stamped;
+    let Ok(machine) = apply(alloc, machine, &by, command) else {
+        return (Reply::NoMemory, Next::Stop(Cause::Memory, keeper));
+    };
+    match keeper.append(&payload) {
+        Ok(()) => {
+            let number = machine.history().len() as u64;
+            (
+                Reply::Number { number },
+                Next::Go(Service { machine, keeper }),
+            )
+        }
+        Err(KeepFault) => (Reply::KeepFault, Next::Stop(Cause::Disk, keeper)),
+    }
+}
+
+/// Carries out a command, unless it is refused.
+fn carried_out<K: Keeper>(
+    alloc: Global,
+    machine: Machine<Incremental>,
+    keeper: K,
+    by: Entity,
+    command: Command,
+) -> (Reply, Next<K>)
+    requires served { IsServed machine (K.payloads keeper) (K.has_failed keeper) }
+    requires caller { is_entity by ≡ true }
+    requires form { has_form command ≡ true }
+    ensures turn { Carries machine (requested machine by (Op.Command command)) result }
+    ensures kept { KeepsNext ⟦<K as Keeper>⟧ machine.history (requested machine by (Op.Command command)).1.history keeper result.1 }
+    ensures acknowledged { (n : ℕ) → result.0 ≡ Reply.Number n → IsAcknowledged ⟦<K as Keeper>⟧ machine.history n result.1 }
+{
+    let at = machine.clock();
+    match machine.decide(alloc, &by, &command) {
+        Err(AllocError) => (Reply::NoMemory, Next::Go(Service { machine, keeper })),
+        Ok(Some(refusal)) => (
+            Reply::Refused(refusal),
+            Next::Go(Service { machine, keeper }),
+        ),
+        Ok(None) => keep(alloc, machine, keeper, Stamped { at, by, command }),
+    }
+}
+
+impl<K: Keeper> Service<K> {
+    /// The service over a keeper's history, whose records these are, with the clock at its last
+    /// moment, or at 0. `Damaged` names the first place whose payload is no command's, falls in
+    /// time, or is refused there; beside it comes `NoMemory` alone. A refusal gives the keeper back.
+    pub fn start(alloc: Global, keeper: K, records: Records) -> Result<Service<K>, (OpenFault, K)>
+        requires payloads { IfSome (K.payloads keeper) (λ ps. ps ≡ payloads_of_records records) }
+        requires going { K.has_failed keeper ≡ false }
+        ensures history { IfOk result (λ s. judged start records ≡ Ok s.state) }
+        ensures keeper { IfOk result (λ s. s.keeper ≡ keeper) }
+        ensures damaged { IfErr result (λ e. (at : ℕ) → e.0 ≡ Damaged at → judged start records ≡ Err at) }
+        ensures fault { IfErr result (λ e. e.0 ≡ OpenFault.Fault → ⊥) }
+        ensures given_back { IfErr result (λ e. e.1 ≡ keeper) }
+    {
+        read_is_payload();
+        match replay(alloc, &records) {
+            Ok(machine) => Ok(Service { machine, keeper }),
+            Err(fault) => Err((fault, keeper)),
+        }
+    }
+
+    /// The machine that it runs.
+    pub fn machine(&self) -> &Machine<Incremental>
+        ensures { result.now ≡ self.now.state }
+    {
+        &self.machine
+    }
+
+    /// A stop now leaves its history. It does nothing: it is a law of the value.
+    pub fn stays(&self)
+        ensures { KeptOn ⟦<K as Keeper>⟧ self.now.state.history self.now.keeper self.now.state.history self.now.keeper }
+    {
+        let _keeper = &self.keeper;
+    }
+
+    /// The keeper as it stands. Each stop leaves the history, of which each front opens again.
+    pub fn into_keeper(self) -> K
+        ensures keeper { result ≡ self.keeper }
+        ensures leaves { (r : Result (List (List ℕ)) ℕ) → K.stop_leaves result r → r ≡ Ok (payloads_of self.state.history) }
+        ensures fronts { FrontsReopen self.state.history }
+    {
+        self.keeper
+    }
+
+    /// Takes one request at the later of this moment and the clock (`docs/REQUESTS.md`). An
+    /// accepted command is kept before it is answered; a query leaves the keeper as it was. It
+    /// stops where moving the clock or applying the command found no memory, and where keeping the
+    /// command failed.
+    pub fn request(self, alloc: Global, at: Moment, request: Request) -> (Reply, Next<K>)
+        requires { HasForm request }
+        ensures turn { Follows self.state at (Ok request) result }
+        ensures history { GoesOn self.state at result }
+        ensures kept { KeepsNext ⟦<K as Keeper>⟧ self.state.history (turn self.state at (Ok request)).1.history self.keeper result.1 }
+
+        // After a command is answered with its number, each stop leaves the history with it at its end.
+        ensures acknowledged { (n : ℕ) → result.0 ≡ Reply.Number n → IsAcknowledged ⟦<K as Keeper>⟧ self.state.history n result.1 }
+        ensures asked { (query : Query) → request.op ≡ Op.Query query → keeper_of result.1 ≡ self.keeper }
+    {
+        let Service { machine, keeper } = self;
+        let now = machine.clock().later_of(at);
+        let Ok(machine) = advance(alloc, machine, now) else {
+            return (Reply::NoMemory, Next::Stop(Cause::Memory, keeper));
+        };
+        let Request { by, op } = request;
+        match op {
+            Op::Query(query) => asked(alloc, machine, keeper, &by, &query),
+            Op::Command(command) => carried_out(alloc, machine, keeper, by, command),
+        }
+    }
+
+    /// Takes a line that was refused in reading: the clock moves, and the refusal is the reply. The
+    /// keeper stays as it was.
+    pub fn refuse(self, alloc: Global, at: Moment, refusal: Refusal) -> (Reply, Next<K>)
+        ensures turn { Follows self.state at (Err refusal) result }
+        ensures history { GoesOn self.state at result }
+        ensures kept { KeepsNext ⟦<K as Keeper>⟧ self.state.history self.state.history self.keeper result.1 }
+        ensures same { keeper_of result.1 ≡ self.keeper }
+    {
+        let Service { machine, keeper } = self;
+        let now = machine.clock().later_of(at);
+        match advance(alloc, machine, now) {
+            Ok(machine) => (
+                Reply::Refused(refusal),
+                Next::Go(Service { machine, keeper }),
+            ),
+            Err(_) => (Reply::NoMemory, Next::Stop(Cause::Memory, keeper)),
+        }
+    }
+}

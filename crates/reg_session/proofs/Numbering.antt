@@ -1,0 +1,109 @@
+-- The numbers that replies tell are the places of the commands that were accepted.
+use Rattle.std.proofs.Common.{◌≡◌, ◌+◌, ◌++◌, ◌∷◌, List, ℕ, Option, Some, None, Result, Ok, Err, [], refl, ap, sym, ◌∙◌, subst, arith, inl, inr, length, length-append, drop, append-nil, append_assoc}
+use Rattle.std.specs.Prelude.{IfSome, All, ◌≢◌}
+use Rattle.std.proofs.Math.Seq.{drop-append_seam}
+use Rattle.reg_base.specs.declared.entity.Entity.{Entity}
+use Rattle.reg_terms.specs.declared.command.Command.{Command}
+use Rattle.reg_terms.specs.declared.command.Stamped.{Stamped}
+use Rattle.reg_terms.specs.declared.refusal.Refusal.{Refusal}
+use Rattle.reg_machine.specs.History.{State, refusal, facts}
+use Rattle.reg_view.specs.Answers.{answer_of}
+use Rattle.reg_terms.specs.declared.query.Answer as terms
+use Rattle.reg_terms.specs.declared.request.Request.{Request}
+use Rattle.reg_terms.specs.declared.request.Op.{Op}
+use Rattle.reg_terms.specs.declared.request.Op.TheVariants as op
+use Rattle.reg_terms.specs.declared.reply.Reply.{Reply}
+use Rattle.reg_terms.specs.declared.reply.Reply.TheVariants as reply
+use Rattle.reg_service.specs.Turn.{turn, requested, decided, answered, at_moment, Turns}
+use Rattle.reg_session.specs.Lines.{readings}
+use Rattle.reg_session.specs.Replies.{numbers, places}
+use Rattle.reg_session.specs.Answered.{Answer, Point, MayAnswer, AreNext, Answered, Accepted, moments_of, readings_of, replies_of, answers, last_state}
+use Rattle.reg_session.proofs.Answering.{answers_exact}
+
+-- a reply numbers the places of what was appended
+record NumbersAdded (s : State) (told : Reply) (after : State) : Type 0 where
+  more : List Stamped
+  grown : after.history ≡ s.history ++ more
+  tells : (replies : List Reply) → numbers (told ∷ replies) ≡ places (length s.history) more ++ numbers replies
+
+nothing : (s : State) (told : Reply) (after : State) → after.history ≡ s.history → ((replies : List Reply) → numbers (told ∷ replies) ≡ numbers replies) → NumbersAdded s told after
+nothing s told after same none = record { more = []; grown = same ∙ sym (append-nil s.history); tells = none }
+
+decided_numbers : (s : State) (by : Entity) (command : Command) (r : Option Refusal) → NumbersAdded s (decided s by command r).0 (decided s by command r).1
+decided_numbers s by command None = record {
+  more = (record { at = s.clock; by = by; command = command }) ∷ [];
+  grown = refl;
+  tells = λ replies. ap (λ (n : ℕ). n ∷ numbers replies) (length-append s.history ((record { at = s.clock; by = by; command = command }) ∷ []));
+}
+decided_numbers s by command (Some r) = nothing s (reply.Refused r) s refl (λ replies. refl)
+
+answered_numbers : (s : State) (r : Result terms.Answer Refusal) → NumbersAdded s (answered r) s
+answered_numbers s (Ok a) = nothing s (reply.Answer a) s refl (λ replies. refl)
+answered_numbers s (Err r) = nothing s (reply.Refused r) s refl (λ replies. refl)
+
+requested_numbers : (s : State) (by : Entity) (asked : Op) → NumbersAdded s (requested s by asked).0 (requested s by asked).1
+requested_numbers s by (op.Command command) = decided_numbers s by command (refusal s.history s.clock command)
+requested_numbers s by (op.Query query) = answered_numbers s (answer_of query s.clock (facts s.history s.clock))
+
+moved : (s : State) (m : ℕ) (told : Reply) (after : State) → NumbersAdded (at_moment s m) told after → NumbersAdded s told after
+moved s m told after t = record { more = t.more; grown = t.grown; tells = t.tells }
+
+turn_numbers : (s : State) (m : ℕ) (reading : Result Request Refusal) → NumbersAdded s (turn s m reading).0 (turn s m reading).1
+turn_numbers s m (Ok request) = moved s m (turn s m (Ok request)).0 (turn s m (Ok request)).1 (requested_numbers (at_moment s m) request.by request.op)
+turn_numbers s m (Err r) = nothing s (reply.Refused r) (at_moment s m) refl (λ replies. refl)
+
+turns_numbers : (s : State) (m : ℕ) (reading : Result Request Refusal) (told : Reply) (after : State) → Turns s m reading told after → NumbersAdded s told after
+turns_numbers s m reading told after (inl e) = subst (λ (p : Reply × State). NumbersAdded s p.0 p.1) (sym e) (turn_numbers s m reading)
+turns_numbers s m reading told after (inr w) = rw w.fault (nothing s reply.NoMemory after w.history (λ replies. refl))
+
+places_append : (n : ℕ) (xs ys : List Stamped) → places n (xs ++ ys) ≡ places n xs ++ places (n + length xs) ys
+places_append n [] ys = ap (λ (k : ℕ). places k ys) (omega arith)
+places_append n (x ∷ xs) ys =
+    ap (λ (l : List ℕ). (n + 1) ∷ l) (places_append (n + 1) xs ys ∙ ap (λ (k : ℕ). places (n + 1) xs ++ places k ys) (omega arith))
+
+pub record Numbered (s : State) (replies : List Reply) (last : State) : Type 0 where
+  pub more : List Stamped
+  pub grown : last.history ≡ s.history ++ more
+  pub tells : numbers replies ≡ places (length s.history) more
+
+after_one : (s after last : State) (told : Reply) (replies : List Reply) → NumbersAdded s told after → Numbered after replies last → Numbered s (told ∷ replies) last
+after_one s after last told replies t n =
+    let count : length after.history ≡ length s.history + length t.more = ap (λ (l : List Stamped). length l) t.grown ∙ length-append s.history t.more in
+    record {
+      more = t.more ++ n.more;
+      grown = n.grown ∙ (ap (λ (l : List Stamped). l ++ n.more) t.grown ∙ append_assoc s.history t.more n.more);
+      tells = t.tells replies ∙ (ap (λ (l : List ℕ). places (length s.history) t.more ++ l) (n.tells ∙ ap (λ (k : ℕ). places k n.more) count) ∙ sym (places_append (length s.history) t.more n.more));
+    }
+
+pub numbered : (s : State) (given : List Answer) (last : State) → MayAnswer s given last → Numbered s (replies_of given) last
+numbered s [] last is = record { more = []; grown = ap (λ (t : State). t.history) is ∙ sym (append-nil s.history); tells = refl }
+numbered s (a ∷ given) last is = after_one s is.0 last a.told (replies_of given) (turns_numbers s a.at a.reading a.told is.0 is.1) (numbered is.0 given last is.2)
+
+-- so they are of what was accepted
+number_places : (s : State) (given : List Answer) (last : State) (more : List Stamped) → MayAnswer s given last
+    → last.history ≡ s.history ++ more → numbers (replies_of given) ≡ places (length s.history) more
+number_places s given last more is grown =
+    let n = numbered s given last is in
+    let same : n.more ≡ more = sym (drop-append_seam s.history n.more) ∙ (ap (λ (l : List Stamped). drop (length s.history) l) (sym n.grown ∙ grown) ∙ drop-append_seam s.history more) in
+    n.tells ∙ ap (λ (l : List Stamped). places (length s.history) l) same
+
+-- what lines that were answered accepted
+pub accepted_of : (p q : Point) (ls : List (List ℕ)) (more : List Stamped) → Answered p ls q → q.state.history ≡ p.state.history ++ more → Accepted p ls q more
+accepted_of p q ls more all grown = record {
+  all = all;
+  grown = grown;
+  numbered = number_places p.state all.answers q.state more all.given grown;
+  exact = exact p.moments all.times.0;
+}
+  where
+    exact : (o : Option (List ℕ)) → IfSome o (AreNext (moments_of all.answers)) → IfSome o (λ coming. All (λ (told : Reply). told ≢ reply.NoMemory) (replies_of all.answers)
+        → (replies_of all.answers ≡ answers p.state coming (readings ls)) × (q.state ≡ last_state p.state coming (readings ls)))
+    exact None times = tt
+    exact (Some coming) times = λ sure. rw all.asked at (answers_exact p.state coming all.answers q.state all.given times sure)
+
+-- the commands that lines accepted
+abbrev pub accepted_in : (p q : Point) (ls : List (List ℕ)) → Answered p ls q → List Stamped
+accepted_in p q ls all = (numbered p.state all.answers q.state all.given).more
+
+pub accepted_all : (p q : Point) (ls : List (List ℕ)) (all : Answered p ls q) → Accepted p ls q (accepted_in p q ls all)
+accepted_all p q ls all = accepted_of p q ls (accepted_in p q ls all) all (numbered p.state all.answers q.state all.given).grown

@@ -1,0 +1,106 @@
+-- Where a session stops, from line to line.
+use Rattle.std.proofs.Common.{◌≡◌, ◌++◌, ◌∷◌, [], List, ℕ, Option, Result, Ok, Err, refl, ap, sym, ◌∙◌, append_assoc, arith, length, inl, inr}
+use Rattle.std.specs.Prelude.{IfSome, false, true}
+use Rattle.std.specs.Io.KnownBytes.{append_known}
+use Rattle.std.proofs.lemmas.List.{take_all}
+use Rattle.reg_outside.specs.Streams.{first_moment, WritesFront}
+use Rattle.reg_terms.specs.declared.command.Stamped.{Stamped}
+use Rattle.reg_terms.specs.declared.refusal.Refusal.{Refusal}
+use Rattle.reg_terms.specs.declared.request.Request.{Request}
+use Rattle.reg_terms.specs.declared.reply.Reply.{Reply}
+use Rattle.reg_terms.specs.declared.reply.Reply.TheVariants as reply
+use Rattle.reg_machine.specs.History.{State}
+use Rattle.reg_json.specs.Reading.{reading_of}
+use Rattle.reg_service.specs.Kept.{Began}
+use Rattle.reg_service.specs.Turn.{turn, Turns, last_reply}
+use Rattle.reg_service.specs.declared.service.Cause.{Cause}
+use Rattle.reg_service.specs.declared.service.Cause.TheVariants as cause
+use Rattle.reg_session.specs.Lines.{is_skipped, ended_from, lines_from, pending_from}
+use Rattle.reg_session.specs.Replies.{line_of, is_accepted, IsShown, WritesReply}
+use Rattle.reg_session.specs.Answered.{Point, Answered}
+use Rattle.reg_session.specs.Stops.{stop_of, EndsTurn, LastTurn, StopsIn}
+use Rattle.reg_session.specs.declared.stop.Stop.{Stop}
+use Rattle.reg_session.specs.declared.stop.Stop.TheVariants as stop
+use Rattle.reg_session.proofs.Answering.{answered_more, append_none}
+use Rattle.reg_session.proofs.Numbering.{accepted_in, accepted_all}
+
+-- lines that weren't come to change nothing
+pub stops_before : (p : Point) (xs more : List (List ℕ)) (w : Option (List ℕ)) (answered after : List Stamped) (why : Stop) → StopsIn p xs w answered after why → StopsIn p (xs ++ more) w answered after why
+stops_before p xs more w answered after why s = record {
+  earlier = s.earlier;
+  line = s.line;
+  later = s.later ++ more;
+  cut = ap (λ (l : List (List ℕ)). l ++ more) s.cut ∙ append_assoc s.earlier (s.line ∷ s.later) more;
+  asks = s.asks;
+  mid = s.mid;
+  accepted = s.accepted;
+  all = s.all;
+  last = s.last;
+}
+
+-- behind lines that were answered
+pub stops_then : (p q : Point) (xs ys : List (List ℕ)) (w : Option (List ℕ)) (answered after : List Stamped) (why : Stop) → Answered p xs q → StopsIn q ys w answered after why → StopsIn p (xs ++ ys) w answered after why
+stops_then p q xs ys w answered after why a s =
+    let all = answered_more p q s.mid xs s.earlier a s.all.all in
+    record {
+      earlier = xs ++ s.earlier;
+      line = s.line;
+      later = s.later;
+      cut = ap (λ (l : List (List ℕ)). xs ++ l) s.cut ∙ sym (append_assoc xs s.earlier (s.line ∷ s.later));
+      asks = s.asks;
+      mid = s.mid;
+      accepted = accepted_in p s.mid (xs ++ s.earlier) all;
+      all = accepted_all p s.mid (xs ++ s.earlier) all;
+      last = s.last;
+    }
+
+-- at the first line
+pub stops_at : (p : Point) (line : List ℕ) (w : Option (List ℕ)) (answered after : List Stamped) (why : Stop) → Answered p [] p → is_skipped line ≡ false → LastTurn p (reading_of line) w answered after why
+    → StopsIn p (line ∷ []) w answered after why
+stops_at p line w answered after why none asks last = record { earlier = []; line = line; later = []; cut = refl; asks = asks; mid = p; accepted = accepted_in p p [] none; all = accepted_all p p [] none; last = last }
+
+-- something of a reply was written, or nothing
+record ShowsFront (due : Reply) (old new : Option (List ℕ)) : Type 0 where
+  shown : Reply
+  shows : IsShown due shown
+  front : WritesFront old new (line_of shown)
+
+shows_front : {T : Type 0} (due : Reply) (old new : Option (List ℕ)) (r : Result T Stop) → WritesReply due old new r → ShowsFront due old new
+shows_front due old new (Ok done) w = record { shown = w.0; shows = w.1; front = (length (line_of w.0), omega arith, w.2 ∙ ap (append_known old) (sym (take_all (length (line_of w.0)) (line_of w.0) (omega arith)))) }
+shows_front due old new (Err stop.Memory) w = record { shown = due; shows = inl refl; front = (0, omega arith, w.1 ∙ append_none old) }
+shows_front due old new (Err stop.Disk) w = elim w [ ]
+shows_front due old new (Err stop.Input) w = elim w [ ]
+shows_front due old new (Err stop.Output) w = record { shown = w.0; shows = w.1; front = w.2 }
+shows_front due old new (Err stop.TooMuch) w = elim w [ ]
+
+ends_stopped : (s : State) (m : ℕ) (reading : Result Request Refusal) (due : Reply) (bare : Type 0) (after : List Stamped) (why : Cause) → due ≡ last_reply why
+    → Began why s.history (turn s m reading).1.history after → EndsTurn s m reading due bare s.history after (stop_of why)
+ends_stopped s m reading due bare after cause.Memory is began = inl (is, refl, began)
+ends_stopped s m reading due bare after cause.Disk is began = (is, refl, began)
+
+-- the service stopped
+pub last_stopped : {T : Type 0} (p : Point) (m : ℕ) (reading : Result Request Refusal) (due : Reply) (w : Option (List ℕ)) (after : List Stamped) (why : Cause) (r : Result T Stop)
+    → IfSome p.moments (λ coming. m ≡ first_moment coming) → due ≡ last_reply why → WritesReply due p.written w r → Began why p.state.history (turn p.state m reading).1.history after
+    → LastTurn p reading w p.state.history after (stop_of why)
+last_stopped p m reading due w after why r moment is wrote began =
+    let f = shows_front due p.written w r wrote in
+    record { at = m; moment = moment; due = due; shown = f.shown; shows = f.shows; front = f.front; ends = ends_stopped p.state m reading due (w ≡ p.written) after why is began }
+
+ends_unwritten : (T : Type 0) (p : Point) (m : ℕ) (reading : Result Request Refusal) (due : Reply) (w : Option (List ℕ)) (last : State) (why : Stop) → Turns p.state m reading due last
+    → WritesReply {T = T} due p.written w (Err why) → EndsTurn p.state m reading due (w ≡ p.written) last.history last.history why
+ends_unwritten T p m reading due w last stop.Memory t wrote = inr (wrote.0, wrote.1, (last, t, refl, refl))
+ends_unwritten T p m reading due w last stop.Disk t wrote = elim wrote [ ]
+ends_unwritten T p m reading due w last stop.Input t wrote = elim wrote [ ]
+ends_unwritten T p m reading due w last stop.Output t wrote = (last, t, refl, refl)
+ends_unwritten T p m reading due w last stop.TooMuch t wrote = elim wrote [ ]
+
+-- the reply wasn't written
+pub last_unwritten : {T : Type 0} (p : Point) (m : ℕ) (reading : Result Request Refusal) (due : Reply) (w : Option (List ℕ)) (last : State) (why : Stop) (r : Result T Stop)
+    → IfSome p.moments (λ coming. m ≡ first_moment coming) → Turns p.state m reading due last → WritesReply due p.written w r → r ≡ Err why → LastTurn p reading w last.history last.history why
+last_unwritten {T = T} p m reading due w last why r moment t wrote is =
+    let f = shows_front due p.written w r wrote in
+    record { at = m; moment = moment; due = due; shown = f.shown; shows = f.shows; front = f.front; ends = ends_unwritten T p m reading due w last why t (rw is at wrote) }
+
+-- it was
+pub wrote_ok : {T : Type 0} (due : Reply) (old new : Option (List ℕ)) (r : Result T Stop) (x : T) → WritesReply due old new r → r ≡ Ok x → (shown : Reply) × IsShown due shown × (new ≡ append_known old (line_of shown))
+wrote_ok due old new r x wrote is = rw is at wrote

@@ -1,0 +1,67 @@
+use Rattle.std.proofs.Common.{arith, rules, refl, inl}
+use Rattle.std.proofs.lemmas.List.{length-take-le}
+use Rattle.reg_session.specs.Answered.{Point}
+use Rattle.reg_session.specs.Input.{StopsInput}
+use Rattle.reg_session.proofs.Feeding.{taken_none, taken_more, answers_all}
+use Rattle.reg_session.proofs.Halting.{kept_then, go_halted, err_by}
+use Rattle.reg_session.proofs.Reading.{stops_piece, stops_last, stops_failed, stops_full}
+use Rattle.reg_session.proofs.input.answer_input.Goals as goal
+
+-- nothing was read yet
+pub loop-taken-init : goal.loop-taken-init
+loop-taken-init g c = record {
+  done = taken_none _ _ _;
+  held = c.start-line.ensures;
+  few = omega arith;
+  reads = omega arith;
+  writes = omega arith;
+  kept = c.stays.ensures;
+}
+
+-- one piece more was taken
+pub loop-taken-preserved : goal.loop-taken-preserved
+loop-taken-preserved g c = record {
+  done = taken_more _ _ _ _ _ _ _ _ _ _ _ _ c.loop-taken.invariant.done c.in-Ok.ensures.bytes (length-take-le _ _ c.in-Ok.ensures.filled) c.in_ok-service.ensures.fed;
+  held = c.loop-taken.invariant.held;
+  few = omega (arith, c.in-Ok.ensures.within);
+  reads = search rules;
+  writes = search rules;
+  kept = kept_then g.J.Keeper _ _ _ _ _ _ c.loop-taken.invariant.kept c.in_ok-service.ensures.kept;
+}
+
+-- the input has ended, and all its lines are answered
+pub returns-then-count-eq0-clause-answered : goal.returns-then-count-eq0-clause-answered
+returns-then-count-eq0-clause-answered g c =
+    answers_all _ _ _ _ _ _ _ _ _ _ _ c.loop-taken.invariant.done c.loop-taken.invariant.held c.loop-taken-test.true c.in-Ok.ensures.bytes c.if-count-eq0.true (c.in-Ok.ensures.end c.if-count-eq0.true)
+    c.in_ok-last.ensures.answered
+
+pub returns-then-count-eq0-clause-kept : goal.returns-then-count-eq0-clause-kept
+returns-then-count-eq0-clause-kept g c = kept_then g.J.Keeper _ _ _ _ _ _ c.loop-taken.invariant.kept c.in_ok-last.ensures.kept
+
+-- the last line stopped the session
+pub returns-in_err-last-clause-halted : goal.returns-in_err-last-clause-halted
+returns-in_err-last-clause-halted g c =
+    let here : Point = record { written = g.K.Sink.written c.args.out.now; moments = g.C.Clock.moments c.args.clock.now; state = c.args.service.state } in
+    err_by (λ e. StopsInput g.J.Keeper here c.args.service.keeper (g.S.Source.left c.args.input.now) (g.S.Source.left c.read_some.new.input) (g.K.Sink.written c.finish.new.out) e.0 e.1) c.from_residual.result c.in_err-last.field-0.0 c.from_residual.ensures.1
+    (stops_last g.J.Keeper here _ _ _ _ _ _ _ _ _ _ _ _ _ _ c.loop-taken.invariant.done c.loop-taken.invariant.held c.loop-taken.invariant.few c.in-Ok.ensures.bytes c.if-count-eq0.true (c.in-Ok.ensures.end c.if-count-eq0.true)
+    c.loop-taken.invariant.kept c.in_err-last.ensures.others c.in_err-last.ensures.halted)
+
+-- a line of a piece did
+pub returns-in_err-service-clause-halted : goal.returns-in_err-service-clause-halted
+returns-in_err-service-clause-halted g c =
+    let here : Point = record { written = g.K.Sink.written c.args.out.now; moments = g.C.Clock.moments c.args.clock.now; state = c.args.service.state } in
+    err_by (λ e. StopsInput g.J.Keeper here c.args.service.keeper (g.S.Source.left c.args.input.now) (g.S.Source.left c.read_some.new.input) (g.K.Sink.written c.feed.new.out) e.0 e.1) c.from_residual-in_err-service.result c.in_err-service.field-0.0 c.from_residual-in_err-service.ensures.1
+    (stops_piece g.J.Keeper here _ _ _ _ _ _ _ _ _ _ _ _ _ c.loop-taken.invariant.done c.loop-taken.invariant.held (omega (arith, c.in-Ok.ensures.within, length-take-le _ _ c.in-Ok.ensures.filled)) c.in-Ok.ensures.bytes
+    c.loop-taken.invariant.kept c.in_err-service.ensures.others c.in_err-service.ensures.halted)
+
+-- the input failed
+pub returns-in-Err-clause-halted : goal.returns-in-Err-clause-halted
+returns-in-Err-clause-halted g c =
+    rw c.in-Err.ensures.input.0 (stops_failed g.J.Keeper _ _ _ _ _ _ _ _ _ _ _ c.loop-taken.invariant.done c.loop-taken.invariant.held c.loop-taken.invariant.few c.in-Err.ensures.same refl
+    (go_halted g.J.Keeper c.args.service.state.history c.args.service.keeper c.loop-taken.service c.into_keeper.result c.loop-taken.invariant.kept c.into_keeper.ensures.keeper c.into_keeper.ensures.fronts c.into_keeper.ensures.leaves) refl refl)
+
+-- there was too much of it
+pub returns-clause-halted : goal.returns-clause-halted
+returns-clause-halted g c =
+    stops_full g.J.Keeper _ _ _ _ _ _ _ _ _ _ c.loop-taken.invariant.done c.loop-taken.invariant.held c.loop-taken.invariant.few c.loop-taken-test.false refl
+    (go_halted g.J.Keeper c.args.service.state.history c.args.service.keeper c.loop-taken.service c.into_keeper-2.result c.loop-taken.invariant.kept c.into_keeper-2.ensures.keeper c.into_keeper-2.ensures.fronts c.into_keeper-2.ensures.leaves) refl refl

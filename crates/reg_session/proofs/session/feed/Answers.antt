@@ -1,0 +1,37 @@
+use Rattle.std.proofs.Common.{arith, rules, length-drop, take-append-drop, List, ℕ, take, drop}
+use Rattle.std.proofs.lemmas.List.{take_all}
+use Rattle.reg_session.specs.Answered.{Point}
+use Rattle.reg_session.specs.Lines.{lines_from, pending_from}
+use Rattle.reg_session.specs.Pending.{Holds}
+use Rattle.reg_session.specs.Stops.{HaltsIn}
+use Rattle.reg_session.proofs.Feeding.{feeds_from, stops_from}
+use Rattle.reg_session.proofs.Halting.{kept_then, halted_then, err_by}
+use Rattle.reg_session.proofs.session.feed.Goals as goal
+
+-- the bytes of one line more were taken
+pub loop-at-preserved : goal.loop-at-preserved
+loop-at-preserved g c =
+    let rest : _ = rw c.split_at.ensures.back at c.in_ok-service.ensures.within in
+    record {
+      fed = feeds_from _ _ _ c.args.line c.loop-at.line c.in_ok-service.field-0-1 c.args.piece.now c.loop-at.at c.in_ok-service.field-0-2 c.loop-at.invariant.fed (rw c.split_at.ensures.back at c.in_ok-service.ensures.fed);
+      within = omega (arith, rest, length-drop c.loop-at.at c.args.piece.now);
+      count = search rules;
+      kept = kept_then g.J.Keeper _ _ _ _ _ _ c.loop-at.invariant.kept c.in_ok-service.ensures.kept;
+    }
+
+-- a line stopped the service
+pub returns-in_err-service-clause-halted : goal.returns-in_err-service-clause-halted
+returns-in_err-service-clause-halted g c =
+    let here : Point = record { written = g.K.Sink.written c.args.out.now; moments = g.C.Clock.moments c.args.clock.now; state = c.args.service.state } in
+    err_by (λ e. (before : List ℕ) → Holds c.args.line before → HaltsIn g.J.Keeper here c.args.service.keeper (lines_from before c.args.piece.now) (g.K.Sink.written c.feed_line.new.out) e.0 e.1) c.from_residual.result c.in_err-service.field-0.0 c.from_residual.ensures.1
+    (λ before held.
+    let fed = c.loop-at.invariant.fed before held in
+    let halted = rw c.split_at.ensures.back at c.in_err-service.ensures.halted in
+    let h = halted (pending_from before (take c.loop-at.at c.args.piece.now)) fed.0 in (
+      halted_then g.J.Keeper _ _ _ _ _ c.loop-at.invariant.kept h.0,
+      rw take-append-drop at (stops_from here _ before (take c.loop-at.at c.args.piece.now) (drop c.loop-at.at c.args.piece.now) _ h.0.answered h.0.after _ fed.1 h.1),
+    ))
+
+-- all bytes were taken
+pub returns-clause-fed : goal.returns-clause-fed
+returns-clause-fed g c = rw (take_all c.loop-at.at c.args.piece.now (omega (arith, c.loop-at-test.false))) at c.loop-at.invariant.fed

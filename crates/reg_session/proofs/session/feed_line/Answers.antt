@@ -1,0 +1,35 @@
+use Rattle.std.proofs.Common.{arith, List, ℕ, ◌++◌, take}
+use Rattle.reg_session.specs.Answered.{Point}
+use Rattle.reg_session.specs.Stops.{HaltsIn}
+use Rattle.reg_session.specs.Lines.{lines_from}
+use Rattle.reg_session.specs.Pending.{Holds}
+use Rattle.reg_session.proofs.Feeding.{feeds_front, feeds_line, stops_first}
+use Rattle.reg_session.proofs.Halting.{err_by}
+use Rattle.reg_session.proofs.session.feed_line.Goals as goal
+
+-- no LF stands in the bytes, so they go on with the line
+pub returns-then-end-bytes-clause-fed : goal.returns-then-end-bytes-clause-fed
+returns-then-end-bytes-clause-fed g c =
+    let here : Point = record { written = g.K.Sink.written c.args.out.now; moments = g.C.Clock.moments c.args.clock.now; state = c.args.service.state } in
+    feeds_front here c.args.line c.extend-line.result _ c.line_end-end.ensures.before (rw c.split_at.ensures.front at c.extend-line.ensures)
+
+-- the bytes before the LF go on with the line, and the LF ends it
+pub returns-clause-fed : goal.returns-clause-fed
+returns-clause-fed g c =
+    let here : Point = record { written = g.K.Sink.written c.args.out.now; moments = g.C.Clock.moments c.args.clock.now; state = c.args.service.state } in
+    let after : Point = record { written = g.K.Sink.written c.answer_line.new.out; moments = g.C.Clock.moments c.answer_line.new.clock; state = c.in_ok-service.service.state } in
+    feeds_line here after c.args.line c.extend-line.result c.clear.result c.args.bytes.now c.line_end-end.result (omega (arith, c.line_end-end.ensures.within)) c.line_end-end.ensures.before
+    (c.line_end-end.ensures.there (omega (arith, c.line_end-end.ensures.within))) (rw c.split_at.ensures.front at c.extend-line.ensures) c.in_ok-service.ensures.answered c.clear.ensures
+
+-- the line stopped the service
+pub returns-in_err-service-clause-halted : goal.returns-in_err-service-clause-halted
+returns-in_err-service-clause-halted g c =
+    let here : Point = record { written = g.K.Sink.written c.args.out.now; moments = g.C.Clock.moments c.args.clock.now; state = c.args.service.state } in
+    err_by (λ e. (before : List ℕ) → Holds c.args.line before → HaltsIn g.J.Keeper here c.args.service.keeper (lines_from before c.args.bytes.now) (g.K.Sink.written c.answer_line.new.out) e.0 e.1) c.from_residual.result c.in_err-service.field-0.0 c.from_residual.ensures.1
+    (λ before held.
+    let extended = rw c.split_at.ensures.front at c.extend-line.ensures in
+    let h = c.in_err-service.ensures.halted (before ++ take c.line_end-end.result c.args.bytes.now) (extended before held) in (
+      h.0,
+      stops_first here before c.args.bytes.now c.line_end-end.result _ h.0.answered h.0.after _ (omega (arith, c.line_end-end.ensures.within)) c.line_end-end.ensures.before
+          (c.line_end-end.ensures.there (omega (arith, c.line_end-end.ensures.within))) h.1,
+    ))

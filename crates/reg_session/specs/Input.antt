@@ -1,0 +1,65 @@
+-- The input of a session, and how it ends.
+use Rattle.std.specs.Prelude.{◌≡◌, ◌⊎◌, ◌≤◌, ◌^◌, ◌<◌, ◌∷◌, [], ℕ, List, Option, length}
+use Rattle.std.specs.Io.KnownBytes.{prepend_known, IsAtEnd}
+use Rattle.reg_terms.specs.declared.command.Stamped.{Stamped}
+use Rattle.reg_keep.specs.declared.keeper.Keeper.{Ghosts}
+use Rattle.reg_service.specs.Kept.{Halted}
+use Rattle.reg_session.specs.Answered.{Point, Accepted, Feeds}
+use Rattle.reg_session.specs.Lines.{lines, ended_lines, IsCutAtLineFeeds}
+use Rattle.reg_session.specs.Stops.{StopsIn}
+use Rattle.reg_session.specs.declared.pending.PendingLine.{PendingLine}
+use Rattle.reg_session.specs.declared.stop.Stop.{Stop}
+use Rattle.reg_session.specs.declared.stop.Stop.TheVariants as stop
+
+-- these bytes were taken from the front of those left
+abbrev pub Takes : Option (List ℕ) → List ℕ → Option (List ℕ) → Type 0
+Takes old taken new = old ≡ prepend_known taken new
+
+-- these lines were answered, and nothing more was begun: this is written, and this history answered and kept
+pub record StopsBehind (before : Point) (ls : List (List ℕ)) (written : Option (List ℕ)) (answered after : List Stamped) : Type 0 where
+  pub last : Point
+  pub accepted : List Stamped
+  pub all : Accepted before ls last accepted
+  pub same : written ≡ last.written
+  pub done : answered ≡ last.state.history
+  pub kept : after ≡ last.state.history
+
+-- All bytes up to the input's end were taken, fewer than 2^32, and their lines answered.
+pub record AnswersInput (before : Point) (left now : Option (List ℕ)) (after : Point) : Type 0 where
+  pub taken : List ℕ
+  pub input : Takes left taken now
+  pub ended : IsAtEnd now
+  pub few : length taken < 2 ^ 32
+  pub cut : IsCutAtLineFeeds (lines taken) taken
+  pub accepted : List Stamped
+  pub all : Accepted before (lines taken) after accepted
+
+-- A session stopped at its last line, or that was answered, and the output not flushed.
+abbrev pub StopsLast : {K : Type 0} → Ghosts K → Point → K → List ℕ → Option (List ℕ) → Stop → K → Type 0
+StopsLast g before old line written why keeper = (h : Halted g before.state.history old keeper)
+    × (StopsIn before (line ∷ []) written h.answered h.after why ⊎ ((why ≡ stop.Output) × StopsBehind before (line ∷ []) written h.answered h.after))
+
+-- Why the session over these bytes stopped. Where the input failed, or there was too much of it, the lines that an LF ends
+-- were answered; where the output failed, a reply wasn't written, or all were and not flushed; else it stopped at a line.
+abbrev pub EndsInput : Point → List ℕ → Option (List ℕ) → Option (List ℕ) → (answered after : List Stamped) → Stop → Type 0
+EndsInput before taken left written answered after stop.Memory = StopsIn before (lines taken) written answered after stop.Memory
+EndsInput before taken left written answered after stop.Disk = StopsIn before (lines taken) written answered after stop.Disk
+EndsInput before taken left written answered after stop.Input = StopsBehind before (ended_lines taken) written answered after
+EndsInput before taken left written answered after stop.Output = StopsIn before (lines taken) written answered after stop.Output ⊎ (StopsBehind before (lines taken) written answered after × IsAtEnd left)
+EndsInput before taken left written answered after stop.TooMuch = StopsBehind before (ended_lines taken) written answered after × (length taken ≡ 2 ^ 32)
+
+-- a session over an input stopped, from this point and keeper on
+pub record StopsInput {K : Type 0} (g : Ghosts K) (before : Point) (old : K) (left now written : Option (List ℕ)) (why : Stop) (keeper : K) : Type 0 where
+  pub taken : List ℕ
+  pub input : Takes left taken now
+  pub few : length taken ≤ 2 ^ 32
+  pub cut : IsCutAtLineFeeds (lines taken) taken
+  pub halted : Halted g before.state.history old keeper
+  pub ends : EndsInput before taken now written halted.answered halted.after why
+
+-- so many bytes were taken from the first point on, and the lines that they end were answered
+pub record HasTaken (left now : Option (List ℕ)) (before after : Point) (pending kept : PendingLine) (count : ℕ) : Type 0 where
+  pub taken : List ℕ
+  pub input : Takes left taken now
+  pub fed : Feeds before pending taken after kept
+  pub counted : length taken ≡ count

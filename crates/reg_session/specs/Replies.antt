@@ -1,0 +1,55 @@
+-- Replies as lines, and the numbers that they tell.
+use Rattle.std.specs.Prelude.{◌≡◌, ◌⊎◌, ℕ, List, [], ◌∷◌, ◌++◌, ◌+◌, Option, Bool, true, false, Result, Ok, Err}
+use Rattle.std.specs.Io.KnownBytes.{append_known}
+use Rattle.reg_outside.specs.Streams.{WritesFront}
+use Rattle.reg_terms.specs.declared.command.Stamped.{Stamped}
+use Rattle.reg_terms.specs.declared.reply.Reply.{Reply}
+use Rattle.reg_terms.specs.declared.reply.Reply.TheVariants as reply
+use Rattle.reg_json.specs.Replies.{text}
+use Rattle.reg_session.specs.declared.stop.Stop.{Stop}
+use Rattle.reg_session.specs.declared.stop.Stop.TheVariants as stop
+
+-- a reply and its LF
+abbrev pub line_of : Reply → List ℕ
+line_of told = text told ++ 10 ∷ []
+
+-- replies, each with its LF
+abbrev pub lines_of : List Reply → List ℕ
+lines_of [] = []
+lines_of (told ∷ replies) = line_of told ++ lines_of replies
+
+-- the numbers that replies tell
+abbrev pub numbers : List Reply → List ℕ
+numbers [] = []
+numbers ((reply.Number n) ∷ replies) = n ∷ numbers replies
+numbers ((reply.Answer a) ∷ replies) = numbers replies
+numbers ((reply.Refused r) ∷ replies) = numbers replies
+numbers (reply.NoMemory ∷ replies) = numbers replies
+numbers (reply.KeepFault ∷ replies) = numbers replies
+
+-- the places of commands behind so many others, counted from 1
+abbrev pub places : ℕ → List Stamped → List ℕ
+places n [] = []
+places n (s ∷ ss) = (n + 1) ∷ places (n + 1) ss
+
+-- whether a reply says that a command was accepted
+abbrev pub is_accepted : Reply → Bool
+is_accepted (reply.Number n) = true
+is_accepted (reply.Answer a) = false
+is_accepted (reply.Refused r) = false
+is_accepted reply.NoMemory = false
+is_accepted reply.KeepFault = false
+
+-- what is shown of a reply: itself, or where no command was accepted that there was no memory to print it
+abbrev pub IsShown : Reply → Reply → Type 0
+IsShown due shown = (shown ≡ due) ⊎ ((shown ≡ reply.NoMemory) × (is_accepted due ≡ false))
+
+-- A reply was written: whole; or the output failed, and a front of it stands there; or an accepted command's reply found no
+-- memory, and nothing of it stands there.
+abbrev pub WritesReply : {T : Type 0} → Reply → Option (List ℕ) → Option (List ℕ) → Result T Stop → Type 0
+WritesReply due old new (Ok done) = (shown : Reply) × IsShown due shown × (new ≡ append_known old (line_of shown))
+WritesReply due old new (Err stop.Memory) = (is_accepted due ≡ true) × (new ≡ old)
+WritesReply due old new (Err stop.Disk) = ⊥
+WritesReply due old new (Err stop.Input) = ⊥
+WritesReply due old new (Err stop.Output) = (shown : Reply) × IsShown due shown × WritesFront old new (line_of shown)
+WritesReply due old new (Err stop.TooMuch) = ⊥

@@ -1,0 +1,118 @@
+// The input, read to its end.
+ghost use Rattle.std.specs.Prelude.{◌≡◌, ◌≤◌, ◌<◌, ◌^◌, ◌∷◌, [], List, take, ℕ, length, option_map, IfOk, IfErr, OnOk};
+ghost use Rattle.std.specs.Io.KnownBytes.{IsAtEnd, prepend_known};
+ghost use Rattle.reg_outside.specs.Faults.{Rose};
+ghost use Rattle.reg_service.specs.Kept.{KeptOn};
+ghost use Rattle.reg_session.specs.Answered.{Answered, point};
+ghost use Rattle.reg_session.specs.Input.{AnswersInput, StopsInput, StopsLast};
+ghost use Rattle.reg_session.specs.Pending.{Holds};
+ghost use Rattle.reg_session.specs.Stops.{IsAtLine};
+
+use crate::pending::PendingLine;
+use crate::session::{answer_line, feed};
+use crate::stop::Stop;
+use reg_keep::Keeper;
+use reg_outside::{Clock, Failed, Sink, Source};
+use reg_service::Service;
+use std::alloc::Global;
+
+/// How many bytes of input a session takes at most.
+const LIMIT: u64 = 1 << 32;
+
+/// How many bytes are read at a time.
+const PIECE: usize = 4096;
+
+fn read_some<S: Source>(input: &mut S, buf: &mut [u8], room: usize) -> Result<usize, Stop>
+    requires fits { room ≤ length buf.old }
+    requires some { 0 < room }
+    ensures within { IfOk result (λ n. n ≤ room) }
+    ensures filled { IfOk result (λ n. n ≤ length buf.new) }
+    ensures bytes { IfOk result (λ n. S.left input.old ≡ prepend_known (take n buf.new) (S.left input.new)) }
+    ensures end { IfOk result (λ n. n ≡ 0 → IsAtEnd (S.left input.new)) }
+    ensures count { S.read_faults input.old ≤ S.read_faults input.new }
+    ensures input { IfErr result (λ e. (e ≡ Stop.Input) × Rose (S.read_faults input.old) (S.read_faults input.new)) }
+    ensures same { IfErr result (λ e. S.left input.new ≡ S.left input.old) }
+{
+    match input.read(&mut buf[..room]) {
+        Ok(count) => Ok(count),
+        Err(Failed) => Err(Stop::Input),
+    }
+}
+
+fn flush<K: Sink>(out: &mut K) -> Result<(), Stop>
+    ensures same { K.written out.new ≡ K.written out.old }
+    ensures flushed { OnOk result (K.flushed out.new ≡ option_map length (K.written out.new)) }
+    ensures count { K.write_faults out.old ≤ K.write_faults out.new }
+    ensures output { IfErr result (λ e. (e ≡ Stop.Output) × Rose (K.write_faults out.old) (K.write_faults out.new)) }
+{
+    match out.flush() {
+        Ok(()) => Ok(()),
+        Err(Failed) => Err(Stop::Output),
+    }
+}
+
+/// Answers the last line, which no LF ends, and flushes.
+fn finish<J: Keeper, K: Sink, C: Clock>(
+    alloc: Global,
+    service: Service<J>,
+    line: &PendingLine,
+    out: &mut K,
+    clock: &mut C,
+) -> Result<Service<J>, (Stop, J)>
+    ensures answered { IfOk result (λ after. (bytes : List ℕ) → Holds line.now bytes →
+        Answered (point ⟦<K as Sink>⟧ ⟦<C as Clock>⟧ out.old clock.old service.state) (bytes ∷ []) (point ⟦<K as Sink>⟧ ⟦<C as Clock>⟧ out.new clock.new after.state)) }
+    ensures flushed { OnOk result (K.flushed out.new ≡ option_map length (K.written out.new)) }
+    ensures kept { IfOk result (λ after. KeptOn ⟦<J as Keeper>⟧ service.state.history service.keeper after.state.history after.keeper) }
+    ensures halted { IfErr result (λ e. (bytes : List ℕ) → Holds line.now bytes →
+        StopsLast ⟦<J as Keeper>⟧ (point ⟦<K as Sink>⟧ ⟦<C as Clock>⟧ out.old clock.old service.state) service.keeper bytes (K.written out.new) e.0 e.1) }
+    ensures count { K.write_faults out.old ≤ K.write_faults out.new }
+    ensures output { IfErr result (λ e. e.0 ≡ Stop.Output → Rose (K.write_faults out.old) (K.write_faults out.new)) }
+    ensures disk { IfErr result (λ e. e.0 ≡ Stop.Disk → Rose (J.keep_faults service.keeper) (J.keep_faults e.1)) }
+    ensures others { IfErr result (λ e. IsAtLine e.0) }
+{
+    let service = answer_line(alloc, service, line, out, clock)?;
+    match flush(out) {
+        Ok(()) => Ok(service),
+        Err(stop) => Err((stop, service.into_keeper())),
+    }
+}
+
+/// Answers all lines of the input, at most 2^32 bytes of it, and flushes. Where it stops, the
+/// keeper is given back.
+pub fn answer_input<S: Source, J: Keeper, K: Sink, C: Clock>(
+    alloc: Global,
+    service: Service<J>,
+    input: &mut S,
+    out: &mut K,
+    clock: &mut C,
+) -> Result<Service<J>, (Stop, J)>
+    ensures answered { IfOk result (λ to.
+        AnswersInput (point ⟦<K as Sink>⟧ ⟦<C as Clock>⟧ out.old clock.old service.state) (S.left input.old) (S.left input.new) (point ⟦<K as Sink>⟧ ⟦<C as Clock>⟧ out.new clock.new to.state)) }
+    ensures flushed { OnOk result (K.flushed out.new ≡ option_map length (K.written out.new)) }
+    ensures kept { IfOk result (λ to. KeptOn ⟦<J as Keeper>⟧ service.state.history service.keeper to.state.history to.keeper) }
+    ensures halted { IfErr result (λ e.
+        StopsInput ⟦<J as Keeper>⟧ (point ⟦<K as Sink>⟧ ⟦<C as Clock>⟧ out.old clock.old service.state) service.keeper (S.left input.old) (S.left input.new) (K.written out.new) e.0 e.1) }
+    ensures input { IfErr result (λ e. e.0 ≡ Stop.Input → Rose (S.read_faults input.old) (S.read_faults input.new)) }
+    ensures output { IfErr result (λ e. e.0 ≡ Stop.Output → Rose (K.write_faults out.old) (K.write_faults out.new)) }
+    ensures disk { IfErr result (λ e. e.0 ≡ Stop.Disk → Rose (J.keep_faults service.keeper) (J.keep_faults e.1)) }
+{
+    service.stays();
+    let mut service = service;
+    let mut line = PendingLine::start(alloc);
+    let mut buf = [0u8; PIECE];
+    let mut taken: u64 = 0;
+    while taken < LIMIT {
+        let room = (LIMIT - taken).min(PIECE as u64) as usize;
+        let count = match read_some(input, &mut buf, room) {
+            Ok(count) => count,
+            Err(stop) => return Err((stop, service.into_keeper())),
+        };
+        if count == 0 {
+            let last = finish(alloc, service, &line, out, clock)?;
+            return Ok(last);
+        }
+        (service, line) = feed(alloc, service, line, &buf[..count], out, clock)?;
+        taken += count as u64;
+    }
+    Err((Stop::TooMuch, service.into_keeper()))
+}

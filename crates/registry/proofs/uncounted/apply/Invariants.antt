@@ -1,4 +1,0 @@
-use Rattle.registry.proofs.uncounted.apply.Given as goal
-
-abbrev pub ghosts-apply_from : goal.ghosts-apply_from
-ghosts-apply_from a = record { name = a.blank.name; parts = a.blank.parts }

@@ -1,0 +1,25 @@
+//! Plays worked examples of the registry, which stand in documents that people read, and says of
+//! each whether it came out as it is written. `data/examples.md` says how a document is written.
+#![tactic(auto)]
+
+mod document;
+mod example;
+mod objects;
+mod run;
+
+use std::{env, fs, io};
+
+/// Plays the examples of one document.
+fn play_file(rt: &HostRuntime, path: &str) -> io::Result<()> {
+    let text = fs::read_to_string(rt, path)?;
+    let report = document::play(rt.alloc(), text.as_str())?;
+    rt.print(report.as_str())
+}
+
+/// Each word names a document.
+fn main(rt: HostRuntime) -> io::Result<()> {
+    for path in env::args(&rt)?.skip(1) {
+        play_file(&rt, path.as_str())?;
+    }
+    Ok(())
+}

@@ -1,0 +1,158 @@
+// The objects in memory that a run is handed, and what the run came to.
+use crate::run::Run;
+use reg_outside::{ListClock, MemoryDisk, MemorySink, MemorySource};
+use reg_run::run;
+use std::alloc::{AllocError, Global};
+
+/// What a run came to: its lines, and the bytes of its disk.
+#[derive(Drop)]
+pub struct Outcome {
+    pub lines: String,
+    pub disk: Vec<u8>,
+}
+
+#[derive(Drop)]
+struct Objects {
+    input: MemorySource,
+    out: MemorySink,
+    notes: MemorySink,
+    disk: MemoryDisk,
+    clock: ListClock,
+}
+
+fn source_of(alloc: Global, given: &Run, piece: usize) -> Result<MemorySource, AllocError> {
+    let fail = given.fail_read.to_vec(alloc)?;
+    let bytes = given.input.to_vec(alloc)?;
+    Ok(MemorySource::new(bytes, piece.max(1), fail))
+}
+
+fn sink_of(alloc: Global, fail: &[u64]) -> Result<MemorySink, AllocError> {
+    let fail = fail.to_vec(alloc)?;
+    Ok(MemorySink::new(alloc, fail))
+}
+
+fn disk_of(alloc: Global, bytes: &[u8], fail: &[u64]) -> Result<MemoryDisk, AllocError> {
+    let fail = fail.to_vec(alloc)?;
+    let bytes = bytes.to_vec(alloc)?;
+    MemoryDisk::new(alloc, bytes, fail)
+}
+
+fn clock_of(alloc: Global, given: &Run) -> Result<ListClock, AllocError> {
+    let mut moments = given.moments.to_vec(alloc)?;
+    if moments.is_empty() {
+        moments.push(given.now)?;
+    }
+    Ok(ListClock::new(moments))
+}
+
+impl Objects {
+    fn new(alloc: Global, given: &Run, disk: &[u8], piece: usize) -> Result<Objects, AllocError> {
+        let disk = disk_of(alloc, disk, &given.fail_disk)?;
+        let clock = clock_of(alloc, given)?;
+        let input = source_of(alloc, given, piece)?;
+        let notes = sink_of(alloc, &given.fail_note)?;
+        let out = sink_of(alloc, &given.fail_write)?;
+        Ok(Objects {
+            input,
+            out,
+            notes,
+            disk,
+            clock,
+        })
+    }
+
+    fn run(&mut self, alloc: Global, words: &[String]) -> u8 {
+        run(
+            alloc,
+            words,
+            &mut self.input,
+            &mut self.out,
+            &mut self.notes,
+            &mut self.disk,
+            &mut self.clock,
+        )
+    }
+}
+
+/// Adds a line for each line of a text, each under a key.
+fn add_lines(found: &mut String, key: &str, bytes: &[u8]) -> Result<(), AllocError> {
+    let text = std::str::from_utf8(bytes).unwrap_or("no UTF-8");
+    for line in text.lines() {
+        found.push_str(key)?;
+        found.push_str(line)?;
+        found.push_str("\n")?;
+    }
+    Ok(())
+}
+
+/// Says where the output ends within a line.
+fn add_cut(found: &mut String, bytes: &[u8]) -> Result<(), AllocError> {
+    if !bytes.is_empty() && !bytes.ends_with(b"\n") {
+        found.push_str("cut short\n")?;
+    }
+    Ok(())
+}
+
+fn add_status(alloc: Global, found: &mut String, status: u8) -> Result<(), AllocError> {
+    if status == 0 {
+        return Ok(());
+    }
+    let line = format!(in alloc; "status {status}\n")?;
+    found.push_str(line.as_str())
+}
+
+/// The objects after `check` over a journal of these bytes.
+fn checked(alloc: Global, disk: &[u8]) -> Result<Objects, AllocError> {
+    let given = Run::new(alloc, "check")?;
+    let mut objects = Objects::new(alloc, &given, disk, 1)?;
+    let _status = objects.run(alloc, &given.words);
+    Ok(objects)
+}
+
+/// Adds what `check` says of a journal of these bytes.
+fn add_kept(alloc: Global, found: &mut String, disk: &[u8]) -> Result<(), AllocError> {
+    let objects = checked(alloc, disk)?;
+    add_lines(found, "kept ", objects.out.written())?;
+    add_lines(found, "kept ", objects.notes.written())
+}
+
+fn add_journal(alloc: Global, found: &mut String, bytes: &[u8]) -> Result<(), AllocError> {
+    let text = hex::encode(alloc, bytes)?;
+    found.push_str(if text.is_empty() {
+        "journal"
+    } else {
+        "journal "
+    })?;
+    found.push_str(text.as_str())?;
+    found.push_str("\n")
+}
+
+/// The lines that a run came to, in the order in which a document has them.
+fn lines_of(
+    alloc: Global,
+    given: &Run,
+    objects: &Objects,
+    status: u8,
+) -> Result<String, AllocError> {
+    let mut found = String::new(alloc);
+    add_lines(&mut found, "< ", objects.out.written())?;
+    add_cut(&mut found, objects.out.written())?;
+    add_lines(&mut found, "note ", objects.notes.written())?;
+    add_status(alloc, &mut found, status)?;
+    if given.shows_kept {
+        add_kept(alloc, &mut found, objects.disk.bytes())?;
+    }
+    if given.shows_journal {
+        add_journal(alloc, &mut found, objects.disk.bytes())?;
+    }
+    Ok(found)
+}
+
+/// Does a run over a disk with these bytes, with so many bytes of input in a read at most.
+pub fn play(alloc: Global, given: &Run, disk: &[u8], piece: usize) -> Result<Outcome, AllocError> {
+    let mut objects = Objects::new(alloc, given, disk, piece)?;
+    let status = objects.run(alloc, &given.words);
+    let lines = lines_of(alloc, given, &objects, status)?;
+    let disk = objects.disk.bytes().to_vec(alloc)?;
+    Ok(Outcome { lines, disk })
+}

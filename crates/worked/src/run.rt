@@ -1,0 +1,286 @@
+// One run of the program: what it is given, and what is wanted of it.
+use hex::decode;
+use reg_base::Moment;
+use std::alloc::{AllocError, Global};
+
+/// 2025-09-01T00:00:00Z in microseconds, the moment of a run that names none.
+const FIRST: u64 = 1_756_684_800_000_000;
+
+/// How many bytes of input a read gives where a run doesn't say it.
+const PIECE: usize = 4096;
+
+/// What stands behind the `{` of a line that GrouperSystem asks.
+const BY_SYSTEM: &[u8] = b"{\"by\":\"g:isa/GrouperSystem\",";
+
+/// A run as it is written: its words, what its objects hold, which of their calls fail, and the
+/// lines that are wanted.
+#[derive(Drop)]
+pub struct Run {
+    pub words: Vec<String>,
+    /// The moments that the clock gives, one for each line.
+    pub moments: Vec<Moment>,
+    /// The moment of the lines that follow.
+    pub now: Moment,
+    pub input: Vec<u8>,
+    /// The run is done with reads of each size from the first to the last.
+    pub first_piece: usize,
+    pub last_piece: usize,
+    /// It is done over the disk cut to each length from the first to the last.
+    pub cuts: Option<(usize, usize)>,
+    pub fail_read: Vec<u64>,
+    pub fail_write: Vec<u64>,
+    pub fail_note: Vec<u64>,
+    pub fail_disk: Vec<u64>,
+    pub wanted: String,
+    pub shows_kept: bool,
+    pub shows_journal: bool,
+}
+
+fn words_of(alloc: Global, text: &str) -> Result<Vec<String>, AllocError> {
+    let mut words = Vec::new(alloc);
+    for word in text.split_whitespace() {
+        words.push(String::from_str(alloc, word)?)?;
+    }
+    Ok(words)
+}
+
+fn copies_of(alloc: Global, words: &[String]) -> Result<Vec<String>, AllocError> {
+    let mut copies = Vec::new(alloc);
+    for word in words {
+        copies.push(String::from_str(alloc, word.as_str())?)?;
+    }
+    Ok(copies)
+}
+
+/// Adds a number. False where the text is none.
+fn add_number(numbers: &mut Vec<u64>, text: &str) -> Result<bool, AllocError> {
+    match text.parse::<u64>() {
+        Ok(number) => {
+            numbers.push(number)?;
+            Ok(true)
+        }
+        Err(_) => Ok(false),
+    }
+}
+
+/// Adds the bytes that a text gives in hex, where spaces don't count. False where it isn't hex.
+pub fn add_hex(alloc: Global, bytes: &mut Vec<u8>, text: &str) -> Result<bool, AllocError> {
+    let mut is_read = true;
+    for piece in text.split(' ') {
+        match decode(alloc, piece) {
+            Ok(more) => bytes.extend_from_slice(&more)?,
+            Err(_) => is_read = false,
+        }
+    }
+    Ok(is_read)
+}
+
+/// A number that isn't 0.
+fn size_of(text: &str) -> Option<usize> {
+    match text.parse::<usize>() {
+        Ok(size) if size > 0 => Some(size),
+        _ => None,
+    }
+}
+
+fn range_of(text: &str) -> Option<(usize, usize)> {
+    let (first, last) = text.split_once(' ')?;
+    match (first.parse::<usize>(), last.parse::<usize>()) {
+        (Ok(first), Ok(last)) => Some((first, last)),
+        _ => None,
+    }
+}
+
+impl Run {
+    pub fn new(alloc: Global, words: &str) -> Result<Run, AllocError> {
+        Ok(Run {
+            words: words_of(alloc, words)?,
+            moments: Vec::new(alloc),
+            now: Moment::new(FIRST).unwrap_or(Moment::start()),
+            input: Vec::new(alloc),
+            first_piece: PIECE,
+            last_piece: PIECE,
+            cuts: None,
+            fail_read: Vec::new(alloc),
+            fail_write: Vec::new(alloc),
+            fail_note: Vec::new(alloc),
+            fail_disk: Vec::new(alloc),
+            wanted: String::new(alloc),
+            shows_kept: false,
+            shows_journal: false,
+        })
+    }
+
+    /// A run of the same words and input at the same moments. No call of it fails, and nothing is
+    /// wanted of it yet.
+    pub fn again(&self, alloc: Global) -> Result<Run, AllocError> {
+        let mut run = Run::new(alloc, "")?;
+        run.words = copies_of(alloc, &self.words)?;
+        run.moments = self.moments.to_vec(alloc)?;
+        run.input = self.input.to_vec(alloc)?;
+        run.now = self.now;
+        run.first_piece = self.first_piece;
+        run.last_piece = self.last_piece;
+        Ok(run)
+    }
+
+    /// Adds a line of input, which is answered at the moment that stands now.
+    fn add_line(&mut self, line: &str) -> Result<bool, AllocError> {
+        self.input.extend_from_slice(line.as_bytes())?;
+        self.moments.push(self.now)?;
+        Ok(true)
+    }
+
+    fn add_whole_line(&mut self, line: &str) -> Result<bool, AllocError> {
+        self.add_line(line)?;
+        self.input.push(b'\n')?;
+        Ok(true)
+    }
+
+    fn add_line_by_system(&mut self, line: &str) -> Result<bool, AllocError> {
+        match line.strip_prefix('{') {
+            Some(rest) => {
+                self.input.extend_from_slice(BY_SYSTEM)?;
+                self.add_whole_line(rest)
+            }
+            None => Ok(false),
+        }
+    }
+
+    /// Adds a text to the input so many times.
+    fn fill(&mut self, text: &str) -> Result<bool, AllocError> {
+        let Some((count, text)) = text.split_once(' ') else {
+            return Ok(false);
+        };
+        let Ok(count) = count.parse::<u32>() else {
+            return Ok(false);
+        };
+        for _ in 0..count {
+            self.input.extend_from_slice(text.as_bytes())?;
+        }
+        Ok(true)
+    }
+
+    fn set_now(&mut self, text: &str) -> bool {
+        match Moment::parse(text.as_bytes()) {
+            Some(moment) => {
+                self.now = moment;
+                true
+            }
+            None => false,
+        }
+    }
+
+    fn set_pieces(&mut self, first: Option<usize>, last: Option<usize>) -> bool {
+        match (first, last) {
+            (Some(first), Some(last)) => {
+                self.first_piece = first;
+                self.last_piece = last;
+                true
+            }
+            _ => false,
+        }
+    }
+
+    fn set_cuts(&mut self, text: &str) -> bool {
+        self.cuts = range_of(text);
+        self.cuts.is_some()
+    }
+
+    fn add_failing(&mut self, text: &str) -> Result<bool, AllocError> {
+        match text.split_once(' ') {
+            Some(("read", number)) => add_number(&mut self.fail_read, number),
+            Some(("write", number)) => add_number(&mut self.fail_write, number),
+            Some(("note", number)) => add_number(&mut self.fail_note, number),
+            Some(("disk", number)) => add_number(&mut self.fail_disk, number),
+            _ => Ok(false),
+        }
+    }
+
+    fn want(&mut self, line: &str) -> Result<bool, AllocError> {
+        self.wanted.push_str(line)?;
+        self.wanted.push_str("\n")?;
+        Ok(true)
+    }
+
+    /// Wants the reply to a command that is accepted as the one of this number.
+    fn want_number(&mut self, number: &str) -> Result<bool, AllocError> {
+        self.wanted.push_str("< {\"number\":")?;
+        self.wanted.push_str(number)?;
+        self.want(",\"ok\":true}")
+    }
+
+    /// Wants these bytes of the disk, in hex.
+    fn want_journal(&mut self, text: &str) -> Result<bool, AllocError> {
+        self.wanted.push_str(if text.is_empty() {
+            "journal"
+        } else {
+            "journal "
+        })?;
+        for piece in text.split(' ') {
+            self.wanted.push_str(piece)?;
+        }
+        self.want("")
+    }
+
+    /// Takes a line of what is given.
+    fn take_given(&mut self, alloc: Global, key: &str, rest: &str) -> Result<bool, AllocError> {
+        match key {
+            ">" => self.add_whole_line(rest),
+            ">-" => self.add_line(rest),
+            "+" => self.add_line_by_system(rest),
+            "bytes" => add_hex(alloc, &mut self.input, rest),
+            "fill" => self.fill(rest),
+            "at" => Ok(self.set_now(rest)),
+            "piece" => Ok(self.set_pieces(size_of(rest), size_of(rest))),
+            "pieces" => Ok(self.set_pieces(Some(1), size_of(rest))),
+            "cuts" => Ok(self.set_cuts(rest)),
+            "fail" => self.add_failing(rest),
+            _ => Ok(false),
+        }
+    }
+
+    fn take_one(&mut self, alloc: Global, line: &str) -> Result<bool, AllocError> {
+        let (key, rest) = match line.split_once(' ') {
+            Some(parts) => parts,
+            None => (line, ""),
+        };
+        match key {
+            "<" | "cut" | "note" | "status" => self.want(line),
+            "ok" => self.want_number(rest),
+            "kept" => {
+                self.shows_kept = true;
+                self.want(line)
+            }
+            "journal" => {
+                self.shows_journal = true;
+                self.want_journal(rest)
+            }
+            _ => self.take_given(alloc, key, rest),
+        }
+    }
+
+    /// Takes a line so many times, each with its number, from 1 on, at the place of `#`.
+    fn take_each(&mut self, alloc: Global, text: &str) -> Result<bool, AllocError> {
+        let Some((count, line)) = text.split_once(' ') else {
+            return Ok(false);
+        };
+        let (Ok(count), Some((front, rest))) = (count.parse::<u32>(), line.split_once('#')) else {
+            return Ok(false);
+        };
+        let mut is_read = true;
+        for number in 0..count {
+            let line = format!(in alloc; "{front}{}{rest}", number + 1)?;
+            is_read = self.take_one(alloc, line.as_str())? && is_read;
+        }
+        Ok(is_read)
+    }
+
+    /// Takes a line that follows the run's words. False where it can't be read.
+    pub fn take(&mut self, alloc: Global, line: &str) -> Result<bool, AllocError> {
+        match line.strip_prefix("each ") {
+            Some(rest) => self.take_each(alloc, rest),
+            None => self.take_one(alloc, line),
+        }
+    }
+}
