@@ -1,8 +1,13 @@
 -- What is kept after one question.
-use Rattle.std.proofs.Common.{◌≡◌, List, refl, ap, sym, ◌∙◌, subst, arith, inl, inr, ◌⊎◌, ℕ}
+use Rattle.std.proofs.Common.{◌≡◌, Result, List, refl, ap, sym, ◌∙◌, subst, arith, inl, inr, ◌⊎◌, ℕ}
 use Rattle.std.specs.Prelude.{IfSome, length, ◌≤◌}
 use Rattle.reg_terms.specs.declared.command.Stamped.{Stamped}
+use Rattle.reg_terms.specs.declared.refusal.Refusal.{Refusal}
+use Rattle.reg_terms.specs.declared.request.Request.{Request}
+use Rattle.reg_terms.specs.declared.reply.Reply.{Reply}
+use Rattle.reg_machine.specs.History.{State}
 use Rattle.reg_keep.specs.declared.keeper.Keeper.{Ghosts}
+use Rattle.reg_service.specs.Turn.{Follows, Turns}
 use Rattle.reg_service.specs.Opening.{Served}
 use Rattle.reg_service.specs.Kept.{KeptOn, Halted, KeepsNext, Began, RoseAt}
 use Rattle.reg_service.specs.declared.service.Next.{Next}
@@ -30,3 +35,7 @@ next_same g before expected old n why k kept is same =
 pub next_cause : {K : Type 0} (g : Ghosts K) (before expected : List Stamped) (old : K) (n : Next K) (why : Cause) (k : K) → KeepsNext g before expected old n → n ≡ next.Stop why k → RoseAt why (g.keep_faults old) (g.keep_faults k)
 next_cause g before expected old n why k kept is =
     let all : KeepsNext g before expected old (next.Stop why k) = subst (KeepsNext g before expected old) is kept in all.4
+
+-- and what was replied
+pub follows_go : {K : Type 0} (s : State) (after : Served K) (m : ℕ) (reading : Result Request Refusal) (r : Reply × Next K) → Follows s m reading r → r.1 ≡ next.Go after → Turns s m reading r.0 after.state
+follows_go s after m reading (told, following) f e = rw e at f

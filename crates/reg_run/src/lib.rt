@@ -3,7 +3,7 @@
 #![tactic(auto)]
 
 mod perform;
-mod run;
+mod program;
 mod task;
 
-pub use run::run;
+pub use program::run;

@@ -1,5 +1,4 @@
-use Rattle.reg_session.proofs.Answering.{follows_go}
-use Rattle.reg_run.proofs.Asking.{next_kept, next_same, next_cause}
+use Rattle.reg_run.proofs.Asking.{follows_go, next_kept, next_same, next_cause}
 use Rattle.reg_run.proofs.Ending.{stop_caused, name_keeps, name_turns}
 use Rattle.reg_run.proofs.perform.members.Goals as goal
 
