@@ -14,10 +14,12 @@ mod members;
 mod memberships;
 mod naming;
 mod nest;
+mod numbered;
 mod tables;
 mod taking;
 mod text_index;
 
+pub use by_id::Place;
 pub use children::Children;
 pub use facts::Facts;
 pub use naming::{extension_of, home_of, name_in, name_length};

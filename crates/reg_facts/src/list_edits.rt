@@ -9,7 +9,7 @@ ghost use Rattle.reg_terms.specs.declared.rows.GrantRow.{GrantRow};
 ghost use Rattle.reg_terms.specs.declared.rows.InheritRow.{InheritRow};
 ghost use Rattle.reg_terms.specs.declared.rows.AssignRow.{AssignRow};
 
-use crate::by_id::{folder_at, group_at};
+use crate::numbered::place_by_id;
 use crate::{AssignRow, FolderRow, GrantRow, GroupRow, InheritRow, Object};
 use reg_base::{FolderId, GroupId, Text};
 
@@ -18,7 +18,7 @@ pub fn rename_folder(rows: &mut [FolderRow], id: FolderId, extension: Text)
     requires { FoldersAscend rows.old }
     ensures { rows.new ≡ map (folder_renamed id extension) rows.old }
 {
-    if let Some(at) = folder_at(rows, id) {
+    if let Some(at) = place_by_id(rows, id.number()) {
         rows[at].extension = extension;
     }
 }
@@ -28,7 +28,7 @@ pub fn move_folder(rows: &mut [FolderRow], id: FolderId, to: FolderId)
     requires { FoldersAscend rows.old }
     ensures { rows.new ≡ map (folder_moved id to) rows.old }
 {
-    if let Some(at) = folder_at(rows, id) {
+    if let Some(at) = place_by_id(rows, id.number()) {
         rows[at].parent = Some(to);
     }
 }
@@ -38,7 +38,7 @@ pub fn rename_group(rows: &mut [GroupRow], id: GroupId, extension: Text)
     requires { GroupsAscend rows.old }
     ensures { rows.new ≡ map (group_renamed id extension) rows.old }
 {
-    if let Some(at) = group_at(rows, id) {
+    if let Some(at) = place_by_id(rows, id.number()) {
         rows[at].extension = extension;
     }
 }
@@ -48,28 +48,8 @@ pub fn move_group(rows: &mut [GroupRow], id: GroupId, to: FolderId)
     requires { GroupsAscend rows.old }
     ensures { rows.new ≡ map (group_moved id to) rows.old }
 {
-    if let Some(at) = group_at(rows, id) {
+    if let Some(at) = place_by_id(rows, id.number()) {
         rows[at].folder = to;
-    }
-}
-
-/// Takes a folder away.
-pub fn drop_folder(rows: &mut Vec<FolderRow>, id: FolderId)
-    requires { FoldersAscend rows.old.items }
-    ensures { rows.new.items ≡ filter (λ (row : FolderRow). not (row.id == id)) rows.old.items }
-{
-    if let Some(at) = folder_at(rows.as_slice(), id) {
-        rows.remove(at);
-    }
-}
-
-/// Takes a group away.
-pub fn drop_group(rows: &mut Vec<GroupRow>, id: GroupId)
-    requires { GroupsAscend rows.old.items }
-    ensures { rows.new.items ≡ filter (λ (row : GroupRow). not (row.id == id)) rows.old.items }
-{
-    if let Some(at) = group_at(rows.as_slice(), id) {
-        rows.remove(at);
     }
 }
 

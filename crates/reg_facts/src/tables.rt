@@ -4,14 +4,10 @@ ghost use Rattle.reg_facts.specs.Lists.{Lists, start};
 ghost use Rattle.reg_facts.specs.Edits.{has_row, is_composite};
 ghost use Rattle.reg_facts.specs.Events.{happened};
 ghost use Rattle.reg_terms.specs.declared.event.Event.TheVariants.{FolderMade, FolderRenamed, FolderMoved, FolderGone, SubjectMade, GroupMade, GroupRenamed, GroupMoved, GroupGone, RowAdded, RowRemoved, RowRedated, Composed, Decomposed};
-ghost use Rattle.reg_facts.specs.Naming.{placed, place_of};
-ghost use Rattle.reg_facts.specs.Sound.{IsSound};
-ghost use Rattle.reg_facts.specs.Suiting.{IsPlaced};
-ghost use Rattle.reg_terms.specs.declared.kinds.Object.TheVariants.{Folder, Group};
 ghost use Rattle.reg_facts.specs.Ascending.{FoldersAscend, GroupsAscend};
 
-use crate::by_id::{folder_at, group_at};
 use crate::member_rows::MemberRows;
+use crate::numbered::remove_by_id;
 use crate::{
     AssignRow, AttributeRow, CompositeRow, ConsumerRow, DefinitionRow, FolderRow, GrantRow,
     GroupRow, InheritRow, JobRow, Made, Member, MemberRow, Object, RuleRow, SubjectRow, list_edits,
@@ -202,7 +198,7 @@ impl Tables {
         ensures { self.new ≡ happened (FolderGone id) self.old }
     {
         let object = Object::Folder(id);
-        list_edits::drop_folder(&mut self.folder_rows, id);
+        remove_by_id(&mut self.folder_rows, id.number());
         list_edits::drop_inherits(&mut self.inherit_rows, id);
         list_edits::drop_grants(&mut self.grant_rows, &object);
         list_edits::drop_assigns(&mut self.assign_rows, &object);
@@ -214,7 +210,7 @@ impl Tables {
         ensures { self.new ≡ happened (GroupGone id) self.old }
     {
         let object = Object::Group(id);
-        list_edits::drop_group(&mut self.group_rows, id);
+        remove_by_id(&mut self.group_rows, id.number());
         list_edits::drop_grants(&mut self.grant_rows, &object);
         list_edits::drop_assigns(&mut self.assign_rows, &object);
     }
@@ -237,29 +233,5 @@ impl Tables {
         ensures { self.new ≡ happened (RowRedated group member.now from until) self.old }
     {
         self.member_rows.redate(group, member, from, until);
-    }
-
-    /// The folder in which a folder stands, and its extension. It is a binary search over the folders.
-    pub fn place_of_folder(&self, id: FolderId) -> (FolderId, &str)
-        requires sound { IsSound self.now }
-        requires stands { IsPlaced (Folder id) self.now }
-        ensures { place_of (Folder id) (placed self.now) ≡ Some (record { object = Folder id; folder = result.0; extension = result.1.now }) }
-    {
-        let rows = self.folder_rows.as_slice();
-        let at = folder_at(rows, id).unwrap();
-        let row = &rows[at];
-        (row.parent.unwrap(), row.extension.as_str())
-    }
-
-    /// The folder in which a group stands, and its extension. It is a binary search over the groups.
-    pub fn place_of_group(&self, id: GroupId) -> (FolderId, &str)
-        requires sound { IsSound self.now }
-        requires stands { IsPlaced (Group id) self.now }
-        ensures { place_of (Group id) (placed self.now) ≡ Some (record { object = Group id; folder = result.0; extension = result.1.now }) }
-    {
-        let rows = self.group_rows.as_slice();
-        let at = group_at(rows, id).unwrap();
-        let row = &rows[at];
-        (row.folder, row.extension.as_str())
     }
 }

@@ -102,11 +102,11 @@ impl Facts {
     {
         let object = Object::Folder(id);
         let mut facts = self;
-        let (home, old) = facts.tables.place_of_folder(id);
-        facts.children.take(home.number(), old);
+        let place = facts.tables.the_place(&object);
+        facts.children.take(place.folder.number(), place.extension);
         facts
             .children
-            .put(alloc, home.number(), extension.as_str(), object)?;
+            .put(alloc, place.folder.number(), extension.as_str(), object)?;
         facts.tables.rename_folder(id, extension);
         Ok(facts)
     }
@@ -117,9 +117,11 @@ impl Facts {
     {
         let object = Object::Folder(id);
         let mut facts = self;
-        let (home, extension) = facts.tables.place_of_folder(id);
-        facts.children.take(home.number(), extension);
-        facts.children.put(alloc, to.number(), extension, object)?;
+        let place = facts.tables.the_place(&object);
+        facts.children.take(place.folder.number(), place.extension);
+        facts
+            .children
+            .put(alloc, to.number(), place.extension, object)?;
         facts.tables.move_folder(id, to);
         Ok(facts)
     }
@@ -128,9 +130,10 @@ impl Facts {
         requires { Suits (FolderGone id) self }
         ensures { result ≡ happened (FolderGone id) self }
     {
+        let object = Object::Folder(id);
         let mut facts = self;
-        let (home, extension) = facts.tables.place_of_folder(id);
-        facts.children.take(home.number(), extension);
+        let place = facts.tables.the_place(&object);
+        facts.children.take(place.folder.number(), place.extension);
         facts.tables.delete_folder(id);
         facts
     }
@@ -166,11 +169,11 @@ impl Facts {
     {
         let object = Object::Group(id);
         let mut facts = self;
-        let (home, old) = facts.tables.place_of_group(id);
-        facts.children.take(home.number(), old);
+        let place = facts.tables.the_place(&object);
+        facts.children.take(place.folder.number(), place.extension);
         facts
             .children
-            .put(alloc, home.number(), extension.as_str(), object)?;
+            .put(alloc, place.folder.number(), extension.as_str(), object)?;
         facts.tables.rename_group(id, extension);
         Ok(facts)
     }
@@ -181,9 +184,11 @@ impl Facts {
     {
         let object = Object::Group(id);
         let mut facts = self;
-        let (home, extension) = facts.tables.place_of_group(id);
-        facts.children.take(home.number(), extension);
-        facts.children.put(alloc, to.number(), extension, object)?;
+        let place = facts.tables.the_place(&object);
+        facts.children.take(place.folder.number(), place.extension);
+        facts
+            .children
+            .put(alloc, to.number(), place.extension, object)?;
         facts.tables.move_group(id, to);
         Ok(facts)
     }
@@ -192,9 +197,10 @@ impl Facts {
         requires { Suits (GroupGone id) self }
         ensures { result ≡ happened (GroupGone id) self }
     {
+        let object = Object::Group(id);
         let mut facts = self;
-        let (home, extension) = facts.tables.place_of_group(id);
-        facts.children.take(home.number(), extension);
+        let place = facts.tables.the_place(&object);
+        facts.children.take(place.folder.number(), place.extension);
         facts.tables.delete_group(id);
         facts
     }

@@ -3,7 +3,6 @@
 
 mod names;
 mod naming;
-mod places;
 mod resolving;
 mod scopes;
 

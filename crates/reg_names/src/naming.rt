@@ -1,37 +1,53 @@
 // From an object to its name.
-ghost use Rattle.std.specs.Prelude.{◌≡◌, ◌++◌, ◌∷◌, IfOk, string_bytes, true};
-ghost use Rattle.reg_facts.specs.Naming.{name_of};
+ghost use Rattle.std.specs.Prelude.{◌≡◌, ◌++◌, ◌≤◌, IfOk, OnOk, string_bytes, true};
+ghost use Rattle.reg_facts.specs.Naming.{path, name_of, most_levels};
 ghost use Rattle.reg_facts.specs.Sound.{is_named};
+ghost use Rattle.reg_names.specs.Colons.{with_colons};
 
-use crate::places::place_of;
-use reg_base::Text;
+use reg_base::{FolderId, Text};
 use reg_facts::{Facts, Object};
 use std::alloc::{AllocError, Global};
 
-/// Two parts of a name, joined by `:`.
-fn joined(alloc: Global, folder: &str, rest: &str) -> Result<String, AllocError>
-    ensures { IfOk result (λ s. string_bytes s ≡ folder.now ++ 58 ∷ rest.now) }
+/// How many levels of folders a name may have at most.
+const MOST_LEVELS: usize = 1000;
+
+/// Writes the extensions of a folder from below the root, so many levels at most, with a colon
+/// behind each.
+fn push_path(
+    facts: &Facts,
+    name: &mut String,
+    levels: usize,
+    folder: FolderId,
+) -> Result<(), AllocError>
+    requires { levels ≤ most_levels }
+    ensures { OnOk result (string_bytes name.new ≡ string_bytes name.old ++ with_colons (path levels folder facts.now.folders)) }
 {
-    let mut text = String::from_str(alloc, folder)?;
-    text.push_str(":")?;
-    text.push_str(rest)?;
-    Ok(text)
+    if levels == 0 {
+        return Ok(());
+    }
+    let Some(row) = facts.folder(folder) else {
+        return Ok(());
+    };
+    let Some(parent) = row.parent else {
+        return Ok(());
+    };
+    push_path(facts, name, levels - 1, parent)?;
+    name.push_str(row.extension.as_str())?;
+    name.push(':')?;
+    Ok(())
 }
 
-/// The name of an object, from below the root; the root's is `:`. The only error is out of memory.
+/// The name of an object, from below the root; the root's is `:`. The only error is out of memory. It
+/// costs the length of the name.
 pub fn name_of(alloc: Global, facts: &Facts, object: &Object) -> Result<Text, AllocError>
     requires { is_named object.now facts.now ≡ true }
     ensures { IfOk result (λ text. text ≡ name_of object.now facts.now) }
 {
-    facts.sound();
-    let Some(place) = place_of(facts, object) else {
+    let Some(place) = facts.place_of(object) else {
         return Text::new(alloc, ":");
     };
-    let mut folder = place.folder;
-    let mut name = String::from_str(alloc, place.extension)?;
-    while let Some(above) = place_of(facts, &Object::Folder(folder)) {
-        name = joined(alloc, above.extension, name.as_str())?;
-        folder = above.folder;
-    }
+    let mut name = String::new(alloc);
+    push_path(facts, &mut name, MOST_LEVELS, place.folder)?;
+    name.push_str(place.extension)?;
     Text::new(alloc, name.as_str())
 }

@@ -33,10 +33,10 @@ listed_short {R = R} rows (e ∷ es) = by_found (lookup (is_at (nat_cmp e.1)) ro
 
 module _ {K R : Type 0} (cmp : K → K → Ordering) (key : R → K) (total : IsTotalOrder cmp) where
   -- rows above a key, and rows whose keys ascend
-  abbrev Above : K → List R → Type 0
+  abbrev pub Above : K → List R → Type 0
   Above k rows = AllByRecursion (λ r. cmp k (key r) ≡ Less) rows
 
-  abbrev InOrder : List R → Type 0
+  abbrev pub InOrder : List R → Type 0
   InOrder [] = ⊤
   InOrder (r ∷ rows) = Above (key r) rows × InOrder rows
 
@@ -59,7 +59,7 @@ module _ {K R : Type 0} (cmp : K → K → Ordering) (key : R → K) (total : Is
   back p q e = total.antisymm q p ∙ ap ordering_reverse e
 
   -- rows in order are those that look-ups find
-  same_rows : (xs ys : List R) → InOrder xs → InOrder ys → ((k : K) → find (has_key cmp key k) xs ≡ find (has_key cmp key k) ys) → xs ≡ ys
+  pub same_rows : (xs ys : List R) → InOrder xs → InOrder ys → ((k : K) → find (has_key cmp key k) xs ≡ find (has_key cmp key k) ys) → xs ≡ ys
   same_rows [] [] up vp same = refl
   same_rows [] (y ∷ ys) up vp same = absurd (no_stamp_is y (same (key y) ∙ found_first y ys))
   same_rows (x ∷ xs) [] up vp same = absurd (no_stamp_is x (sym (same (key x)) ∙ found_first x xs))
@@ -125,7 +125,7 @@ module _ {K R : Type 0} (cmp : K → K → Ordering) (key : R → K) (total : Is
   into_sorted found [] up = up
   into_sorted found (r ∷ rows) up = into_sorted (insert_key order found r) rows (insert_order r found up)
 
-  sorted : (rows : List R) → InOrder (in_order order rows)
+  pub sorted : (rows : List R) → InOrder (in_order order rows)
   sorted rows = into_sorted [] rows tt
 
   -- rows whose keys none of the others has
@@ -156,7 +156,7 @@ module _ {K R : Type 0} (cmp : K → K → Ordering) (key : R → K) (total : Is
         | inr t ↦ rw t refl
       ])
 
-  sorted_find : (k : K) (rows : List R) → AreOnce cmp key rows → find (has_key cmp key k) (in_order order rows) ≡ find (has_key cmp key k) rows
+  pub sorted_find : (k : K) (rows : List R) → AreOnce cmp key rows → find (has_key cmp key k) (in_order order rows) ≡ find (has_key cmp key k) rows
   sorted_find k rows once = into_find k [] rows tt once (all_new rows)
 
   -- ---- a part of the rows

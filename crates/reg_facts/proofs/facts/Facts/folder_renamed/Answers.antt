@@ -10,7 +10,7 @@ pub invariant_of-facts : goal.invariant_of-facts
 invariant_of-facts c =
     let is : c.rename_folder.new.self ≡ happened (FolderRenamed c.args.id c.args.extension) c.args.self = search rules in
     rw is (folder_renamed_indexed c.facts.inside.subject_index c.facts.inside.children c.take.new.self c.put.new.self c.args.id c.args.extension _ c.args.self
-    (rw c.facts.view_is at c.facts.invariant) c.requires (rw c.facts.view_is at c.place_of_folder-home.ensures) (λ x y. rw (← c.number.ensures) (c.take.ensures x y)) (λ x y. rw (← c.number-2.ensures, ← c.as_str.ensures) (c.in_ok-put.ensures x y)))
+    (rw c.facts.view_is at c.facts.invariant) c.requires (rw c.facts.view_is at c.the_place-place.ensures) (λ x y. rw (← c.number.ensures) (c.take.ensures x y)) (λ x y. rw (← c.number-2.ensures, ← c.as_str.ensures) (c.in_ok-put.ensures x y)))
 
 -- ids of sound facts ascend
 pub rename_folder-requires : goal.rename_folder-requires
