@@ -60,7 +60,8 @@ impl Live {
     {
         let rows = facts.rows(alloc)?;
         let rows = rows_on(alloc, &rows, at)?;
-        let composites = composites_in(alloc, facts.composites())?;
+        let composites = facts.composites(alloc)?;
+        let composites = composites_in(alloc, &composites)?;
         Ok(Live { rows, composites })
     }
 

@@ -158,7 +158,7 @@ impl<K: Kept> Current<K> {
         ensures suit { SuitAll (date_changes date self.now.facts) (live self.now.clock self.now.facts) }
     {
         let _date = date;
-        self.facts.sound();
+        self.facts.law_sound();
         self.graph.acyclic();
     }
 
@@ -177,7 +177,7 @@ impl<K: Kept> Current<K> {
         ensures cost { OnOk result (steps.new ≤ steps.old + event_steps self.clock event self.facts) }
     {
         let mut current = self;
-        current.facts.sound();
+        current.facts.law_sound();
         current.graph.acyclic();
         let sets = carry_beside(
             current.sets,
@@ -229,7 +229,7 @@ impl<K: Kept> Current<K> {
         ensures cost { OnOk result (steps.new ≤ steps.old + most_steps_of (all_on (beginning date self.facts.rows)) (live self.clock self.facts)) }
     {
         let mut current = self;
-        current.facts.sound();
+        current.facts.law_sound();
         current.graph.acyclic();
         let beginning = current.dates.beginning(date)?;
         let sets = put_on(current.sets, &beginning, turned, steps)?;

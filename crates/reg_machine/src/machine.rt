@@ -282,7 +282,7 @@ impl<K: Kept> Machine<K> {
         ensures events { IfOk result (λ events. events.items ≡ events_of self.now.clock by.now command.now (facts self.now.history self.now.clock)) }
         ensures hold { AllHold self.now.clock (events_of self.now.clock by.now command.now (facts self.now.history self.now.clock)) (facts self.now.history self.now.clock) }
     {
-        self.facts().sound();
+        self.facts().law_sound();
         self.facts().events_of(alloc, self.clock(), by, command)
     }
 

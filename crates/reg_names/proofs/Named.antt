@@ -1,13 +1,15 @@
 -- Objects and their names.
-use Rattle.std.proofs.Common.{◌≡◌, ◌++◌, ◌∷◌, [], ℕ, zero, suc, List, true, Option, Some, None, refl, sym, ap, ◌∙◌, append_assoc, codes}
+use Rattle.std.proofs.Common.{◌≡◌, ◌++◌, ◌∷◌, [], ℕ, zero, suc, List, true, Option, Some, None, refl, sym, ap, ◌∙◌, append_assoc, codes, arith}
 use Rattle.std.specs.Prelude.{IfSome}
 use Rattle.std.specs.List.{join_with_byte}
+use Rattle.std.proofs.lemmas.List.{append-nil}
 use Rattle.reg_terms.specs.declared.kinds.Object.{Object}
 use Rattle.reg_facts.specs.Lists.{Lists}
 use Rattle.reg_facts.specs.Rows.{folder_row}
 use Rattle.reg_terms.specs.declared.rows.FolderRow.{FolderRow}
-use Rattle.reg_facts.specs.Naming.{Placed, placed, place_of, path, most_levels, extensions, resolve, name_of}
+use Rattle.reg_facts.specs.Naming.{Placed, placed, place_of, path, most_levels, resolve, name_of}
 use Rattle.reg_facts.specs.Sound.{IsSound, is_named}
+use Rattle.reg_facts.proofs.Standing.{extensions_at, extensions_none, name_none}
 use Rattle.reg_facts.proofs.Resolving.{resolve_names, names_resolve}
 use Rattle.reg_names.specs.Colons.{with_colons}
 
@@ -30,33 +32,63 @@ joined : (x : List ℕ) (es : List (List ℕ)) (e : List ℕ) → join_with_byte
 joined x [] e = sym (append_assoc x (58 ∷ []) e)
 joined x (y ∷ es) e = ap (λ t. x ++ 58 ∷ t) (joined y es e) ∙ sym (append_assoc x (58 ∷ with_colons (y ∷ es)) e)
 
+-- a name of these extensions
+abbrev named : List (List ℕ) → List ℕ
+named es = elim es [ [] ↦ codes ":" | x ∷ xs ↦ join_with_byte 58 (x ∷ xs) ]
+
 -- the name of what stands in a folder
 pub name_in_path : (o : Object) (p : Placed) (f : Lists) → place_of o (placed f) ≡ Some p → name_of o f ≡ with_colons (path most_levels p.folder f.folders) ++ p.extension
-unfolding name_of extensions
-name_in_path o p f at = rw at (named (path most_levels p.folder f.folders))
+unfolding name_of
+name_in_path o p f at = ap named (extensions_at o f p at) ∙ whole (path most_levels p.folder f.folders)
   where
-    named : (es : List (List ℕ)) → (elim (es ++ p.extension ∷ []) [ [] ↦ codes ":" | x ∷ xs ↦ join_with_byte 58 (x ∷ xs) ]) ≡ with_colons es ++ p.extension
-    named [] = refl
-    named (x ∷ es) = joined x es p.extension
+    whole : (es : List (List ℕ)) → named (es ++ p.extension ∷ []) ≡ with_colons es ++ p.extension
+    whole [] = refl
+    whole (x ∷ es) = joined x es p.extension
 
 -- and of what stands in none
 pub name_nowhere : (o : Object) (f : Lists) → place_of o (placed f) ≡ None → name_of o f ≡ codes ":"
-unfolding name_of extensions
-name_nowhere o f none = rw none refl
+name_nowhere o f none = name_none o f (extensions_none o f none)
 
 -- the way to a folder by its row
-pub path_none : (n d : ℕ) (fs : List FolderRow) → folder_row d fs ≡ None → path (suc n) d fs ≡ []
+path_up : (n d p : ℕ) (row : FolderRow) (fs : List FolderRow) → folder_row d fs ≡ Some row → row.parent ≡ Some p → path (suc n) d fs ≡ path n p fs ++ row.extension ∷ []
 unfolding path
-path_none n d fs none = rw none refl
+path_up n d p row fs some up = rw (some, up, path)
 
-pub path_root : (n d : ℕ) (row : FolderRow) (fs : List FolderRow) → folder_row d fs ≡ Some row → row.parent ≡ None → path (suc n) d fs ≡ []
+path_none : (n d : ℕ) (fs : List FolderRow) → folder_row d fs ≡ None → path n d fs ≡ []
 unfolding path
-path_root n d row fs some root = rw (some, root) refl
+path_none zero d fs none = refl
+path_none (suc n) d fs none = rw (none, path)
 
-pub path_up : (n d p : ℕ) (row : FolderRow) (fs : List FolderRow) → folder_row d fs ≡ Some row → row.parent ≡ Some p → path (suc n) d fs ≡ path n p fs ++ row.extension ∷ []
+path_root : (n d : ℕ) (row : FolderRow) (fs : List FolderRow) → folder_row d fs ≡ Some row → row.parent ≡ None → path n d fs ≡ []
 unfolding path
-path_up n d p row fs some up = rw (some, up) refl
+path_root zero d row fs some root = refl
+path_root (suc n) d row fs some root = rw (some, root, path)
 
-pub path_zero : (d : ℕ) (fs : List FolderRow) → path 0 d fs ≡ []
+path_short : (n d : ℕ) (fs : List FolderRow) → n ≡ 0 → path n d fs ≡ []
 unfolding path
-path_zero d fs = refl
+path_short zero d fs e = refl
+path_short (suc n) d fs e = absurd (omega arith)
+
+-- nothing is written where the way is empty
+nothing : (es : List (List ℕ)) (t : List ℕ) → es ≡ [] → t ≡ t ++ with_colons es
+nothing es t e = rw e (sym (append-nil t))
+
+pub no_level : (n d : ℕ) (fs : List FolderRow) (t : List ℕ) → n ≡ 0 → t ≡ t ++ with_colons (path n d fs)
+no_level n d fs t e = nothing (path n d fs) t (path_short n d fs e)
+
+pub no_row : (n d : ℕ) (fs : List FolderRow) (t : List ℕ) → None ≡ folder_row d fs → t ≡ t ++ with_colons (path n d fs)
+no_row n d fs t none = nothing (path n d fs) t (path_none n d fs (sym none))
+
+pub no_parent : (n d : ℕ) (row : FolderRow) (fs : List FolderRow) (t : List ℕ) → Some row ≡ folder_row d fs → row.parent ≡ None → t ≡ t ++ with_colons (path n d fs)
+no_parent n d row fs t some root = nothing (path n d fs) t (path_root n d row fs (sym some) root)
+
+-- what stands above, the extension and a colon
+pub one_level : (n l d p : ℕ) (row : FolderRow) (fs : List FolderRow) (t a b c : List ℕ) → l ≡ suc n → Some row ≡ folder_row d fs → row.parent ≡ Some p
+    → a ≡ t ++ with_colons (path n p fs) → b ≡ a ++ row.extension → c ≡ b ++ 58 ∷ [] → c ≡ t ++ with_colons (path l d fs)
+one_level n l d p row fs t a b c levels some up first second third =
+    let way : path l d fs ≡ path n p fs ++ row.extension ∷ [] = rw levels (path_up n d p row fs (sym some) up) in
+    let written : with_colons (path l d fs) ≡ with_colons (path n p fs) ++ row.extension ++ 58 ∷ [] = ap with_colons way ∙ colons_push (path n p fs) row.extension in
+    rw written (
+    third
+    ∙ ap (λ (x : List ℕ). x ++ 58 ∷ []) (second ∙ (ap (λ (x : List ℕ). x ++ row.extension) first ∙ append_assoc t (with_colons (path n p fs)) row.extension))
+    ∙ append_assoc t (with_colons (path n p fs) ++ row.extension) (58 ∷ []))

@@ -67,7 +67,7 @@ fn rows_shown(alloc: Global, facts: &Facts, rows: &[MemberRow]) -> Result<RowsSh
 fn shown_of(alloc: Global, facts: &Facts, group: GroupId) -> Result<RowsShown, AllocError>
     ensures { IfOk result (λ shown. shown ≡ map (row_shown facts.now) (rows_of group facts.now.rows)) }
 {
-    facts.sound();
+    facts.law_sound();
     let rows = facts.rows_of(alloc, group)?;
     rows_shown(alloc, facts, &rows)
 }
@@ -79,7 +79,7 @@ fn composite_shown(
 ) -> Result<Option<FactorsShown>, AllocError>
     ensures { IfOk result (λ shown. shown ≡ composite_shown group facts.now) }
 {
-    facts.sound();
+    facts.law_sound();
     let Some(row) = facts.composite(group) else {
         return Ok(None);
     };

@@ -12,14 +12,14 @@ use Rattle.reg_machine.proofs.current.Current.begin.Goals as goal
 pub put_on-requires : goal.put_on-requires
 put_on-requires g c =
     let next : IsNext c.current.inside.moment c.args.date c.current.inside.facts.rows = subst (λ (n : Now). IsNext n.clock c.args.date n.facts.rows) (sym c.current.view_is) c.requires in
-    let b = begun c.current.inside.moment c.args.date c.current.inside.facts c.current.inside.graph next c.current.invariant.ends c.sound.ensures c.current.invariant.edges c.acyclic.ensures in
+    let b = begun c.current.inside.moment c.args.date c.current.inside.facts c.current.inside.graph next c.current.invariant.ends c.law_sound.ensures c.current.invariant.edges c.acyclic.ensures in
     let begins : c.in_ok-beginning.beginning.items ≡ beginning c.args.date c.current.inside.facts.rows = c.in_ok-beginning.ensures c.current.inside.moment c.current.inside.facts.rows c.current.invariant.coming next.later in
     rw (c.deref.ensures.value, begins, c.current.invariant.sets) b.suit
 
 pub invariant_of-current : goal.invariant_of-current
 invariant_of-current g c =
     let next : IsNext c.current.inside.moment c.args.date c.current.inside.facts.rows = subst (λ (n : Now). IsNext n.clock c.args.date n.facts.rows) (sym c.current.view_is) c.requires in
-    let b = begun c.current.inside.moment c.args.date c.current.inside.facts c.current.inside.graph next c.current.invariant.ends c.sound.ensures c.current.invariant.edges c.acyclic.ensures in
+    let b = begun c.current.inside.moment c.args.date c.current.inside.facts c.current.inside.graph next c.current.invariant.ends c.law_sound.ensures c.current.invariant.edges c.acyclic.ensures in
     let begins : c.in_ok-beginning.beginning.items ≡ beginning c.args.date c.current.inside.facts.rows = c.in_ok-beginning.ensures c.current.inside.moment c.current.inside.facts.rows c.current.invariant.coming next.later in
     let held : g.K.Kept.held c.in_ok-sets.sets ≡ changed_by (all_on (beginning c.args.date c.current.inside.facts.rows)) (g.K.Kept.held c.current.inside.sets) = rw (c.deref.ensures.value, begins) at c.in_ok-sets.ensures.held in
     record {
@@ -38,7 +38,7 @@ returns-clause-cost g c =
 pub returns-clause-told : goal.returns-clause-told
 returns-clause-told g c M h =
     let next : IsNext c.current.inside.moment c.args.date c.current.inside.facts.rows = subst (λ (n : Now). IsNext n.clock c.args.date n.facts.rows) (sym c.current.view_is) c.requires in
-    let b = begun c.current.inside.moment c.args.date c.current.inside.facts c.current.inside.graph next c.current.invariant.ends c.sound.ensures c.current.invariant.edges c.acyclic.ensures in
+    let b = begun c.current.inside.moment c.args.date c.current.inside.facts c.current.inside.graph next c.current.invariant.ends c.law_sound.ensures c.current.invariant.edges c.acyclic.ensures in
     let begins : c.in_ok-beginning.beginning.items ≡ beginning c.args.date c.current.inside.facts.rows = c.in_ok-beginning.ensures c.current.inside.moment c.current.inside.facts.rows c.current.invariant.coming next.later in
     let held : g.K.Kept.held c.in_ok-sets.sets ≡ changed_by (all_on (beginning c.args.date c.current.inside.facts.rows)) (g.K.Kept.held c.current.inside.sets) = rw (c.deref.ensures.value, begins) at c.in_ok-sets.ensures.held in
     let after : g.K.Kept.held c.in_ok-sets.sets ≡ live c.args.date c.current.inside.facts = held ∙ (ap (λ (L : Live). changed_by (all_on (beginning c.args.date c.current.inside.facts.rows)) L) c.current.invariant.sets ∙ sym b.lived) in

@@ -8,7 +8,7 @@ use Rattle.reg_machine.proofs.current.Current.carry.Goals as goal
 
 pub carry_beside-requires-clause-suit : goal.carry_beside-requires-clause-suit
 carry_beside-requires-clause-suit g c =
-    carrying_suits c.current.inside.moment c.args.event c.current.inside.facts (g.K.Kept.held c.current.inside.sets) c.current.inside.graph c.current.inside.dates c.current.invariant c.sound.ensures c.acyclic.ensures
+    carrying_suits c.current.inside.moment c.args.event c.current.inside.facts (g.K.Kept.held c.current.inside.sets) c.current.inside.graph c.current.inside.dates c.current.invariant c.law_sound.ensures c.acyclic.ensures
     (holds_now c.current.inside.moment c.current.inside.facts c.args.self c.args.event c.current.view_is c.requires)
 
 pub invariant_of-current : goal.invariant_of-current
