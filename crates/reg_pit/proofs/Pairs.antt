@@ -1,5 +1,5 @@
 -- Pairs of numbers as keys.
-use Rattle.std.proofs.Common.{◌≡◌, ◌<◌, ◌≤◌, ◌^◌, ◌==◌, ◌&&◌, ◌||◌, ℕ, List, [], ◌∷◌, Bool, true, false, Option, map, if◌then◌else◌, nat_le, arith, refl, sym, ◌∙◌, ap, inl, inr}
+use Rattle.std.proofs.Common.{◌≡◌, ◌<◌, ◌≤◌, ◌^◌, ◌==◌, ◌&&◌, ◌||◌, ℕ, List, [], ◌∷◌, Bool, true, false, map, if◌then◌else◌, nat_le, arith, refl, sym, ◌∙◌, inl, inr}
 use Rattle.std.proofs.lemmas.Bool.{cases_Bool, eqb-true, ne_eqb}
 use Rattle.std.proofs.lemmas.Bool.Decides.{nat_tests}
 use Rattle.std.proofs.lemmas.Grind.{common_steps}
@@ -7,7 +7,7 @@ use Rattle.std.specs.List.{list_any, AllByRecursion}
 use Rattle.std.specs.List.Sorted.{IsStrictlySortedBy}
 use Rattle.std.specs.Ordering.{nat_cmp, eq_by_cmp}
 use Rattle.std.specs.declared.cmp.Ordering.TheVariants.{Less}
-use Rattle.reg_pit.specs.Spans.{covers, AreSpans, AreSpansOf, NoLater}
+use Rattle.reg_pit.specs.Spans.{covers, AreSpans, NoLater}
 use Rattle.reg_pit.specs.Runs.{spans_of, is_between}
 use Rattle.reg_pit.specs.Members.{pair_cmp, are_on, Lists, AreMirrored}
 use Rattle.reg_pit.proofs.Alone.{alone}

@@ -1,21 +1,21 @@
 -- The intervals of one key among those of all keys.
-use Rattle.std.proofs.Common.{is_some, ◌≡◌, ◌≢◌, ◌<◌, ◌≤◌, ◌+◌, ◌*◌, ◌^◌, ◌==◌, ◌&&◌, ◌||◌, ℕ, zero, suc, List, [], ◌∷◌, Bool, true, false, not, map, filter, length, cond, Option, Some, None, nat_lt, nat_le, if◌then◌else◌, arith, refl, sym, ◌∙◌, ap, subst, inl, inr}
-use Rattle.std.proofs.lemmas.Bool.{cases_Bool, or_cases, or_from, and_parts, eqb-true, eq-eqb, ne_eqb, le-leb, lt-leb, both_ways}
+use Rattle.std.proofs.Common.{is_some, ◌≡◌, ◌<◌, ◌≤◌, ◌&&◌, ℕ, suc, List, [], ◌∷◌, Bool, true, false, not, map, filter, cond, Option, Some, None, nat_le, arith, refl, sym, ◌∙◌, ap, inl, inr}
+use Rattle.std.proofs.lemmas.Bool.{cases_Bool}
 use Rattle.std.proofs.lemmas.Bool.Decides.{nat_tests}
 use Rattle.std.proofs.lemmas.Grind.{common_steps}
 use Rattle.std.proofs.lemmas.Cmp.{tied_itself, alike_right}
 use Rattle.std.specs.Cmp.{IsTotalOrder}
-use Rattle.std.specs.List.{list_any, AllByRecursion}
+use Rattle.std.specs.List.{AllByRecursion}
 use Rattle.std.specs.List.Sorted.{IsStrictlySortedBy}
 use Rattle.std.specs.Map.{lookup, remove_entry, keys_of}
 use Rattle.std.specs.BTreeMap.{is_at, insert_entry}
-use Rattle.std.specs.BTreeMap.Range.{range_contains, entries_between}
-use Rattle.std.specs.Ordering.{nat_cmp, ordering_then, is_eq, is_le, is_lt, match_ordering}
+use Rattle.std.specs.BTreeMap.Range.{entries_between}
+use Rattle.std.specs.Ordering.{nat_cmp, is_eq, is_le, is_lt, match_ordering}
 use Rattle.std.specs.declared.ops.Bound.TheVariants.{Included}
 use Rattle.std.specs.declared.cmp.Ordering.{Ordering}
-use Rattle.std.specs.declared.cmp.Ordering.TheVariants.{Less, Equal, Greater}
-use Rattle.reg_pit.specs.Spans.{covers, ends_after, has_moment, SpansFrom, AreSpans, NoLater}
-use Rattle.reg_pit.specs.Runs.{never, span_of, place_cmp, runs_of, spans_of, RunsFrom, AreRuns, Switched}
+use Rattle.std.specs.declared.cmp.Ordering.TheVariants.{Less, Equal}
+use Rattle.reg_pit.specs.Spans.{NoLater}
+use Rattle.reg_pit.specs.Runs.{never, place_cmp, runs_of, spans_of, RunsFrom, AreRuns, Switched}
 use Rattle.reg_pit.proofs.Orders.{Answer, less, equal, greater, answer, then_equal, then_less, is_equal}
 use Rattle.reg_pit.proofs.Turning.{start_at, with_run, without_run, Turned, begins, goes_on, stays_on, stays_off, vanishes, ends, open_start}
 

@@ -1,4 +1,4 @@
-use Rattle.std.proofs.Common.{◌≡◌, ◌∙◌, sym, rules}
+use Rattle.std.proofs.Common.{◌∙◌, sym, rules}
 use Rattle.reg_pit.proofs.Places.{key_begins, key_goes_on, key_stays_on}
 use Rattle.reg_pit.proofs.intervals.begin.Goals as goal
 

@@ -1,4 +1,4 @@
-use Rattle.std.proofs.Common.{◌≡◌, ◌≤◌, ◌<◌, ◌∙◌, arith, sym, rules, refl}
+use Rattle.std.proofs.Common.{◌<◌, ◌∙◌, arith, sym, rules, refl}
 use Rattle.reg_pit.proofs.Places.{key_ends, key_stays_off, key_vanishes}
 use Rattle.reg_pit.proofs.intervals.end.Goals as goal
 

@@ -1,4 +1,4 @@
-use Rattle.std.proofs.Common.{◌≡◌, ◌≤◌, take, length, nat_le, arith}
+use Rattle.std.proofs.Common.{◌≡◌, length, nat_le, arith}
 use Rattle.std.proofs.Math.Seq.{take-length}
 use Rattle.reg_terms.specs.Kinds.{same_object}
 use Rattle.reg_pit.specs.Grants.{has_grant}

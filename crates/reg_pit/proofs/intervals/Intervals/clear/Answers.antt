@@ -1,4 +1,4 @@
-use Rattle.std.proofs.Common.{◌≡◌, ◌∙◌, ◌≤◌, take, length, arith, sym}
+use Rattle.std.proofs.Common.{◌≡◌, take, length, arith}
 use Rattle.std.proofs.Math.Seq.{take-length}
 use Rattle.reg_pit.proofs.Clearing.{off_more, cleared}
 use Rattle.reg_pit.proofs.intervals.Intervals.clear.Goals as goal

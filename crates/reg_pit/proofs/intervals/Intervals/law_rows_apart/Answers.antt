@@ -1,5 +1,4 @@
 use Rattle.reg_pit.proofs.Looking.{are_spans}
-use Rattle.reg_pit.proofs.Alone.{after_last}
 use Rattle.reg_pit.proofs.intervals.Intervals.law_rows_apart.Goals as goal
 
 pub returns : goal.returns

@@ -1,5 +1,4 @@
-use Rattle.std.proofs.Common.{rules, arith, sym}
-use Rattle.reg_pit.specs.Spans.{NoLater}
+use Rattle.std.proofs.Common.{rules}
 use Rattle.reg_pit.proofs.Pairs.{pair_noted, mirrored}
 use Rattle.reg_pit.proofs.memberships.Memberships.note.Goals as goal
 
