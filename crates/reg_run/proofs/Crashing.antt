@@ -15,7 +15,7 @@ use Rattle.reg_keep.specs.declared.journal.Journal.{Journal}
 use Rattle.reg_keep.specs.Stops.{Stop}
 use Rattle.reg_service.specs.Opening.{opens, at_last, FrontsReopen, judged_all}
 use Rattle.reg_service.specs.Kept.{IsBetween, IsOneMore}
-use Rattle.reg_run.specs.Crash.{AsBefore, OpensWith, IsNear, IsSound, Survives, StaysAt, Begins, IsUntouched, DiskSurvives}
+use Rattle.reg_run.specs.Crash.{AsBefore, OpensWith, IsNear, IsSound, Survives, StaysAt, Begins, IsUntouched, DiskSurvives, seen}
 use Rattle.reg_run.proofs.Opened.{opens_by}
 
 -- an image after no change is one from before
@@ -28,7 +28,7 @@ since_image was c left only (inr past) = subst was (sym past.2) past.1
 
 -- a disk that was only read is untouched
 pub untouched_same : {D : Type 0} (g : Ghosts D) (old new : D) → Changes g.moment g.may_leave g.left_since Same old new
-    → ((c : List ℕ) → g.left_since old (g.moment old) c → g.may_leave old c) → g.contents new ≡ g.contents old → IsUntouched g old new
+    → ((c : List ℕ) → g.left_since old (g.moment old) c → g.may_leave old c) → g.contents new ≡ g.contents old → IsUntouched (seen g old new)
 untouched_same g old new same only held = (held, λ c left. since_image (g.may_leave old) c (g.left_since old (g.moment old) c) (only c) (same.since (g.moment old) c (omega arith) left))
 
 -- the file opens to one of the histories from the first to the second
@@ -205,7 +205,7 @@ none_few : {before : List Stamped} {k status : ℕ} {held left : Option (List �
 none_few s = omega (arith, s.few.0)
 
 -- where nothing was accepted, nothing was answered
-pub survives_none : {D : Type 0} (g : Ghosts D) (before : List Stamped) (k status : ℕ) (old new : D) → DiskSurvives g before [] k status old new → DiskSurvives g before [] 0 status old new
+pub survives_none : {D : Type 0} (g : Ghosts D) (before : List Stamped) (k status : ℕ) (old new : D) → DiskSurvives (seen g old new) before [] k status → DiskSurvives (seen g old new) before [] 0 status
 survives_none {D = D} g before k status old new = none (g.contents old)
   where
     none : (o : Option (List ℕ)) → IfSome o (λ file. Survives before [] k status (g.contents old) (g.may_leave old) (g.contents new) (g.may_leave new) (g.left_since new (g.moment old)))
@@ -286,9 +286,9 @@ refused_same g old new one two = run (g.contents old) one two
     run (Some file) a b = λ t. (a t, b t)
 
 -- over a file that is taken the disk is untouched
-pub taken_untouched : {D : Type 0} (g : Ghosts D) (old new : D) → ((c : List ℕ) → g.left_since old (g.moment old) c → g.may_leave old c) → LeavesTaken g old new → IfSome (g.contents old) (λ file. is_taken file ≡ true → IsUntouched g old new)
+pub taken_untouched : {D : Type 0} (g : Ghosts D) (old new : D) → ((c : List ℕ) → g.left_since old (g.moment old) c → g.may_leave old c) → LeavesTaken g old new → IfSome (g.contents old) (λ file. is_taken file ≡ true → IsUntouched (seen g old new))
 taken_untouched {D = D} g old new only taken = run (g.contents old) taken
   where
-    run : (o : Option (List ℕ)) → IfSome o (λ file. is_taken file ≡ true → Changes g.moment g.may_leave g.left_since Same old new × (g.contents new ≡ g.contents old)) → IfSome o (λ file. is_taken file ≡ true → IsUntouched g old new)
+    run : (o : Option (List ℕ)) → IfSome o (λ file. is_taken file ≡ true → Changes g.moment g.may_leave g.left_since Same old new × (g.contents new ≡ g.contents old)) → IfSome o (λ file. is_taken file ≡ true → IsUntouched (seen g old new))
     run None t = tt
     run (Some file) t = λ is. let same = t is in untouched_same g old new same.0 only same.1

@@ -1,4 +1,5 @@
 pub mod Asking
 pub mod Crashing
 pub mod Ending
+pub mod Naming
 pub mod Opened

@@ -51,16 +51,27 @@ Begins status held was left images since = ((c : List ℕ) → since c → was c
     × (status ≡ 0 → (c : List ℕ) → images c → opens c ≡ Ok start)
     × IfSome held (λ file. (from : State) → opens file ≡ Ok from → StaysAt from.history held was left images since)
 
+-- what a run sees of a disk: its bytes and images before and after, and the images at all moments since
+pub record Seen : Type 1 where
+  pub held : Option (List ℕ)
+  pub was : List ℕ → Type 0
+  pub left : Option (List ℕ)
+  pub images : List ℕ → Type 0
+  pub since : List ℕ → Type 0
+
+-- the same of this disk, from an earlier state to a later one
+abbrev pub seen : {D : Type 0} → Ghosts D → D → D → Seen
+seen g old new = record { held = g.contents old; was = g.may_leave old; left = g.contents new; images = g.may_leave new; since = g.left_since new (g.moment old) }
+
 -- the bytes are those from before, and each image since the start is one from before
-abbrev pub IsUntouched : {D : Type 0} → Ghosts D → D → D → Type 0
-IsUntouched g old new = (g.contents new ≡ g.contents old) × ((c : List ℕ) → g.left_since new (g.moment old) c → g.may_leave old c)
+abbrev pub IsUntouched : Seen → Type 0
+IsUntouched d = (d.left ≡ d.held) × ((c : List ℕ) → d.since c → d.was c)
 
 -- what a run leaves of a disk that opened to a history, with these commands accepted and so many of them answered
-abbrev pub DiskSurvives : {D : Type 0} → Ghosts D → List Stamped → List Stamped → (answered status : ℕ) → D → D → Type 0
-DiskSurvives g before accepted answered status old new =
-    IfSome (g.contents old) (λ file. Survives before accepted answered status (g.contents old) (g.may_leave old) (g.contents new) (g.may_leave new) (g.left_since new (g.moment old)))
+abbrev pub DiskSurvives : Seen → List Stamped → List Stamped → (answered status : ℕ) → Type 0
+DiskSurvives d before accepted answered status = IfSome d.held (λ file. Survives before accepted answered status d.held d.was d.left d.images d.since)
 
 -- what beginning a journal leaves of a disk; over a file that is taken nothing is written
-pub record DiskBegins {D : Type 0} (g : Ghosts D) (status : ℕ) (old new : D) : Type 0 where
-  pub begins : Begins status (g.contents old) (g.may_leave old) (g.contents new) (g.may_leave new) (g.left_since new (g.moment old))
-  pub taken : IfSome (g.contents old) (λ file. is_taken file ≡ true → IsUntouched g old new)
+pub record DiskBegins (d : Seen) (status : ℕ) : Type 0 where
+  pub begins : Begins status d.held d.was d.left d.images d.since
+  pub taken : IfSome d.held (λ file. is_taken file ≡ true → IsUntouched d)

@@ -27,7 +27,7 @@ use Rattle.reg_session.specs.Answered.{Point, Accepted}
 use Rattle.reg_session.specs.Input.{Takes, EndsInput}
 use Rattle.reg_session.specs.declared.stop.Stop.{Stop}
 use Rattle.reg_session.specs.declared.stop.Stop.TheVariants as stop
-use Rattle.reg_run.specs.Crash.{IsUntouched, DiskSurvives, DiskBegins}
+use Rattle.reg_run.specs.Crash.{Seen, seen, IsUntouched, DiskSurvives, DiskBegins}
 use Rattle.reg_run.specs.Status.{check_line, status_of}
 use Rattle.reg_run.specs.World.{World}
 use Rattle.reg_run.specs.declared.task.Task.{Task}
@@ -69,16 +69,16 @@ OpenCaused the_end.Exists held before after = ⊥
 OpenCaused the_end.Refused held before after = ⊥
 
 -- The journal wasn't opened: nothing was read but the disk, nothing was written, and the clock not looked at.
-pub record NotOpened {D : Type 0} (g : Ghosts D) (end : End) (before after : World) (old new : D) : Type 0 where
+pub record NotOpened (d : Seen) (end : End) (before after : World) : Type 0 where
   pub cause : OpenCaused end before.held before.faults after.faults
   pub input : SameInput before after
   pub output : SameOutput before after
   pub clock : SameClock before after
-  pub disk : IsUntouched g old new
+  pub disk : IsUntouched d
 
 -- what a run did over a journal: it wasn't opened; or it was, to a state from which this was done
-abbrev pub OverJournal : {D : Type 0} → Ghosts D → (State → Type 0) → End → World → World → D → D → Type 0
-OverJournal g Did end before after old new = NotOpened g end before after old new ⊎ ((from : State) × OpensTo before.held (Ok from) × Did from)
+abbrev pub OverJournal : Seen → (State → Type 0) → End → World → World → Type 0
+OverJournal d Did end before after = NotOpened d end before after ⊎ ((from : State) × OpensTo before.held (Ok from) × Did from)
 
 -- how beginning a journal ends: it was begun over a file that isn't taken; or the file is taken; or the disk failed
 abbrev pub InitEnds : End → Option (List ℕ) → ℕ → Option (List ℕ) → ℕ → Type 0
@@ -94,9 +94,9 @@ InitEnds the_end.Exists held before new after = IfSome held (λ file. is_taken f
 InitEnds the_end.Refused held before new after = ⊥
 
 -- `init`: a journal was begun or not; beside the disk all is as it was
-pub record DidInit {D : Type 0} (g : Ghosts D) (end : End) (before after : World) (old new : D) : Type 0 where
+pub record DidInit (d : Seen) (end : End) (before after : World) : Type 0 where
   pub ends : InitEnds end before.held before.faults after.held after.faults
-  pub disk : DiskBegins g (status_of end) old new
+  pub disk : DiskBegins d (status_of end)
   pub input : SameInput before after
   pub output : SameOutput before after
   pub clock : SameClock before after
@@ -134,7 +134,7 @@ ApplyEnds the_end.Refused from taken before after accepted answered = ⊥
 
 -- `apply` from the state that the file opened to: the bytes that were taken, cut at each LF, the commands that were accepted
 -- and how many of them were answered, how it ended, and what it leaves of the disk.
-pub record DidApply {D : Type 0} (g : Ghosts D) (end : End) (before after : World) (old new : D) (from : State) : Type 0 where
+pub record DidApply (d : Seen) (end : End) (before after : World) (from : State) : Type 0 where
   pub taken : List ℕ
   pub input : Takes before.left taken after.left
   pub few : length taken ≤ 2 ^ 32
@@ -142,7 +142,7 @@ pub record DidApply {D : Type 0} (g : Ghosts D) (end : End) (before after : Worl
   pub accepted : List Stamped
   pub answered : ℕ
   pub ends : ApplyEnds end from taken before after accepted (from.history ++ take answered accepted)
-  pub disk : DiskSurvives g from.history accepted answered (status_of end) old new
+  pub disk : DiskSurvives d from.history accepted answered (status_of end)
 
 -- how printing these bytes ends: they were written and flushed, and the end is this one; or the output failed, and a front of
 -- them stands there; or there was no memory, and nothing was written
@@ -152,11 +152,11 @@ Printed good bytes end old before new flushed after =
     ⊎ (((end ≡ the_end.Output) × Rose before after × WritesFront old new bytes) ⊎ ((end ≡ the_end.Memory) × (new ≡ old)))
 
 -- `check` from the state that the file opened to: it printed how many commands there are
-pub record DidCheck {D : Type 0} (g : Ghosts D) (end : End) (before after : World) (old new : D) (from : State) : Type 0 where
+pub record DidCheck (d : Seen) (end : End) (before after : World) (from : State) : Type 0 where
   pub printed : Printed the_end.Done (check_line from) end before.written before.writes after.written after.flushed after.writes
   pub input : SameInput before after
   pub clock : SameClock before after
-  pub disk : DiskSurvives g from.history [] 0 (status_of end) old new
+  pub disk : DiskSurvives d from.history [] 0 (status_of end)
 
 -- what the word `members` with this name asks
 abbrev pub name_reading : List ℕ → Result Request Refusal
@@ -220,23 +220,23 @@ MembersEnds name the_end.Exists from before after = ⊥
 MembersEnds name the_end.Refused from before after = Replied (name_reading name) true from before after × IsFlushed after
 
 -- `members` from the state that the file opened to
-pub record DidMembers {D : Type 0} (g : Ghosts D) (name : List ℕ) (end : End) (before after : World) (old new : D) (from : State) : Type 0 where
+pub record DidMembers (d : Seen) (name : List ℕ) (end : End) (before after : World) (from : State) : Type 0 where
   pub ends : MembersEnds name end from before after
   pub input : SameInput before after
-  pub disk : DiskSurvives g from.history [] 0 (status_of end) old new
+  pub disk : DiskSurvives d from.history [] 0 (status_of end)
 
 -- a service that was asked stopped for want of memory, or since its keeper failed
 abbrev pub StopCaused : End → ℕ → ℕ → Type 0
 StopCaused end before after = (end ≡ the_end.Memory) ⊎ ((end ≡ the_end.Disk) × Rose before after)
 
 -- what a run of a task did
-abbrev pub Did : {D : Type 0} → Ghosts D → Task → List ℕ → End → World → World → D → D → Type 0
-Did g task.Init name end before after old new = DidInit g end before after old new
-Did g task.Apply name end before after old new = OverJournal g (DidApply g end before after old new) end before after old new
-Did g task.Check name end before after old new = OverJournal g (DidCheck g end before after old new) end before after old new
-Did g task.Members name end before after old new = OverJournal g (DidMembers g name end before after old new) end before after old new
+abbrev pub Did : Seen → Task → List ℕ → End → World → World → Type 0
+Did d task.Init name end before after = DidInit d end before after
+Did d task.Apply name end before after = OverJournal d (DidApply d end before after) end before after
+Did d task.Check name end before after = OverJournal d (DidCheck d end before after) end before after
+Did d task.Members name end before after = OverJournal d (DidMembers d name end before after) end before after
 
 -- what a run of these words did; words that ask for nothing leave all as it was
 abbrev pub RunDid : {D : Type 0} → Ghosts D → Option Task → List ℕ → End → World → World → D → D → Type 0
 RunDid g None name end before after old new = (end ≡ the_end.Usage) × (after ≡ before) × (new ≡ old)
-RunDid g (Some asked) name end before after old new = Did g asked name end before after old new
+RunDid g (Some asked) name end before after old new = Did (seen g old new) asked name end before after

@@ -9,6 +9,7 @@ ghost use Rattle.reg_service.specs.Opening.{opens, at_last, FrontsReopen};
 ghost use Rattle.reg_service.specs.Kept.{KeptOn, Halted};
 ghost use Rattle.reg_session.specs.Pending.{ReadsAs, AsksFormed};
 ghost use Rattle.reg_session.specs.Replies.{line_of};
+ghost use Rattle.reg_run.specs.Crash.{seen};
 ghost use Rattle.reg_run.specs.Ends.{Did, DidInit, OpenCaused, Asked, StopCaused, Printed, name_reading, end_of_reply, end_of_stop, end_of_open};
 ghost use Rattle.reg_run.specs.Status.{check_line};
 ghost use Rattle.reg_run.specs.World.{World, world, holding, printing, at_clock};
@@ -80,7 +81,7 @@ fn close<D: Disk>(service: Service<Journal<D>>) -> D
 
 /// Begins a journal.
 fn init<D: Disk>(disk: D) -> (End, D)
-    ensures did { (w : World) → DidInit ⟦<D as Disk>⟧ result.0 (holding ⟦<D as Disk>⟧ w disk) (holding ⟦<D as Disk>⟧ w result.1) disk result.1 }
+    ensures did { (w : World) → DidInit (seen ⟦<D as Disk>⟧ disk result.1) result.0 (holding ⟦<D as Disk>⟧ w disk) (holding ⟦<D as Disk>⟧ w result.1) }
     ensures object { D.name result.1 ≡ D.name disk }
     ensures later { D.faults disk ≤ D.faults result.1 }
 {
@@ -99,7 +100,7 @@ fn apply_over<S: Source, K: Sink, D: Disk, C: Clock>(
     disk: D,
     clock: &mut C,
 ) -> (End, D)
-    ensures did { (name : List ℕ) → Did ⟦<D as Disk>⟧ Task.Apply name result.0 (world ⟦<S as Source>⟧ ⟦<K as Sink>⟧ ⟦<D as Disk>⟧ ⟦<C as Clock>⟧ input.old out.old disk clock.old) (world ⟦<S as Source>⟧ ⟦<K as Sink>⟧ ⟦<D as Disk>⟧ ⟦<C as Clock>⟧ input.new out.new result.1 clock.new) disk result.1 }
+    ensures did { (name : List ℕ) → Did (seen ⟦<D as Disk>⟧ disk result.1) Task.Apply name result.0 (world ⟦<S as Source>⟧ ⟦<K as Sink>⟧ ⟦<D as Disk>⟧ ⟦<C as Clock>⟧ input.old out.old disk clock.old) (world ⟦<S as Source>⟧ ⟦<K as Sink>⟧ ⟦<D as Disk>⟧ ⟦<C as Clock>⟧ input.new out.new result.1 clock.new) }
     ensures object { D.name result.1 ≡ D.name disk }
     ensures later { D.faults disk ≤ D.faults result.1 }
 {
@@ -147,8 +148,8 @@ fn print_check<K: Sink>(alloc: Global, machine: &Machine<Incremental>, out: &mut
 
 /// Opens the journal on a disk, and says how many commands it has, and the last one's moment.
 fn check_over<K: Sink, D: Disk>(alloc: Global, out: &mut K, disk: D) -> (End, D)
-    ensures did { (name : List ℕ) (w : World) → Did ⟦<D as Disk>⟧ Task.Check name result.0
-        (holding ⟦<D as Disk>⟧ (printing ⟦<K as Sink>⟧ w out.old) disk) (holding ⟦<D as Disk>⟧ (printing ⟦<K as Sink>⟧ w out.new) result.1) disk result.1 }
+    ensures did { (name : List ℕ) (w : World) → Did (seen ⟦<D as Disk>⟧ disk result.1) Task.Check name result.0
+        (holding ⟦<D as Disk>⟧ (printing ⟦<K as Sink>⟧ w out.old) disk) (holding ⟦<D as Disk>⟧ (printing ⟦<K as Sink>⟧ w out.new) result.1) }
     ensures object { D.name result.1 ≡ D.name disk }
     ensures later { D.faults disk ≤ D.faults result.1 }
 {
@@ -243,9 +244,9 @@ fn members_over<K: Sink, D: Disk, C: Clock>(
     disk: D,
     clock: &mut C,
 ) -> (End, D)
-    ensures did { (w : World) → Did ⟦<D as Disk>⟧ Task.Members name.now result.0
+    ensures did { (w : World) → Did (seen ⟦<D as Disk>⟧ disk result.1) Task.Members name.now result.0
         (holding ⟦<D as Disk>⟧ (printing ⟦<K as Sink>⟧ (at_clock ⟦<C as Clock>⟧ w clock.old) out.old) disk)
-        (holding ⟦<D as Disk>⟧ (printing ⟦<K as Sink>⟧ (at_clock ⟦<C as Clock>⟧ w clock.new) out.new) result.1) disk result.1 }
+        (holding ⟦<D as Disk>⟧ (printing ⟦<K as Sink>⟧ (at_clock ⟦<C as Clock>⟧ w clock.new) out.new) result.1) }
     ensures object { D.name result.1 ≡ D.name disk }
     ensures later { D.faults disk ≤ D.faults result.1 }
 {
@@ -268,7 +269,7 @@ pub fn perform<S: Source, K: Sink, D: Disk, C: Clock>(
     disk: D,
     clock: &mut C,
 ) -> (End, D)
-    ensures did { Did ⟦<D as Disk>⟧ task name.now result.0 (world ⟦<S as Source>⟧ ⟦<K as Sink>⟧ ⟦<D as Disk>⟧ ⟦<C as Clock>⟧ input.old out.old disk clock.old) (world ⟦<S as Source>⟧ ⟦<K as Sink>⟧ ⟦<D as Disk>⟧ ⟦<C as Clock>⟧ input.new out.new result.1 clock.new) disk result.1 }
+    ensures did { Did (seen ⟦<D as Disk>⟧ disk result.1) task name.now result.0 (world ⟦<S as Source>⟧ ⟦<K as Sink>⟧ ⟦<D as Disk>⟧ ⟦<C as Clock>⟧ input.old out.old disk clock.old) (world ⟦<S as Source>⟧ ⟦<K as Sink>⟧ ⟦<D as Disk>⟧ ⟦<C as Clock>⟧ input.new out.new result.1 clock.new) }
     ensures object { D.name result.1 ≡ D.name disk }
     ensures later { D.faults disk ≤ D.faults result.1 }
 {

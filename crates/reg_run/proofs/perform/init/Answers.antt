@@ -26,7 +26,7 @@ returns-in-Err-Exists-default-clause-did g c w =
     let e = c.in-Err-Exists-default.ensures in
     let same = refused_same g.D.Disk c.args.disk new e.untouched e.same_err in
     record {
-      ends = e.exists refl;
+      ends = e.exists c.in-Err-Exists-default.field-0-0-is;
       disk = record {
         begins = begins g.D.Disk 10 c.args.disk new e.crash_err (g.met.D.Disk.only_now c.args.disk) (λ is. absurd (cc)) same;
         taken = taken_untouched g.D.Disk c.args.disk new (g.met.D.Disk.only_now c.args.disk) same;
@@ -43,7 +43,7 @@ returns-in-Err-Fault-default-clause-did g c w =
     let e = c.in-Err-Fault-default.ensures in
     let same = refused_same g.D.Disk c.args.disk new e.untouched e.same_err in
     record {
-      ends = e.fault refl;
+      ends = e.fault c.in-Err-Fault-default.field-0-0-is;
       disk = record {
         begins = begins g.D.Disk 4 c.args.disk new e.crash_err (g.met.D.Disk.only_now c.args.disk) (λ is. absurd (cc)) same;
         taken = taken_untouched g.D.Disk c.args.disk new (g.met.D.Disk.only_now c.args.disk) same;

@@ -1,0 +1,7 @@
+use Rattle.std.proofs.Common.{refl, sym, ◌∙◌}
+use Rattle.reg_run.proofs.Naming.{name_form}
+use Rattle.reg_run.proofs.perform.name_reading.Goals as goal
+
+-- a name that was read has its form
+pub returns-in-Ok-Some-clause-form : goal.returns-in-Ok-Some-clause-form
+returns-in-Ok-Some-clause-form c = (refl, name_form c.as_bytes.result.now c.in-Ok-Some.group (sym c.in-Ok-Some.field-0-is ∙ c.in-Ok-Some.ensures))
