@@ -1,3 +1,4 @@
+pub mod InOrder
 pub mod Puts
 pub mod Members
 pub mod Named

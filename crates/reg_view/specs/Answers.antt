@@ -5,6 +5,7 @@ use Rattle.reg_facts.specs.Climbing.{is_parent}
 use Rattle.reg_facts.specs.Lists.{Lists}
 use Rattle.reg_facts.specs.Members.{subject_row, texts_where}
 use Rattle.reg_facts.specs.RowOrder.{rows_of}
+use Rattle.reg_facts.specs.Rows.{group_row}
 use Rattle.reg_terms.specs.declared.kinds.Member.{Member}
 use Rattle.reg_terms.specs.declared.kinds.Member.TheVariants.{Person, Group}
 use Rattle.reg_terms.specs.declared.kinds.Object.TheVariants as object
@@ -29,8 +30,7 @@ use Rattle.reg_view.specs.Ordered.{ordered}
 
 -- the display text of the group of this id
 abbrev pub display_of : ℕ → List GroupRow → List ℕ
-display_of id [] = []
-display_of id (row ∷ rows) = if row.id == id then row.display else display_of id rows
+display_of id rows = elim (group_row id rows) [ None ↦ [] | Some row ↦ row.display ]
 
 -- the group of this name
 abbrev pub group_of : List ℕ → Lists → Result Answer Refusal

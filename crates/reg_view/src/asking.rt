@@ -22,12 +22,10 @@ pub(crate) fn not_found(alloc: Global, text: &str) -> Result<Result<Answer, Refu
 fn display_of(alloc: Global, facts: &Facts, id: GroupId) -> Result<Text, AllocError>
     ensures { IfOk result (λ display. display ≡ display_of id facts.now.groups) }
 {
-    for row in facts.groups() {
-        if row.id == id {
-            return row.display.copy(alloc);
-        }
+    match facts.group(id) {
+        Some(row) => row.display.copy(alloc),
+        None => Text::new(alloc, ""),
     }
-    Text::new(alloc, "")
 }
 
 fn group_of(
