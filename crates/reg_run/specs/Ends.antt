@@ -206,7 +206,7 @@ pub record Asked (s : State) (moments : Option (List ℕ)) (reading : Result Req
   pub printed : Printed (end_of_reply told) (line_of told) end old before new flushed after
 
 -- How `members` ends: its reply, that of the turn from the state that the file opened to, was printed, with status 0 where it
--- isn't refused; or there was no memory, or the output failed, and a front of a reply stands there.
+-- isn't refused; or there was no memory, or the disk or the output failed, and of what stands on the output nothing is said.
 abbrev pub MembersEnds : List ℕ → End → State → World → World → Type 0
 MembersEnds name the_end.Done from before after = Replied (name_reading name) false from before after × IsFlushed after
 MembersEnds name the_end.Usage from before after = ⊥
