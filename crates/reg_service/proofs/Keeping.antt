@@ -138,6 +138,15 @@ pub stopped_at : {K : Type 0} (g : Ghosts K) (s : State) (k k0 : K) (h0 : List S
 stopped_at g s k k0 h0 served now only a b =
     (h0, refl, kept_at g s k k0 h0 h0 served now only a b a, stopped_whole g s h0 k (g.payloads k0) (g.payloads k) (g.has_failed k) served a (leaves_history g s k served now), tt)
 
+still_later : (a b c : ℕ) → a ≤ b → b ≤ c → a ≤ c
+still_later a b c p q = omega arith
+
+-- what is served stays so at a later clock
+pub served_later : (s m : State) (to : ℕ) (told : Option (List (List ℕ))) (failed : Bool) → IsServed s told failed → s.clock ≤ to → m ≡ (record { history = s.history; clock = to }) → IsServed m told failed
+served_later s m to told failed v later is =
+    let moved : IsServed (record { history = s.history; clock = to }) told failed = record { payloads = v.payloads; going = v.going; opens = v.opens; last = still_later _ s.clock to v.last later } in
+    rw is moved
+
 -- an accepted command that is kept is served
 pub served_one : (s m : State) (st : Stamped) (bytes : List ℕ) (told told2 : Option (List (List ℕ))) (failed failed2 : Bool) → IsServed s told failed → st.at ≡ s.clock
     → refusal s.history s.clock st.command ≡ None → stamped_of (payload st) ≡ Some st → m ≡ appended s st.by st.command → bytes ≡ payload st → told2 ≡ option_map (λ ps. ps ++ bytes ∷ []) told → failed2 ≡ false → IsServed m told2 failed2
