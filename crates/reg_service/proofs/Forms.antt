@@ -6,5 +6,4 @@ use Rattle.reg_terms.specs.Forms.{has_form, op_has_form}
 
 -- a command that is asked has its form
 pub command_form : (command : Command) → op_has_form (op.Command command) ≡ true → has_form command ≡ true
-unfolding has_form op_has_form
 command_form command form = form
