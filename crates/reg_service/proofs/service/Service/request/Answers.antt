@@ -5,7 +5,7 @@ use Rattle.reg_terms.specs.declared.request.Op.TheVariants as op
 use Rattle.reg_service.specs.Turn.{turn, requested, at_moment}
 use Rattle.reg_service.specs.Opening.{Served}
 use Rattle.reg_service.proofs.Forms.{command_form}
-use Rattle.reg_service.proofs.Keeping.{stopped_at}
+use Rattle.reg_service.proofs.Keeping.{stopped_at, served_later}
 use Rattle.reg_service.proofs.service.Service.request.Goals as goal
 
 -- there was no memory to move the clock
@@ -34,3 +34,10 @@ returns-in-Command-clause-kept g c =
 -- and has its form
 pub carried_out-requires-clause-form : goal.carried_out-requires-clause-form
 carried_out-requires-clause-form g c = command_form c.in-Command.command (rw c.in-Command.is at c.requires.1)
+
+-- the service goes on at the later moment
+pub asked-requires : goal.asked-requires
+asked-requires g c = served_later c.self.inside.machine c.in-Ok.machine _ _ _ c.self.invariant (rw c.clock.ensures at c.later_of-now.ensures.no_earlier) c.in-Ok.ensures
+
+pub carried_out-requires-clause-served : goal.carried_out-requires-clause-served
+carried_out-requires-clause-served g c = served_later c.self.inside.machine c.in-Ok.machine _ _ _ c.self.invariant (rw c.clock.ensures at c.later_of-now.ensures.no_earlier) c.in-Ok.ensures
