@@ -4,9 +4,21 @@ use Rattle.reg_session.specs.Answered.{Point}
 use Rattle.reg_session.specs.Lines.{lines_from, pending_from}
 use Rattle.reg_session.specs.Pending.{Holds}
 use Rattle.reg_session.specs.Stops.{HaltsIn}
+use Rattle.reg_session.proofs.Answering.{answered_none}
 use Rattle.reg_session.proofs.Feeding.{feeds_from, stops_from}
 use Rattle.reg_session.proofs.Halting.{kept_then, halted_then, err_by}
 use Rattle.reg_session.proofs.session.feed.Goals as goal
+
+-- no byte was taken yet
+pub loop-at-init : goal.loop-at-init
+loop-at-init g c =
+    let here : Point = record { written = g.K.Sink.written c.args.out.now; moments = g.C.Clock.moments c.args.clock.now; state = c.args.service.state } in
+    record {
+      fed = λ line held. (held, answered_none here);
+      within = omega arith;
+      count = omega arith;
+      kept = c.stays.ensures;
+    }
 
 -- the bytes of one line more were taken
 pub loop-at-preserved : goal.loop-at-preserved
