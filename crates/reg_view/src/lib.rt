@@ -7,6 +7,4 @@ mod ordered;
 mod rows;
 
 pub use asking::ask;
-pub use reg_terms::{
-    Answer, FactorsShown, Op, Query, Reply, Request, RowShown, RowsShown,
-};
+pub use reg_terms::{Answer, FactorsShown, Op, Query, Reply, Request, RowShown, RowsShown};
