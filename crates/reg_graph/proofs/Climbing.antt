@@ -1,9 +1,11 @@
 -- A walk up from a group, in the order of levels.
 use Rattle.std.proofs.Common.{◌≡◌, ◌≤◌, ◌<◌, ◌==◌, ◌&&◌, ◌||◌, ℕ, List, [], ◌∷◌, ◌++◌, Bool, true, false, not, arith, refl, sym, ◌∙◌, inl, inr, ap}
+use Rattle.std.proofs.lemmas.Grind.{common_steps}
+use Rattle.std.proofs.lemmas.Bool.Decides.{nat_tests}
 use Rattle.std.proofs.lemmas.Bool.{eqb-true, eq-eqb, cases_Bool, and_parts, and_from, and_right, both_ways, or_cases, or_left, or_right, false_from_ne_true, not_from_true, not_from_false}
 use Rattle.std.specs.declared.cmp.Ordering.TheVariants.{Less}
 use Rattle.reg_graph.specs.Sets.{holds, pair_cmp}
-use Rattle.reg_graph.specs.Edges.{reaches, has_edge, among, InputsFirst, IsAbove}
+use Rattle.reg_graph.specs.Edges.{reaches, has_edge, is_needed, among, InputsFirst, IsAbove}
 use Rattle.reg_graph.proofs.Reaching.{reaches_self, reaches_trans, reaches_edge, kept_along}
 use Rattle.reg_graph.proofs.Counting.{passing, passing_less}
 use Rattle.reg_graph.proofs.Orders.{Falls, less_le, less_self, less_first, among_more, inputs_push, sources, in_universe}
@@ -133,3 +135,39 @@ await_more lv done old now new h so more x q = rw (more x q, so x q, among_more 
     no false true true d = refl
     no false true false d = refl
     no false false b d = refl
+
+-- no edge goes to a group on which none depends
+pub none_above : (es : List (ℕ × ℕ)) (a b : ℕ) → is_needed es b ≡ false → has_edge es a b ≡ false
+none_above [] a b none = refl
+none_above (e ∷ es) a b none = elim (cases_Bool (e.1 == b)) [
+  | inl t ↦ absurd (both_ways (is_needed (e ∷ es) b) none (or_left (e.1 == b) (is_needed es b) t))
+  | inr f ↦ rw (f) (last (e.0 == a) (has_edge es a b) (none_above es a b (rw f at none)))
+]
+  where
+    last : (c d : Bool) → d ≡ false → ((c && false) || d) ≡ false
+    last true d h = h
+    last false d h = h
+
+-- such a group is all that a walk up from it comes to
+pub alone_above : (es : List (ℕ × ℕ)) (lv : ℕ → ℕ) → Falls es lv → (node : ℕ) → is_needed es node ≡ false → IsAbove es node (node ∷ [])
+alone_above es lv falls node none = climb_end es lv falls node (node ∷ []) [] stepped (λ n q. refl)
+  where
+    first : List (ℕ × ℕ)
+    first = (lv node, node) ∷ []
+
+    waits : (a b : ℕ) → holds a b first ≡ (((a == lv node) && (b == node)) || false)
+    waits a b = grind (arith, nat_tests, common_steps)
+
+    popped : (a b : ℕ) → holds a b [] ≡ (not ((a == lv node) && (b == node)) && holds a b first)
+    popped a b = grind (arith, nat_tests, common_steps)
+
+    added : (a b : ℕ) → holds a b [] ≡ (((a == lv b) && has_edge es b node) || holds a b [])
+    added a b = rw (none_above es b node none) (last (a == lv b))
+      where
+        last : (c : Bool) → false ≡ ((c && false) || false)
+        last true = refl
+        last false = refl
+
+    stepped : Climbs es lv node (node ∷ []) []
+    stepped = climb_step es lv falls node [] first (climb_start es lv node first waits) [] [] (lv node) node
+        (waits (lv node) node ∙ or_left _ _ (and_from _ _ (eq-eqb (lv node) (lv node) refl) (eq-eqb node node refl))) popped (λ a b h. absurd (both_ways false refl h)) added

@@ -101,6 +101,25 @@ fn climb(
     Ok(above)
 }
 
+/// A group and all that depend on it, in the order of their levels. Where none depends on it, that
+/// is a look at the edges alone.
+fn with_above(
+    alloc: Global,
+    edges: &Edges,
+    levels: &Levels,
+    node: u32,
+) -> Result<Vec<GroupId>, AllocError>
+    requires { IsLevelled edges.now levels.now }
+    ensures { IfOk result (λ v. IsAbove edges.now node v.items) }
+{
+    if edges.has_above(node) {
+        return climb(alloc, edges, levels, node);
+    }
+    let mut alone = Vec::new(alloc);
+    alone.push(GroupId::new(node))?;
+    Ok(alone)
+}
+
 impl Dag {
     /// No edges. Takes no memory.
     pub fn new(alloc: Global) -> Dag
@@ -154,7 +173,7 @@ impl Dag {
         if !self.levels.has(from.number()) {
             return Ok(from == to);
         }
-        let above = climb(self.alloc, &self.edges, &self.levels, to.number())?;
+        let above = with_above(self.alloc, &self.edges, &self.levels, to.number())?;
         Ok(above.contains(&from))
     }
 
@@ -177,6 +196,6 @@ impl Dag {
         ensures value { IfOk result (λ v. IsAbove self.now node v.items) }
         ensures acyclic { IsAcyclic self.now }
     {
-        climb(self.alloc, &self.edges, &self.levels, node.number())
+        with_above(self.alloc, &self.edges, &self.levels, node.number())
     }
 }
