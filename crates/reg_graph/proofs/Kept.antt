@@ -73,12 +73,12 @@ ascending_by g (k ∷ ks) h =
     elim (cases_Bool (k.0 == g))
     [ inl t ↦ rw t (later_subjects g k ks t h.0, rest) | inr f ↦ rw f rest ]
 
-pub listed_is : (g n m : ℕ) (items : List ℕ) (xs keys view : List (ℕ × ℕ)) → items ≡ map (λ (p : ℕ × ℕ). p.1) xs → xs ≡ filter (range_contains pair_cmp (Included (n, 0)) (Included (m, 4294967295))) view → n ≡ g → m ≡ g → IsKept keys → keys ≡ view → items ≡ subjects_of g view
-listed_is g n m items xs keys view a b c d k e = a ∙ ap (λ ys. map (λ (p : ℕ × ℕ). p.1) ys) (b ∙ rw (c, d, ← e) (between_is g keys k))
+pub listed_is : (g low high : ℕ) (items : List ℕ) (xs keys view : List (ℕ × ℕ)) → items ≡ map (λ (p : ℕ × ℕ). p.1) xs → xs ≡ filter (range_contains pair_cmp (Included (g, low)) (Included (g, high))) view → low ≡ 0 → high ≡ 4294967295 → IsKept keys → keys ≡ view → items ≡ subjects_of g view
+listed_is g low high items xs keys view a b c d k e = a ∙ ap (λ ys. map (λ (p : ℕ × ℕ). p.1) ys) (b ∙ rw (c, d, ← e) (between_is g keys k))
 
-pub length-listed : (g n m : ℕ) (keys view : List (ℕ × ℕ)) → n ≡ g → m ≡ g → IsKept keys → keys ≡ view
-    → length (subjects_of g view) ≡ length (filter (range_contains pair_cmp (Included (n, 0)) (Included (m, 4294967295))) view)
-length-listed g n m keys view c d k e = rw (c, d, ← e, between_is g keys k) (length-map (filter (λ (p : ℕ × ℕ). p.0 == g) keys) (λ (p : ℕ × ℕ). p.1))
+pub length-listed : (g low high : ℕ) (keys view : List (ℕ × ℕ)) → low ≡ 0 → high ≡ 4294967295 → IsKept keys → keys ≡ view
+    → length (subjects_of g view) ≡ length (filter (range_contains pair_cmp (Included (g, low)) (Included (g, high))) view)
+length-listed g low high keys view c d k e = rw (c, d, ← e, between_is g keys k) (length-map (filter (λ (p : ℕ × ℕ). p.0 == g) keys) (λ (p : ℕ × ℕ). p.1))
 
 -- before the end fewer were yielded than there are
 pub iter_short : {A X : Type 0} (shows : A → X) → (all : List X) (xs : List A) (s t u : List X) (r : Option A) (start : s ≡ all) (y : Yields (TakesFirst shows) s xs t) → (x : A) → r ≡ Some x → TakesFirst shows t r u → length xs < length all

@@ -117,14 +117,14 @@ pub needed_is : (g next : ℕ) (r : Option (Bor (ℕ × ℕ × ℕ))) (s t keys 
 needed_is g next r s t keys view h e i v = first_of_range r s t h ∙ (rw (e, ← v, group_range g keys next i.small (recursion_from_All (λ (k : ℕ × ℕ × ℕ). (k.1 < 2 ^ 32) × (k.2 < next)) keys i.each)) (sym (needed_group g keys)))
 
 -- ---- one more edge
-pub numbered_more : (to from next more : ℕ) (old new : List (ℕ × ℕ × ℕ)) → IsNumbered old next → new ≡ insert_key key_cmp old (to, from, next) → from < 2 ^ 32 → more ≡ next + 1 → more < 2 ^ 64 → IsNumbered new more
-numbered_more to from next more old new i e l m b = record {
-  each = rw e (All-insert_key key_cmp (to, from, next) (λ (k : ℕ × ℕ × ℕ). (k.1 < 2 ^ 32) × (k.2 < more)) old (All-weaker (λ (k : ℕ × ℕ × ℕ). (k.1 < 2 ^ 32) × (k.2 < next)) (λ (k : ℕ × ℕ × ℕ). (k.1 < 2 ^ 32) × (k.2 < more)) (λ k h. (h.0, omega (arith, m, h.1))) old i.each) (l, omega (arith, m)));
+pub numbered_more : (to from number next more : ℕ) (old new : List (ℕ × ℕ × ℕ)) → IsNumbered old next → number ≡ next → new ≡ insert_key key_cmp old (to, from, number) → from < 2 ^ 32 → more ≡ next + 1 → more < 2 ^ 64 → IsNumbered new more
+numbered_more to from number next more old new i n e l m b = record {
+  each = rw (e, n) (All-insert_key key_cmp (to, from, next) (λ (k : ℕ × ℕ × ℕ). (k.1 < 2 ^ 32) × (k.2 < more)) old (All-weaker (λ (k : ℕ × ℕ × ℕ). (k.1 < 2 ^ 32) × (k.2 < next)) (λ (k : ℕ × ℕ × ℕ). (k.1 < 2 ^ 32) × (k.2 < more)) (λ k h. (h.0, omega (arith, m, h.1))) old i.each) (l, omega (arith, m)));
   small = b;
 }
 
-pub pushed : (to from next : ℕ) (old new : List (ℕ × ℕ × ℕ)) (view : List (ℕ × ℕ)) → IsNumbered old next → new ≡ insert_key key_cmp old (to, from, next) → map edge_of old ≡ view → IsPermutation ((from, to) ∷ view) (map edge_of new)
-pushed to from next old new view i e v = rw (e, ← v) (IsPermutation-map edge_of ((to, from, next) ∷ old) (insert_key key_cmp old (to, from, next))
+pub pushed : (to from number next : ℕ) (old new : List (ℕ × ℕ × ℕ)) (view : List (ℕ × ℕ)) → IsNumbered old next → number ≡ next → new ≡ insert_key key_cmp old (to, from, number) → map edge_of old ≡ view → IsPermutation ((from, to) ∷ view) (map edge_of new)
+pushed to from number next old new view i n e v = rw (e, n, ← v) (IsPermutation-map edge_of ((to, from, next) ∷ old) (insert_key key_cmp old (to, from, next))
     (insert_permutes (to, from, next) old (fresh to from next old (recursion_from_All (λ (k : ℕ × ℕ × ℕ). (k.1 < 2 ^ 32) × (k.2 < next)) old i.each))))
 
 -- ---- one edge less

@@ -96,12 +96,6 @@ module _ (es : List (ℕ × ℕ)) (lv : ℕ → ℕ) (down : Falls es lv) (high 
         | inr f ↦ not_from_false _ f
       ]
 
-  pub plan_falls : ((l q : ℕ) → want l q ≡ 0) → Falls es (target lv out)
-  plan_falls none z y e = let f : max (lv y) (planned out y) < max (lv z) (max (planned out z) (want (lv z) z)) = m.falls z y e in let w : want (lv z) z ≡ 0 = none (lv z) z in omega (arith, f, w)
-
-  pub plan_raised : ((l q : ℕ) → want l q ≡ 0) → high < target lv out from
-  plan_raised none = let f : high < max (planned out from) (want (lv from) from) = m.raised in let w : want (lv from) from ≡ 0 = none (lv from) from in omega (arith, f, w)
-
   module _ (n x v : ℕ) (was : wait n x ≡ true) (value : want n x ≡ v) (apart : (x == to) ≡ false) (want1 want2 : ℕ → ℕ → ℕ) (wait1 wait2 : ℕ → ℕ → Bool)
       (left : (l q : ℕ) → ((l == n) && (q == x)) ≡ false → want1 l q ≡ want l q) (still : (l q : ℕ) → wait1 l q ≡ true → wait l q ≡ true) (least : (l q : ℕ) → wait1 l q ≡ true → pair_cmp (n, x) (l, q) ≡ Less)
       (more : (l q : ℕ) → want1 l q ≤ want2 l q) (raised : (q : ℕ) → has_edge es q x ≡ true → v < max (lv q) (want2 (lv q) q))

@@ -148,7 +148,7 @@ impl Dag {
             from.number(),
             to.number(),
         )?;
-        self.edges.push(from.number(), to.number())?;
+        self.edges.push(from, to)?;
         Ok(())
     }
 
@@ -158,7 +158,7 @@ impl Dag {
         ensures removed { IsPermutation self.old ((from, to) ∷ self.new) }
         ensures acyclic { IsAcyclic self.new }
     {
-        self.edges.take(from.number(), to.number());
+        self.edges.take(from, to);
     }
 
     /// Whether the one group is the other or depends on it: a path of edges leads there.
@@ -188,7 +188,7 @@ impl Dag {
     pub fn is_needed(&self, node: GroupId) -> bool
         ensures { result ≡ is_needed self.now node }
     {
-        self.edges.has_above(node.number())
+        self.edges.has_above(node)
     }
 
     /// The group and all that depend on it, each once, and each before those that depend on it.

@@ -3,16 +3,57 @@ ghost use Rattle.std.specs.Prelude.{◌≡◌, [], ◌∷◌, ℕ, IfOk, OnOk, O
 ghost use Rattle.std.specs.List.Sorted.{IsPermutation};
 ghost use Rattle.reg_graph.specs.Edges.{has_edge, is_needed, among};
 
+use reg_base::GroupId;
 use std::alloc::{AllocError, Global};
 use std::collections::BTreeSet;
 use std::marker::Model;
 
-/// Edges, each of which may stand several times: keys (to, from, number), of which no two have one
-/// number. Contracts see the list of edges (from, to).
+/// The number of an edge, of which no other one has it: so an edge may stand several times.
+#[derive(Clone, Copy, PartialEq, Eq, PartialOrd, Ord)]
+struct EdgeNumber {
+    number: u64,
+}
+
+impl Model for EdgeNumber {
+    ghost use Rattle.std.specs.Prelude.{ℕ};
+
+    ghost Value = { ℕ };
+
+    ghost view = { λ n. n.number };
+
+    ghost inverse = { λ n. record { number = n } };
+}
+
+impl EdgeNumber {
+    /// The number that is this one.
+    fn of(number: u64) -> EdgeNumber
+        ensures { result ≡ number }
+    {
+        EdgeNumber { number }
+    }
+
+    /// No edge has a lower one.
+    fn least() -> EdgeNumber
+        ensures { result ≡ 0 }
+    {
+        EdgeNumber { number: 0 }
+    }
+
+    /// No edge has a higher one.
+    fn greatest() -> EdgeNumber
+        ensures { result ≡ 18446744073709551615 }
+    {
+        EdgeNumber { number: u64::MAX }
+    }
+}
+
+/// Edges by the group to which they go, then the group from which they come, then their number.
+/// Contracts see the list of edges (from, to).
 #[derive(Drop)]
 pub(crate) struct Edges {
     alloc: Global,
-    keys: BTreeSet<(u32, u32, u64)>,
+    keys: BTreeSet<(GroupId, GroupId, EdgeNumber)>,
+    /// The number of the next edge: higher than all.
     next: u64,
 }
 
@@ -39,50 +80,50 @@ impl Edges {
     }
 
     /// One more edge. After 2^64 - 1 of them no number is left, which counts as out of memory.
-    pub(crate) fn push(&mut self, from: u32, to: u32) -> Result<(), AllocError>
+    pub(crate) fn push(&mut self, from: GroupId, to: GroupId) -> Result<(), AllocError>
         ensures ok { OnOk result (IsPermutation ((from, to) ∷ self.old) self.new) }
         ensures err { OnErr result (self.new ≡ self.old) }
     {
         let Some(next) = self.next.checked_add(1) else {
             return Err(AllocError);
         };
-        self.keys.insert((to, from, self.next))?;
+        self.keys.insert((to, from, EdgeNumber::of(self.next)))?;
         self.next = next;
         Ok(())
     }
 
     /// Takes one copy of an edge away, without memory.
-    pub(crate) fn take(&mut self, from: u32, to: u32)
+    pub(crate) fn take(&mut self, from: GroupId, to: GroupId)
         requires { has_edge self.old from to ≡ true }
         ensures { IsPermutation self.old ((from, to) ∷ self.new) }
     {
-        let first = self
-            .keys
-            .range((to, from, 0)..=(to, from, u64::MAX))
-            .next()
-            .copied();
-        if let Some(key) = first {
+        let first = (to, from, EdgeNumber::least());
+        let last = (to, from, EdgeNumber::greatest());
+        let found = self.keys.range(first..=last).next().copied();
+        if let Some(key) = found {
             self.keys.remove(&key);
         }
     }
 
     /// Whether an edge goes to this group. Takes no memory.
-    pub(crate) fn has_above(&self, group: u32) -> bool
+    pub(crate) fn has_above(&self, group: GroupId) -> bool
         ensures { result ≡ is_needed self.now group }
     {
-        self.keys
-            .range((group, 0, 0)..=(group, u32::MAX, u64::MAX))
-            .next()
-            .is_some()
+        let first = (group, GroupId::new(0), EdgeNumber::least());
+        let last = (group, GroupId::new(u32::MAX), EdgeNumber::greatest());
+        self.keys.range(first..=last).next().is_some()
     }
 
-    /// The groups from which an edge goes to this one.
+    /// The numbers of the groups from which an edge goes to the group of this number.
     pub(crate) fn above(&self, group: u32) -> Result<Vec<u32>, AllocError>
         ensures { IfOk result (λ v. (z : ℕ) → among z v.items ≡ has_edge self.now z group) }
     {
+        let group = GroupId::new(group);
+        let first = (group, GroupId::new(0), EdgeNumber::least());
+        let last = (group, GroupId::new(u32::MAX), EdgeNumber::greatest());
         let mut above = Vec::new(self.alloc);
-        for key in self.keys.range((group, 0, 0)..=(group, u32::MAX, u64::MAX)) {
-            above.push(key.1)?;
+        for key in self.keys.range(first..=last) {
+            above.push(key.1.number())?;
         }
         Ok(above)
     }

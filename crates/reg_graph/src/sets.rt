@@ -16,7 +16,7 @@ use std::sync::ledger::Ledger;
 #[derive(Drop)]
 pub struct Sets {
     alloc: Global,
-    pairs: BTreeSet<(u32, u32)>,
+    pairs: BTreeSet<(GroupId, SubjectId)>,
 }
 
 impl Model for Sets {
@@ -47,7 +47,7 @@ impl Sets {
         ensures cost { steps.new ≡ steps.old + 1 }
     {
         steps.tick(); // one subject tested
-        self.pairs.contains(&(g.number(), s.number()))
+        self.pairs.contains(&(g, s))
     }
 
     /// Adds the subject to the group, which may have it already: one step. Out of memory the sets
@@ -64,7 +64,7 @@ impl Sets {
         ensures cost { steps.new ≡ steps.old + 1 }
     {
         steps.tick(); // one subject added
-        self.pairs.insert((g.number(), s.number()))?;
+        self.pairs.insert((g, s))?;
         Ok(())
     }
 
@@ -75,7 +75,7 @@ impl Sets {
         ensures cost { steps.new ≡ steps.old + 1 }
     {
         steps.tick(); // one subject removed
-        self.pairs.remove(&(g.number(), s.number()));
+        self.pairs.remove(&(g, s));
     }
 
     /// The subjects of the group, by id, each once: a step for each. Out of memory no more steps
@@ -93,9 +93,11 @@ impl Sets {
         ensures err { OnErr result (steps.new ≤ steps.old + length (subjects_of g self.now)) }
     {
         let mut subjects = Vec::new(self.alloc);
-        for pair in self.pairs.range((g.number(), 0)..=(g.number(), u32::MAX)) {
+        let first = (g, SubjectId::new(0));
+        let last = (g, SubjectId::new(u32::MAX));
+        for pair in self.pairs.range(first..=last) {
             steps.tick(); // one subject listed
-            subjects.push(SubjectId::new(pair.1))?;
+            subjects.push(pair.1)?;
         }
         Ok(subjects)
     }

@@ -12,7 +12,7 @@ pub returns-in_err-push-clause-acyclic : goal.returns-in_err-push-clause-acyclic
 returns-in_err-push-clause-acyclic c = rw c.in_err-push.ensures.err (acyclic c.self.inside.edges (level_of c.self.inside.levels) c.self.invariant.falls)
 
 pub invariant_of-self-2 : goal.invariant_of-self-2
-invariant_of-self-2 c = levelled_more c.self.inside.edges c.push.new.self c.make_room.new.levels c.args.from c.args.to (rw (c.number-3.ensures, c.number-4.ensures) at c.in_ok-push.ensures.ok)
+invariant_of-self-2 c = levelled_more c.self.inside.edges c.push.new.self c.make_room.new.levels c.args.from c.args.to c.in_ok-push.ensures.ok
     c.make_room.ensures.levelled (rw (c.number.ensures, c.number-2.ensures) at c.in_ok-make_room.ensures.above) (rw c.number.ensures at c.in_ok-make_room.ensures.written)
 
 pub returns-clause-no_circle : goal.returns-clause-no_circle
@@ -22,5 +22,5 @@ returns-clause-no_circle c =
 
 pub returns-clause-acyclic : goal.returns-clause-acyclic
 returns-clause-acyclic c = acyclic c.push.new.self (level_of c.make_room.new.levels)
-    (levelled_more c.self.inside.edges c.push.new.self c.make_room.new.levels c.args.from c.args.to (rw (c.number-3.ensures, c.number-4.ensures) at c.in_ok-push.ensures.ok)
+    (levelled_more c.self.inside.edges c.push.new.self c.make_room.new.levels c.args.from c.args.to c.in_ok-push.ensures.ok
     c.make_room.ensures.levelled (rw (c.number.ensures, c.number-2.ensures) at c.in_ok-make_room.ensures.above) (rw c.number.ensures at c.in_ok-make_room.ensures.written)).falls

@@ -8,6 +8,6 @@ use Rattle.reg_graph.proofs.edges.Edges.above.Goals as goal
 
 pub returns : goal.returns
 returns c =
-    let part : c.range-key-items.result ≡ filter (range_contains key_cmp (Included (c.args.group, 0, 0)) (Included (c.args.group, 4294967295, 18446744073709551615))) c.self.inside.keys.keys = rw (c.new.ensures.start, c.new.ensures.end) at (c.range-key-items.ensures.between c.new.ensures.exhausted) in
+    let part : c.range-key-items.result ≡ filter (range_contains key_cmp (Included (c.args.group, 0, 0)) (Included (c.args.group, 4294967295, 18446744073709551615))) c.self.inside.keys.keys = rw (c.new-3.ensures.start, c.new-3.ensures.end, c.new-group.ensures, c.new.ensures, c.new-2.ensures, c.least.ensures, c.greatest.ensures) at (c.range-key-items.ensures.between c.new-3.ensures.exhausted) in
     let all : map deref c.loop-key.yielded ≡ c.range-key-items.result = search (rules, iter_end) in
     λ z. above_is c.args.group _ _ _ _ c.self.inside.next c.loop-key.invariant (all ∙ part) c.self.invariant c.self.view_is z

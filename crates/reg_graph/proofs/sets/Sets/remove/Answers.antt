@@ -5,4 +5,4 @@ pub invariant_of-self : goal.invariant_of-self
 invariant_of-self g c = kept_remove _ _ _ c.self.invariant c.remove.ensures.keys c.remove.ensures.ordered
 
 pub returns-clause-removed : goal.returns-clause-removed
-returns-clause-removed g c = rw (← c.self.view_is, ← c.number.ensures, ← c.number-2.ensures) (updates_remove _ _ _ _ c.remove.ensures.updates.0)
+returns-clause-removed g c = rw (← c.self.view_is) (updates_remove _ _ _ _ c.remove.ensures.updates.0)
