@@ -5,7 +5,7 @@ use Rattle.std.specs.List.{AllByRecursion}
 use Rattle.std.specs.declared.cmp.Ordering.TheVariants.{Less}
 use Rattle.reg_graph.specs.Sets.{pair_cmp}
 use Rattle.reg_graph.specs.Edges.{reaches, has_edge, among}
-use Rattle.reg_graph.specs.Levels.{planned, target, IsRising}
+use Rattle.reg_graph.specs.Levels.{planned, IsRising}
 use Rattle.reg_graph.proofs.Reaching.{reaches_self, reaches_trans, reaches_edge}
 use Rattle.reg_graph.proofs.Counting.{passing, passing_less}
 use Rattle.reg_graph.proofs.Orders.{Falls, less_trans, less_le, less_self, less_first, sources, in_universe}

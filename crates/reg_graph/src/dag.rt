@@ -107,16 +107,16 @@ fn with_above(
     alloc: Global,
     edges: &Edges,
     levels: &Levels,
-    node: u32,
+    node: GroupId,
 ) -> Result<Vec<GroupId>, AllocError>
     requires { IsLevelled edges.now levels.now }
     ensures { IfOk result (λ v. IsAbove edges.now node v.items) }
 {
     if edges.has_above(node) {
-        return climb(alloc, edges, levels, node);
+        return climb(alloc, edges, levels, node.number());
     }
     let mut alone = Vec::new(alloc);
-    alone.push(GroupId::new(node))?;
+    alone.push(node)?;
     Ok(alone)
 }
 
@@ -173,7 +173,7 @@ impl Dag {
         if !self.levels.has(from.number()) {
             return Ok(from == to);
         }
-        let above = with_above(self.alloc, &self.edges, &self.levels, to.number())?;
+        let above = with_above(self.alloc, &self.edges, &self.levels, to)?;
         Ok(above.contains(&from))
     }
 
@@ -196,6 +196,6 @@ impl Dag {
         ensures value { IfOk result (λ v. IsAbove self.now node v.items) }
         ensures acyclic { IsAcyclic self.now }
     {
-        with_above(self.alloc, &self.edges, &self.levels, node.number())
+        with_above(self.alloc, &self.edges, &self.levels, node)
     }
 }

@@ -47,5 +47,5 @@ returns-then-not-has-clause-acyclic c = let all : IsAcyclic c.self.inside.edges 
 
 pub returns-clause-path : goal.returns-clause-path
 returns-clause-path c =
-    let same : c.contains.result ≡ reaches c.args.self.now c.args.from c.args.to = c.contains.ensures.value ∙ rw c.deref.ensures.value (c.in_ok-above.ensures.each c.args.from ∙ rw (c.number-4.ensures, c.self.view_is) refl) in
+    let same : c.contains.result ≡ reaches c.args.self.now c.args.from c.args.to = c.contains.ensures.value ∙ rw c.deref.ensures.value (c.in_ok-above.ensures.each c.args.from ∙ rw c.self.view_is refl) in
     (λ t. path_from c.args.self.now c.args.from c.args.to (sym same ∙ t), λ p. same ∙ path_to c.args.self.now p.0 c.args.from c.args.to p.1)
