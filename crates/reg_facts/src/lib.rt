@@ -4,6 +4,7 @@
 mod accessors;
 mod by_extension;
 mod by_id;
+mod child_names;
 mod children;
 mod climbing;
 mod editing;
@@ -20,6 +21,7 @@ mod taking;
 mod text_index;
 
 pub use by_id::Place;
+pub use child_names::ChildNames;
 pub use children::Children;
 pub use facts::Facts;
 pub use naming::{extension_of, home_of, name_in, name_length};
