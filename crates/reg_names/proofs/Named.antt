@@ -7,19 +7,18 @@ use Rattle.reg_terms.specs.declared.kinds.Object.{Object}
 use Rattle.reg_facts.specs.Lists.{Lists}
 use Rattle.reg_facts.specs.Rows.{folder_row}
 use Rattle.reg_terms.specs.declared.rows.FolderRow.{FolderRow}
-use Rattle.reg_facts.specs.Naming.{Placed, placed, place_of, path, most_levels, resolve, name_of}
-use Rattle.reg_facts.specs.Sound.{IsSound, is_named}
-use Rattle.reg_facts.proofs.Standing.{extensions_at, extensions_none, name_none}
-use Rattle.reg_facts.proofs.Resolving.{resolve_names, names_resolve}
+use Rattle.reg_facts.specs.Named.{AreNamed}
+use Rattle.reg_facts.specs.Naming.{Placed, placed, place_of, path, most_levels, resolve, extensions, name_of}
+use Rattle.reg_facts.specs.Sound.{is_named}
 use Rattle.reg_names.specs.Colons.{with_colons}
 
 -- what a name names has it, and has a name
-pub some_named : (r : Option Object) (text : List ℕ) (f : Lists) → IsSound f → r ≡ resolve text f → IfSome r (λ o. (name_of o f ≡ text) × (is_named o f ≡ true))
-some_named None text f s h = tt
-some_named (Some o) text f s h = resolve_names text o f s (sym h)
+pub some_named : (r : Option Object) (text : List ℕ) (f : Lists) → AreNamed f → r ≡ resolve text f → IfSome r (λ o. (name_of o f ≡ text) × (is_named o f ≡ true))
+some_named None text f n h = tt
+some_named (Some o) text f n h = n.found text o (sym h)
 
-pub named_is : (r : Option Object) (text : List ℕ) (f : Lists) → IsSound f → r ≡ resolve text f → (o : Object) → is_named o f ≡ true → name_of o f ≡ text → r ≡ Some o
-named_is r text f s h o named name = h ∙ ap (λ t. resolve t f) (sym name) ∙ names_resolve o f s named
+pub named_is : (r : Option Object) (text : List ℕ) (f : Lists) → AreNamed f → r ≡ resolve text f → (o : Object) → is_named o f ≡ true → name_of o f ≡ text → r ≡ Some o
+named_is r text f n h o named name = h ∙ ap (λ t. resolve t f) (sym name) ∙ n.finds o named
 
 -- one level more
 pub colons_push : (es : List (List ℕ)) (e : List ℕ) → with_colons (es ++ e ∷ []) ≡ with_colons es ++ e ++ 58 ∷ []
@@ -37,9 +36,12 @@ abbrev named : List (List ℕ) → List ℕ
 named es = elim es [ [] ↦ codes ":" | x ∷ xs ↦ join_with_byte 58 (x ∷ xs) ]
 
 -- the name of what stands in a folder
+at_path : (o : Object) (p : Placed) (f : Lists) → place_of o (placed f) ≡ Some p → name_of o f ≡ named (path most_levels p.folder f.folders ++ p.extension ∷ [])
+unfolding name_of extensions
+at_path o p f at = rw (at, extensions, name_of)
+
 pub name_in_path : (o : Object) (p : Placed) (f : Lists) → place_of o (placed f) ≡ Some p → name_of o f ≡ with_colons (path most_levels p.folder f.folders) ++ p.extension
-unfolding name_of
-name_in_path o p f at = ap named (extensions_at o f p at) ∙ whole (path most_levels p.folder f.folders)
+name_in_path o p f at = at_path o p f at ∙ whole (path most_levels p.folder f.folders)
   where
     whole : (es : List (List ℕ)) → named (es ++ p.extension ∷ []) ≡ with_colons es ++ p.extension
     whole [] = refl
@@ -47,7 +49,8 @@ name_in_path o p f at = ap named (extensions_at o f p at) ∙ whole (path most_l
 
 -- and of what stands in none
 pub name_nowhere : (o : Object) (f : Lists) → place_of o (placed f) ≡ None → name_of o f ≡ codes ":"
-name_nowhere o f none = name_none o f (extensions_none o f none)
+unfolding name_of extensions
+name_nowhere o f none = rw (none, extensions, name_of)
 
 -- the way to a folder by its row
 path_up : (n d p : ℕ) (row : FolderRow) (fs : List FolderRow) → folder_row d fs ≡ Some row → row.parent ≡ Some p → path (suc n) d fs ≡ path n p fs ++ row.extension ∷ []

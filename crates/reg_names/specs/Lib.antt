@@ -1,2 +1,3 @@
 pub mod Colons
 pub mod Scopes
+pub mod Index

@@ -14,6 +14,6 @@ pub fn resolve(names: &Names, facts: &Facts, text: &str) -> Option<Object>
     ensures by_name { (o : Object) → is_named o facts.now ≡ true → name_of o facts.now ≡ text.now → result ≡ Some o }
 {
     let _ = names;
-    facts.law_sound();
+    facts.law_names();
     facts.resolve(text)
 }
