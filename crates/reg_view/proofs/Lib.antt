@@ -1,4 +1,4 @@
 pub mod InOrder
-pub mod Puts
+pub mod Listed
 pub mod Members
 pub mod Named

@@ -3,7 +3,6 @@
 
 mod asking;
 mod listing;
-mod ordered;
 mod rows;
 
 pub use asking::ask;

@@ -1,8 +1,0 @@
-use Rattle.std.proofs.Common.{◌≡◌, drop}
-use Rattle.reg_view.specs.Ordered.{ordered, ordered_into}
-use Rattle.reg_view.specs.Answers.{attribute_names}
-use Rattle.reg_view.proofs.listing.attribute_names.Given as goal
-
--- the names of the rows that are left, put among those so far, are all
-abbrev pub invariant-loop-row : goal.invariant-loop-row
-invariant-loop-row l = ordered_into l.names (attribute_names l.folder l.home (drop l.row-index l.row-items)) ≡ ordered (attribute_names l.folder l.home l.facts.attributes)
