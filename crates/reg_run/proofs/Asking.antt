@@ -1,41 +1,33 @@
--- What is kept after one question.
-use Rattle.std.proofs.Common.{◌≡◌, Result, List, refl, ap, sym, ◌∙◌, subst, arith, inl, inr, ◌⊎◌, ℕ}
-use Rattle.std.specs.Prelude.{IfSome, length, ◌≤◌}
-use Rattle.reg_terms.specs.declared.command.Stamped.{Stamped}
+-- What one question keeps, and what is replied.
+use Rattle.std.proofs.Common.{◌≡◌, ◌∙◌, Result, refl, ap, inl, inr, ◌⊎◌, ℕ, List, Bool, true, false}
+use Rattle.reg_base.specs.Names.{is_name}
 use Rattle.reg_terms.specs.declared.refusal.Refusal.{Refusal}
 use Rattle.reg_terms.specs.declared.request.Request.{Request}
 use Rattle.reg_terms.specs.declared.reply.Reply.{Reply}
+use Rattle.reg_terms.specs.declared.reply.Reply.TheVariants as reply
 use Rattle.reg_machine.specs.History.{State}
-use Rattle.reg_keep.specs.declared.keeper.Keeper.{Ghosts}
-use Rattle.reg_service.specs.Turn.{Follows, Turns}
-use Rattle.reg_service.specs.Opening.{Served}
-use Rattle.reg_service.specs.Kept.{KeptOn, Halted, KeepsNext, Began, RoseAt}
+use Rattle.reg_service.specs.Turn.{AsksNoChange, Follows, turn, last_reply}
+use Rattle.reg_service.specs.Kept.{LeavesKeeper, keeper_of}
 use Rattle.reg_service.specs.declared.service.Next.{Next}
 use Rattle.reg_service.specs.declared.service.Next.TheVariants as next
-use Rattle.reg_service.specs.declared.service.Cause.{Cause}
-use Rattle.reg_service.specs.declared.service.Cause.TheVariants as cause
+use Rattle.reg_run.specs.Ends.{name_reading}
 
--- what follows a request, as it goes on
-pub next_kept : {K : Type 0} (g : Ghosts K) (before expected : List Stamped) (old : K) (n : Next K) (s : Served K) → KeepsNext g before expected old n → n ≡ next.Go s → KeptOn g before old s.state.history s.keeper
-next_kept g before expected old n s kept is = subst (KeepsNext g before expected old) is kept
+-- the keeper that is given back
+pub left_keeper : {K : Type 0} (old : K) (n : Next K) → LeavesKeeper old n → keeper_of n ≡ old
+left_keeper old (next.Go s) same = same
+left_keeper old (next.Stop why keeper) same = same.0
 
--- as it stops where nothing was to be kept
-pub next_same : {K : Type 0} (g : Ghosts K) (before expected : List Stamped) (old : K) (n : Next K) (why : Cause) (k : K) → KeepsNext g before expected old n → n ≡ next.Stop why k → expected ≡ before
-    → (h : Halted g before old k) × (h.after ≡ before)
-next_same g before expected old n why k kept is same =
-    let all : KeepsNext g before expected old (next.Stop why k) = subst (KeepsNext g before expected old) is kept in
-    let after : all.0 ≡ before = unchanged why all.0 all.1 in
-    (record { answered = before; after = all.0; first = omega arith; last = inl after; kept = all.2; stopped = all.3 }, after)
+-- the reply is the turn's, or that there was no memory
+pub told_or_none : {K : Type 0} (s : State) (m : ℕ) (reading : Result Request Refusal) (old : K) (told : Reply) (n : Next K) → Follows s m reading (told, n) → LeavesKeeper old n
+    → (told ≡ (turn s m reading).0) ⊎ (told ≡ reply.NoMemory)
+told_or_none s m reading old told (next.Go after) (inl e) same = inl (ap (λ (p : Reply × State). p.0) e)
+told_or_none s m reading old told (next.Go after) (inr w) same = inr w.fault
+told_or_none s m reading old told (next.Stop why keeper) is same = inr (is ∙ ap last_reply same.1)
+
+-- the name of a group asks for no change
+pub name_asks : (name : List ℕ) → AsksNoChange (name_reading name)
+name_asks name = by_name (is_name name) refl
   where
-    unchanged : (why : Cause) (x : List Stamped) → Began why before expected x → x ≡ before
-    unchanged cause.Memory x e = e
-    unchanged cause.Disk x (inl e) = e
-    unchanged cause.Disk x (inr e) = e ∙ same
-
-pub next_cause : {K : Type 0} (g : Ghosts K) (before expected : List Stamped) (old : K) (n : Next K) (why : Cause) (k : K) → KeepsNext g before expected old n → n ≡ next.Stop why k → RoseAt why (g.keep_faults old) (g.keep_faults k)
-next_cause g before expected old n why k kept is =
-    let all : KeepsNext g before expected old (next.Stop why k) = subst (KeepsNext g before expected old) is kept in all.4
-
--- and what was replied
-pub follows_go : {K : Type 0} (s : State) (after : Served K) (m : ℕ) (reading : Result Request Refusal) (r : Reply × Next K) → Follows s m reading r → r.1 ≡ next.Go after → Turns s m reading r.0 after.state
-follows_go s after m reading (told, following) f e = rw e at f
+    by_name : (b : Bool) → is_name name ≡ b → AsksNoChange (name_reading name)
+    by_name true e = rw e tt
+    by_name false e = rw e tt

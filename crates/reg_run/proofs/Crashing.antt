@@ -15,7 +15,7 @@ use Rattle.reg_keep.specs.declared.journal.Journal.{Journal}
 use Rattle.reg_keep.specs.Stops.{Stop}
 use Rattle.reg_service.specs.Opening.{opens, at_last, FrontsReopen, judged_all}
 use Rattle.reg_service.specs.Kept.{IsBetween, IsOneMore}
-use Rattle.reg_run.specs.Crash.{AsBefore, OpensWith, IsNear, IsSound, Survives, StaysAt, Begins, IsUntouched, DiskSurvives, seen}
+use Rattle.reg_run.specs.Crash.{AsBefore, OpensWith, IsNear, IsSound, IsWhole, Survives, StaysAt, Begins, IsUntouched, DiskSurvives, seen}
 use Rattle.reg_run.proofs.Opened.{opens_by}
 
 -- an image after no change is one from before
@@ -149,10 +149,15 @@ answered_front before answered after more grown first last =
     front (inl e) = ap (λ (l : List Stamped). take (length answered) l) e ∙ take_all (length answered) answered (omega arith)
     front (inr p) = ap (λ (l : List Stamped). take (length answered) l) p.1 ∙ take_at answered (p.0 ∷ []) (length answered) refl
 
+-- what is true of each image is true of the bytes
+each_some : {P Q : List ℕ → Type 0} (o : Option (List ℕ)) → IfSome o P → ((c : List ℕ) → P c → Q c) → IfSome o Q
+each_some None p each = tt
+each_some (Some c) p each = each c p
+
 -- a disk that was opened, and then written by a service
 pub survives_kept : {D : Type 0} (g : Ghosts D) (before answered after more : List Stamped) (status : ℕ) (old mid new : D) → Changes g.moment g.may_leave g.left_since Same old mid
     → ((c : List ℕ) → g.left_since old (g.moment old) c → g.may_leave old c) → g.contents mid ≡ g.contents old → IfSome (g.contents new) (g.may_leave new)
-    → after ≡ before ++ more → length before ≤ length answered → IsOneMore answered after → (status ≡ 0 → answered ≡ after) → IfSome (g.contents mid) (λ file. StopsRun g before answered after mid new)
+    → after ≡ before ++ more → length before ≤ length answered → IsOneMore answered after → (IsWhole status → answered ≡ after) → IfSome (g.contents mid) (λ file. StopsRun g before answered after mid new)
     → IfSome (g.contents old) (λ file. Survives before more (length answered - length before) status (g.contents old) (g.may_leave old) (g.contents new) (g.may_leave new) (g.left_since new (g.moment old)))
 survives_kept {D = D} g before answered after more status old mid new same only held read grown first last whole stops =
     survives (g.contents old) (subst (λ (o : Option (List ℕ)). IfSome o (λ file. StopsRun g before answered after mid new)) held stops)
@@ -165,8 +170,10 @@ survives_kept {D = D} g before answered after more status old mid new same only 
     run s = record {
       few = (least, most);
       always = λ c left. either c (s.since (g.moment old) (payloads_in c) same.later (c, left, refl));
-      now = λ c here. inr (now c here);
+      now = now;
+      bytes = each_some (g.contents new) read now;
       done = all;
+      whole = λ is. each_some (g.contents new) read (all is);
       sound = λ was. sound_of before more (length answered - length before) (g.contents new) (g.may_leave new) least most read now;
     }
       where
@@ -190,7 +197,7 @@ survives_kept {D = D} g before answered after more status old mid new same only 
         now : (c : List ℕ) → g.may_leave new c → OpensWith before more (length answered - length before) c
         now c here = from_front before answered after more c grown first (s.now c here)
 
-        all : status ≡ 0 → (c : List ℕ) → g.may_leave new c → opens c ≡ Ok (at_last (before ++ more))
+        all : IsWhole status → (c : List ℕ) → g.may_leave new c → opens c ≡ Ok (at_last (before ++ more))
         all is c here =
             let o = now c here in
             let same_count : length answered ≡ length after = ap (λ (l : List Stamped). length l) (whole is) in

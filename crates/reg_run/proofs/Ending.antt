@@ -1,46 +1,43 @@
 -- How a run ends, from how its parts did.
-use Rattle.std.proofs.Common.{◌≡◌, ◌≤◌, ◌^◌, ◌++◌, List, ℕ, Bool, Option, Some, None, Result, Ok, Err, true, false, refl, ap, sym, subst, ◌∙◌, arith, max, take, ◌⊎◌, inl, inr}
+use Rattle.std.proofs.Common.{◌≡◌, ◌≤◌, ◌<◌, ◌^◌, ◌++◌, [], append-nil, length, List, ℕ, Bool, Option, Some, None, Result, Ok, Err, true, false, refl, ap, sym, subst, ◌∙◌, arith, max, take, ◌⊎◌, inl, inr}
 use Rattle.std.specs.Prelude.{IfSome}
-use Rattle.std.specs.Io.KnownBytes.{append_known}
+use Rattle.std.specs.Io.KnownBytes.{append_known, prepend_known, IsAtEnd}
 use Rattle.reg_outside.specs.Faults.{Rose}
-use Rattle.reg_outside.specs.Streams.{first_moment}
+use Rattle.reg_outside.specs.Streams.{first_moment, WritesFront}
 use Rattle.reg_base.specs.Names.{is_name}
 use Rattle.reg_terms.specs.declared.command.Stamped.{Stamped}
 use Rattle.reg_terms.specs.declared.refusal.Refusal.{Refusal}
 use Rattle.reg_terms.specs.declared.query.Query.TheVariants as query
 use Rattle.reg_terms.specs.declared.query.Answer.{Answer}
 use Rattle.reg_terms.specs.declared.reply.Reply.{Reply}
+use Rattle.reg_terms.specs.declared.reply.Reply.TheVariants as reply
 use Rattle.reg_machine.specs.History.{State, facts}
 use Rattle.reg_view.specs.Answers.{answer_of}
-use Rattle.reg_service.specs.Kept.{RoseAt}
-use Rattle.reg_service.specs.Turn.{turn, Turns, answered}
-use Rattle.reg_service.specs.declared.service.Cause.{Cause}
-use Rattle.reg_service.specs.declared.service.Cause.TheVariants as cause
+use Rattle.reg_service.specs.Turn.{turn, answered}
+use Rattle.reg_session.specs.Answered.{Point}
+use Rattle.reg_session.specs.Lines.{lines, IsCutAtLineFeeds}
 use Rattle.reg_session.specs.Replies.{line_of}
-use Rattle.reg_session.specs.Input.{EndsInput}
-use Rattle.reg_session.specs.Stops.{stop_of}
+use Rattle.reg_session.specs.Input.{EndsInput, Takes}
 use Rattle.reg_session.specs.declared.stop.Stop.{Stop}
 use Rattle.reg_session.specs.declared.stop.Stop.TheVariants as stop
 use Rattle.reg_run.specs.Status.{status_of}
-use Rattle.reg_run.specs.Ends.{Asked, StopCaused, IsFlushed, Printed, ApplyEnds, MembersEnds, Replied, begins_at, name_reading, end_of_reply, end_of_stop, is_refused}
-use Rattle.reg_run.specs.World.{World}
+use Rattle.reg_run.specs.Crash.{Seen, DiskSurvives, IsWhole}
+use Rattle.reg_run.specs.Ends.{Asked, IsFlushed, Printed, ApplyEnds, DidApply, MembersEnds, Replied, RepliedFront, TooMuchExactly, begins_at, name_reading, end_of_reply, end_of_stop, is_refused}
+use Rattle.reg_run.specs.World.{World, Out, output}
 use Rattle.reg_run.specs.declared.task.End.{End}
 use Rattle.reg_run.specs.declared.task.End.TheVariants as the_end
-
-rose_from : (a b c : ℕ) → a ≤ b → Rose b c → Rose a c
-rose_from a b c le rose = omega arith
 
 -- answering the lines stopped
 pub apply_stopped : (s : Stop) (from : State) (taken : List ℕ) (before after : World) (more : List Stamped) (n : ℕ) (answered kept : List Stamped) → (s ≡ stop.Input → Rose before.reads after.reads)
     → (s ≡ stop.Output → Rose before.writes after.writes) → (s ≡ stop.Disk → Rose before.faults after.faults) → from.history ++ take n more ≡ answered → kept ≡ from.history ++ more
-    → EndsInput (begins_at before from) taken after.left after.written answered kept s → ApplyEnds (end_of_stop s) from taken before after more (from.history ++ take n more)
+    → EndsInput (begins_at before from) taken after.left after.written after.flushed answered kept s → ApplyEnds (end_of_stop s) from taken before after more (from.history ++ take n more)
 apply_stopped s from taken before after more n answered kept input output disk front grown ends =
     cases s input output disk
-    (subst (λ (l : List Stamped). EndsInput (begins_at before from) taken after.left after.written (from.history ++ take n more) l s) grown
-    (subst (λ (l : List Stamped). EndsInput (begins_at before from) taken after.left after.written l kept s) (sym front) ends))
+    (subst (λ (l : List Stamped). EndsInput (begins_at before from) taken after.left after.written after.flushed (from.history ++ take n more) l s) grown
+    (subst (λ (l : List Stamped). EndsInput (begins_at before from) taken after.left after.written after.flushed l kept s) (sym front) ends))
   where
     cases : (s : Stop) → (s ≡ stop.Input → Rose before.reads after.reads) → (s ≡ stop.Output → Rose before.writes after.writes) → (s ≡ stop.Disk → Rose before.faults after.faults)
-        → EndsInput (begins_at before from) taken after.left after.written (from.history ++ take n more) (from.history ++ more) s → ApplyEnds (end_of_stop s) from taken before after more (from.history ++ take n more)
+        → EndsInput (begins_at before from) taken after.left after.written after.flushed (from.history ++ take n more) (from.history ++ more) s → ApplyEnds (end_of_stop s) from taken before after more (from.history ++ take n more)
     cases stop.Memory input output disk e = e
     cases stop.Disk input output disk e = (disk refl, e)
     cases stop.Input input output disk e = (input refl, e)
@@ -63,6 +60,7 @@ replied : (moments : Option (List ℕ)) (s : State) (m : ℕ) (name : List ℕ) 
 replied None s m name b w w2 f is r = tt
 replied (Some ms) s m name b w w2 f is r = (rw (← f) is, rw (← f) r)
 
+-- the turn's reply was printed whole
 told_ends : (name : List ℕ) (end : End) (before after : World) (s : State) (m : ℕ) (told : Reply) → IfSome before.moments (λ ms. m ≡ first_moment ms)
     → told ≡ (turn s m (name_reading name)).0 → end ≡ end_of_reply told → after.written ≡ append_known before.written (line_of told) → IsFlushed after
     → (end_of_reply (turn s m (name_reading name)).0 ≡ the_end.Done) × (is_refused (turn s m (name_reading name)).0 ≡ false) ⊎ (end_of_reply (turn s m (name_reading name)).0 ≡ the_end.Refused) × (is_refused (turn s m (name_reading name)).0 ≡ true)
@@ -76,54 +74,113 @@ told_ends name end before after s m told first is of wrote flushed (inr k) =
     let written : after.written ≡ append_known before.written (line_of (turn s m (name_reading name)).0) = wrote ∙ ap (λ (r : Reply). append_known before.written (line_of r)) is in
     rw done (replied before.moments s m name true before.written after.written first written k.1, flushed)
 
-printed_ends : (name : List ℕ) (end : End) (before after : World) (s last : State) (m : ℕ) (told : Reply) → IfSome before.moments (λ ms. m ≡ first_moment ms)
-    → Turns s m (name_reading name) told last → end ≡ end_of_reply told → after.written ≡ append_known before.written (line_of told) → IsFlushed after → MembersEnds name end s before after
-printed_ends name end before after s last m told first (inl e) of wrote flushed =
-    told_ends name end before after s m told first (ap (λ (p : Reply × State). p.0) e) of wrote flushed (told_name s m name (is_name name) refl)
-printed_ends name end before after s last m told first (inr w) of wrote flushed =
-    let memory : end ≡ the_end.Memory = of ∙ ap end_of_reply w.fault in rw memory tt
+-- a front of it was
+front_moment : (moments : Option (List ℕ)) (s : State) (m : ℕ) (name : List ℕ) (told : Reply) (w w2 : Option (List ℕ)) → IfSome moments (λ ms. m ≡ first_moment ms) → told ≡ (turn s m (name_reading name)).0
+    → WritesFront w w2 (line_of told) → IfSome moments (λ ms. WritesFront w w2 (line_of (turn s (first_moment ms) (name_reading name)).0))
+front_moment None s m name told w w2 first is front = tt
+front_moment (Some ms) s m name told w w2 first is front = rw (← first) (subst (λ (r : Reply). WritesFront w w2 (line_of r)) is front)
 
-members_ends : (name : List ℕ) (end : End) (before after : World) (s last : State) (m : ℕ) (told : Reply) → IfSome before.moments (λ ms. m ≡ first_moment ms)
-    → Turns s m (name_reading name) told last → Printed (end_of_reply told) (line_of told) end before.written before.writes after.written after.flushed after.writes → MembersEnds name end s before after
-members_ends name end before after s last m told first t (inl p) = printed_ends name end before after s last m told first t p.0 p.1 p.2
-members_ends name end before after s last m told first t (inr (inl p)) = rw p.0 p.1
-members_ends name end before after s last m told first t (inr (inr p)) = rw p.0 tt
+replied_front : (name : List ℕ) (before after : World) (s : State) (m : ℕ) (told : Reply) → IfSome before.moments (λ ms. m ≡ first_moment ms) → (told ≡ (turn s m (name_reading name)).0) ⊎ (told ≡ reply.NoMemory)
+    → WritesFront before.written after.written (line_of told) → RepliedFront (name_reading name) s before after
+replied_front name before after s m told first (inl is) front = inl (front_moment before.moments s m name told before.written after.written first is front)
+replied_front name before after s m told first (inr is) front = inr (subst (λ (r : Reply). WritesFront before.written after.written (line_of r)) is front)
+
+members_ends : (name : List ℕ) (end : End) (before after : World) (s : State) (m : ℕ) (told : Reply) → IfSome before.moments (λ ms. m ≡ first_moment ms)
+    → (told ≡ (turn s m (name_reading name)).0) ⊎ (told ≡ reply.NoMemory) → Printed (end_of_reply told) (line_of told) end (output before) (output after) → MembersEnds name end s before after
+members_ends name end before after s m told first (inl is) (inl p) = told_ends name end before after s m told first is p.0 p.1 p.2 (told_name s m name (is_name name) refl)
+members_ends name end before after s m told first (inr is) (inl p) =
+    let memory : end ≡ the_end.Memory = p.0 ∙ ap end_of_reply is in
+    rw memory (inl (p.1 ∙ ap (λ (r : Reply). append_known before.written (line_of r)) is, p.2))
+members_ends name end before after s m told first t (inr (inl p)) = rw p.0 (p.1, replied_front name before after s m told first t p.2, p.3)
+members_ends name end before after s m told first t (inr (inr p)) = rw p.0 (inr (ap (λ (o : Out). o.written) p.1, ap (λ (o : Out). o.flushed) p.1, ap (λ (o : Out). o.writes) p.1))
 
 -- a service was asked
-pub asked_ends : (name : List ℕ) (end : End) (before after : World) (s last : State)
-    → Asked s before.moments (name_reading name) last end before.written before.writes after.written after.flushed after.writes → MembersEnds name end s before after
-asked_ends name end before after s last a = members_ends name end before after s last a.at a.told a.moment a.turn a.printed
+pub asked_ends : (name : List ℕ) (end : End) (before after : World) (s : State) → Asked s before.moments (name_reading name) end (output before) (output after) → MembersEnds name end s before after
+asked_ends name end before after s a = members_ends name end before after s a.at a.told a.moment a.turn a.printed
 
--- or stopped
-pub asked_stopped : (name : List ℕ) (end : End) (before after : World) (s : State) (k k2 : ℕ) → before.faults ≤ k → after.faults ≡ k2 → StopCaused end k k2 → MembersEnds name end s before after
-asked_stopped name end before after s k k2 le same (inl e) = rw e tt
-asked_stopped name end before after s k k2 le same (inr p) = rw (p.0, same) (rose_from before.faults k k2 le p.1)
+-- where the input ended, failed or was too much, all that was accepted was answered
+three : IsWhole 3 → ⊥
+three (inl e) = absurd (omega arith)
+three (inr (inl e)) = absurd (omega arith)
+three (inr (inr e)) = absurd (omega arith)
 
--- what a service's cause is to a run
-pub stop_caused : (why : Cause) (before after : ℕ) → RoseAt why before after → StopCaused (end_of_stop (stop_of why)) before after
-stop_caused cause.Memory before after rose = inl refl
-stop_caused cause.Disk before after rose = inr (refl, rose)
+four : IsWhole 4 → ⊥
+four (inl e) = absurd (omega arith)
+four (inr (inl e)) = absurd (omega arith)
+four (inr (inr e)) = absurd (omega arith)
 
--- such ends have no status 0
-pub stop_status : (s : Stop) → status_of (end_of_stop s) ≡ 0 → ⊥
-stop_status stop.Memory e = absurd (omega arith)
-stop_status stop.Disk e = absurd (omega arith)
-stop_status stop.Input e = absurd (omega arith)
-stop_status stop.Output e = absurd (omega arith)
-stop_status stop.TooMuch e = absurd (omega arith)
+six : IsWhole 6 → ⊥
+six (inl e) = absurd (omega arith)
+six (inr (inl e)) = absurd (omega arith)
+six (inr (inr e)) = absurd (omega arith)
 
-pub caused_status : (end : End) (before after : ℕ) → StopCaused end before after → status_of end ≡ 0 → ⊥
-caused_status end before after (inl is) e = let three : status_of end ≡ 3 = ap status_of is in absurd (omega (arith, three, e))
-caused_status end before after (inr is) e = let four : status_of end ≡ 4 = ap status_of is.0 in absurd (omega (arith, four, e))
+pub stop_whole : (s : Stop) (p : Point) (taken : List ℕ) (left w : Option (List ℕ)) (f : Option ℕ) (answered after : List Stamped) → EndsInput p taken left w f answered after s
+    → IsWhole (status_of (end_of_stop s)) → answered ≡ after
+stop_whole stop.Memory p taken left w f answered after e is = absurd (three is)
+stop_whole stop.Disk p taken left w f answered after e is = absurd (four is)
+stop_whole stop.Input p taken left w f answered after e is = e.0.done ∙ sym e.0.kept
+stop_whole stop.Output p taken left w f answered after e is = absurd (six is)
+stop_whole stop.TooMuch p taken left w f answered after e is = e.0.done ∙ sym e.0.kept
 
--- the name of a group asks for a query, which adds nothing
-pub name_keeps : (s : State) (m : ℕ) (name : List ℕ) → (turn s m (name_reading name)).1.history ≡ s.history
-name_keeps s m name = by_name (is_name name) refl
-  where
-    by_name : (b : Bool) → is_name name ≡ b → (turn s m (name_reading name)).1.history ≡ s.history
-    by_name true e = rw e refl
-    by_name false e = rw e refl
+-- an input that ended with fewer bytes had no more
+all_given : {Q : Type 0} (left now : Option (List ℕ)) (taken : List ℕ) → left ≡ prepend_known taken now → IsAtEnd now → length taken < 2 ^ 32 → IfSome left (λ bytes. 2 ^ 32 ≤ length bytes → Q)
+all_given left None taken is ended few = rw is tt
+all_given left (Some rest) taken is ended few = let none : rest ≡ [] = ended in rw (is, none, append-nil taken) (λ many. absurd (omega (arith, few, many)))
 
-pub name_turns : (s last : State) (m : ℕ) (name : List ℕ) (told : Reply) → Turns s m (name_reading name) told last → last.history ≡ s.history
-name_turns s last m name told (inl e) = ap (λ (p : Reply × State). p.1.history) e ∙ name_keeps s m name
-name_turns s last m name told (inr w) = w.history
+any_given : {Q : List ℕ → Type 0} (left : Option (List ℕ)) → ((bytes : List ℕ) → Q bytes) → IfSome left Q
+any_given None each = tt
+any_given (Some bytes) each = each bytes
+
+-- where too much was taken
+too_much_of : (end : End) (from : State) (taken : List ℕ) (before after : World) (accepted answered : List Stamped) → Takes before.left taken after.left → ApplyEnds end from taken before after accepted answered
+    → TooMuchExactly end taken before after
+too_much_of the_end.Done from taken before after accepted answered input e = record {
+  only = λ is. absurd (cc);
+  where_taken = λ none is. absurd (omega (arith, e.few, is));
+  where_given = λ none. all_given before.left after.left taken input e.ended e.few;
+}
+too_much_of the_end.Usage from taken before after accepted answered input e = elim e [ ]
+too_much_of the_end.Memory from taken before after accepted answered input e = record {
+  only = λ is. absurd (cc);
+  where_taken = λ none is. inr refl;
+  where_given = λ none. any_given before.left (λ bytes many. inr refl);
+}
+too_much_of the_end.Disk from taken before after accepted answered input e = record {
+  only = λ is. absurd (cc);
+  where_taken = λ none is. absurd (none.disk e.0);
+  where_given = λ none. absurd (none.disk e.0);
+}
+too_much_of the_end.Input from taken before after accepted answered input e = record {
+  only = λ is. absurd (cc);
+  where_taken = λ none is. absurd (none.input e.0);
+  where_given = λ none. absurd (none.input e.0);
+}
+too_much_of the_end.Output from taken before after accepted answered input e = record {
+  only = λ is. absurd (cc);
+  where_taken = λ none is. absurd (none.output e.0);
+  where_given = λ none. absurd (none.output e.0);
+}
+too_much_of (the_end.Damaged at) from taken before after accepted answered input e = elim e [ ]
+too_much_of the_end.TooMuch from taken before after accepted answered input e = record {
+  only = λ is. e.2;
+  where_taken = λ none is. inl refl;
+  where_given = λ none. any_given before.left (λ bytes many. inl refl);
+}
+too_much_of the_end.Exists from taken before after accepted answered input e = elim e [ ]
+too_much_of the_end.Refused from taken before after accepted answered input e = elim e [ ]
+
+-- what `apply` did, from how it ended and what it left
+pub did_apply : (d : Seen) (end : End) (before after : World) (from : State) (taken : List ℕ) → Takes before.left taken after.left → length taken ≤ 2 ^ 32 → IsCutAtLineFeeds (lines taken) taken
+    → (accepted : List Stamped) (answered : ℕ) → ApplyEnds end from taken before after accepted (from.history ++ take answered accepted) → DiskSurvives d from.history accepted answered (status_of end)
+    → DidApply d end before after from
+did_apply d end before after from taken input few cut accepted answered ends disk = record {
+  taken = taken;
+  input = input;
+  few = few;
+  cut = cut;
+  accepted = accepted;
+  answered = answered;
+  ends = ends;
+  too_much = too_much_of end from taken before after accepted (from.history ++ take answered accepted) input ends;
+  disk = disk;
+}

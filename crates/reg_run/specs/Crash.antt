@@ -25,6 +25,10 @@ pub record IsSound (held : Option (List ℕ)) (images : List ℕ → Type 0) (hi
   pub bytes : IfSome held (λ file. opens file ≡ Ok (at_last history))
   pub near : (c : List ℕ) → images c → (other : List Stamped) × IsNear history other × (opens c ≡ Ok (at_last other))
 
+-- a run ended at its input's end, or where that failed or there was too much of it: at status 0, 5 or 9
+abbrev pub IsWhole : ℕ → Type 0
+IsWhole status = (status ≡ 0) ⊎ ((status ≡ 5) ⊎ (status ≡ 9))
+
 -- What a run leaves that began at a history, accepted these commands after it, and answered all of them but perhaps the
 -- last. Its disk held these bytes and might leave these images before, and does those now.
 pub record Survives (before accepted : List Stamped) (answered status : ℕ) (held : Option (List ℕ)) (was : List ℕ → Type 0) (left : Option (List ℕ)) (images since : List ℕ → Type 0) : Type 0 where
@@ -32,9 +36,13 @@ pub record Survives (before accepted : List Stamped) (answered status : ℕ) (he
   -- at any moment since the start a crash leaves what it might have left before, or a front of the accepted commands
   pub always : (c : List ℕ) → since c → AsBefore was c ⊎ OpensWith before accepted 0 c
   -- now it leaves all that were answered
-  pub now : (c : List ℕ) → images c → ((accepted ≡ []) × AsBefore was c) ⊎ OpensWith before accepted answered c
-  -- at status 0 it leaves all that were accepted
-  pub done : status ≡ 0 → (c : List ℕ) → images c → opens c ≡ Ok (at_last (before ++ accepted))
+  pub now : (c : List ℕ) → images c → OpensWith before accepted answered c
+  -- and so do the bytes
+  pub bytes : IfSome left (OpensWith before accepted answered)
+  -- at status 0, 5 and 9 it leaves all that were accepted
+  pub done : IsWhole status → (c : List ℕ) → images c → opens c ≡ Ok (at_last (before ++ accepted))
+  -- and so do the bytes
+  pub whole : IsWhole status → IfSome left (λ file. opens file ≡ Ok (at_last (before ++ accepted)))
   -- a sound disk stays sound
   pub sound : IsSound held was before → (n : ℕ) × (answered ≤ n) × (n ≤ length accepted) × IsSound left images (before ++ take n accepted)
 

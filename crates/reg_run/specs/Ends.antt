@@ -2,7 +2,7 @@
 use Rattle.std.specs.Prelude.{◌≡◌, ◌⊎◌, ◌<◌, ◌≤◌, ◌^◌, ◌++◌, ℕ, List, [], Bool, true, false, Option, Some, None, Result, Ok, Err, codes, length, take, option_map, IfSome, if◌then◌else◌}
 use Rattle.std.specs.Io.KnownBytes.{append_known, IsAtEnd}
 use Rattle.reg_outside.specs.Faults.{Rose}
-use Rattle.reg_outside.specs.Streams.{first_moment, WritesFront}
+use Rattle.reg_outside.specs.Streams.{first_moment, later_moments, WritesFront}
 use Rattle.reg_outside.specs.declared.disk.Disk.{Ghosts}
 use Rattle.reg_base.specs.Names.{is_name}
 use Rattle.reg_base.specs.declared.entity.Entity.TheVariants.{System}
@@ -20,7 +20,7 @@ use Rattle.reg_keep.specs.Frames.{journal_bytes}
 use Rattle.reg_keep.specs.declared.open.OpenFault.{OpenFault}
 use Rattle.reg_keep.specs.declared.open.OpenFault.TheVariants as fault
 use Rattle.reg_service.specs.Opening.{opens, at_last}
-use Rattle.reg_service.specs.Turn.{turn, Turns}
+use Rattle.reg_service.specs.Turn.{turn}
 use Rattle.reg_session.specs.Lines.{lines, IsCutAtLineFeeds}
 use Rattle.reg_session.specs.Replies.{line_of}
 use Rattle.reg_session.specs.Answered.{Point, Accepted}
@@ -29,7 +29,7 @@ use Rattle.reg_session.specs.declared.stop.Stop.{Stop}
 use Rattle.reg_session.specs.declared.stop.Stop.TheVariants as stop
 use Rattle.reg_run.specs.Crash.{Seen, seen, IsUntouched, DiskSurvives, DiskBegins}
 use Rattle.reg_run.specs.Status.{check_line, status_of}
-use Rattle.reg_run.specs.World.{World}
+use Rattle.reg_run.specs.World.{World, Out, output}
 use Rattle.reg_run.specs.declared.task.Task.{Task}
 use Rattle.reg_run.specs.declared.task.Task.TheVariants as task
 use Rattle.reg_run.specs.declared.task.End.{End}
@@ -42,6 +42,10 @@ SameInput before after = (after.left ≡ before.left) × (after.reads ≡ before
 -- nothing was written
 abbrev pub SameOutput : World → World → Type 0
 SameOutput before after = (after.written ≡ before.written) × (after.flushed ≡ before.flushed) × (after.writes ≡ before.writes)
+
+-- the clock was looked at once
+abbrev pub LookedOnce : World → World → Type 0
+LookedOnce before after = after.moments ≡ option_map later_moments before.moments
 
 -- the clock wasn't looked at
 abbrev pub SameClock : World → World → Type 0
@@ -111,6 +115,7 @@ pub record AppliedAll (from : State) (taken : List ℕ) (before after : World) (
   pub to : Point
   pub all : Accepted (begins_at before from) (lines taken) to accepted
   pub written : after.written ≡ to.written
+  pub moments : after.moments ≡ to.moments
   pub flushed : IsFlushed after
   pub ended : IsAtEnd after.left
   pub few : length taken < 2 ^ 32
@@ -120,17 +125,30 @@ pub record AppliedAll (from : State) (taken : List ℕ) (before after : World) (
 abbrev pub ApplyEnds : End → State → List ℕ → World → World → (accepted : List Stamped) → (answered : List Stamped) → Type 0
 ApplyEnds the_end.Done from taken before after accepted answered = AppliedAll from taken before after accepted
 ApplyEnds the_end.Usage from taken before after accepted answered = ⊥
-ApplyEnds the_end.Memory from taken before after accepted answered = EndsInput (begins_at before from) taken after.left after.written answered (from.history ++ accepted) stop.Memory
+ApplyEnds the_end.Memory from taken before after accepted answered = EndsInput (begins_at before from) taken after.left after.written after.flushed answered (from.history ++ accepted) stop.Memory
 ApplyEnds the_end.Disk from taken before after accepted answered =
-    Rose before.faults after.faults × EndsInput (begins_at before from) taken after.left after.written answered (from.history ++ accepted) stop.Disk
+    Rose before.faults after.faults × EndsInput (begins_at before from) taken after.left after.written after.flushed answered (from.history ++ accepted) stop.Disk
 ApplyEnds the_end.Input from taken before after accepted answered =
-    Rose before.reads after.reads × EndsInput (begins_at before from) taken after.left after.written answered (from.history ++ accepted) stop.Input
+    Rose before.reads after.reads × EndsInput (begins_at before from) taken after.left after.written after.flushed answered (from.history ++ accepted) stop.Input
 ApplyEnds the_end.Output from taken before after accepted answered =
-    Rose before.writes after.writes × EndsInput (begins_at before from) taken after.left after.written answered (from.history ++ accepted) stop.Output
+    Rose before.writes after.writes × EndsInput (begins_at before from) taken after.left after.written after.flushed answered (from.history ++ accepted) stop.Output
 ApplyEnds (the_end.Damaged at) from taken before after accepted answered = ⊥
-ApplyEnds the_end.TooMuch from taken before after accepted answered = EndsInput (begins_at before from) taken after.left after.written answered (from.history ++ accepted) stop.TooMuch
+ApplyEnds the_end.TooMuch from taken before after accepted answered = EndsInput (begins_at before from) taken after.left after.written after.flushed answered (from.history ++ accepted) stop.TooMuch
 ApplyEnds the_end.Exists from taken before after accepted answered = ⊥
 ApplyEnds the_end.Refused from taken before after accepted answered = ⊥
+
+-- no call of the input, of the output and of the disk was counted as a fault
+pub record NoFault (before after : World) : Type 0 where
+  pub input : Rose before.reads after.reads → ⊥
+  pub output : Rose before.writes after.writes → ⊥
+  pub disk : Rose before.faults after.faults → ⊥
+
+-- Status 9, exactly: where as many bytes were taken as a run takes at the most, and so before the end of the input was found.
+-- Without a fault and want of memory it comes wherever so many were taken, and so wherever the input has so many.
+pub record TooMuchExactly (end : End) (taken : List ℕ) (before after : World) : Type 0 where
+  pub only : end ≡ the_end.TooMuch → length taken ≡ 2 ^ 32
+  pub where_taken : NoFault before after → length taken ≡ 2 ^ 32 → (end ≡ the_end.TooMuch) ⊎ (end ≡ the_end.Memory)
+  pub where_given : NoFault before after → IfSome before.left (λ bytes. 2 ^ 32 ≤ length bytes → (end ≡ the_end.TooMuch) ⊎ (end ≡ the_end.Memory))
 
 -- `apply` from the state that the file opened to: the bytes that were taken, cut at each LF, the commands that were accepted
 -- and how many of them were answered, how it ended, and what it leaves of the disk.
@@ -142,20 +160,23 @@ pub record DidApply (d : Seen) (end : End) (before after : World) (from : State)
   pub accepted : List Stamped
   pub answered : ℕ
   pub ends : ApplyEnds end from taken before after accepted (from.history ++ take answered accepted)
+  pub too_much : TooMuchExactly end taken before after
   pub disk : DiskSurvives d from.history accepted answered (status_of end)
 
--- how printing these bytes ends: they were written and flushed, and the end is this one; or the output failed, and a front of
--- them stands there; or there was no memory, and nothing was written
-abbrev pub Printed : End → List ℕ → End → Option (List ℕ) → ℕ → Option (List ℕ) → Option ℕ → ℕ → Type 0
-Printed good bytes end old before new flushed after =
-    ((end ≡ good) × (new ≡ append_known old bytes) × (flushed ≡ option_map length new))
-    ⊎ (((end ≡ the_end.Output) × Rose before after × WritesFront old new bytes) ⊎ ((end ≡ the_end.Memory) × (new ≡ old)))
+-- How printing these bytes ends: they were written and flushed, and the end is this one; or the output failed, a front of them
+-- stands there and isn't flushed; or there was no memory, and nothing was written.
+abbrev pub Printed : End → List ℕ → End → Out → Out → Type 0
+Printed good bytes end old new =
+    ((end ≡ good) × (new.written ≡ append_known old.written bytes) × (new.flushed ≡ option_map length new.written))
+    ⊎ (((end ≡ the_end.Output) × Rose old.writes new.writes × WritesFront old.written new.written bytes × (new.flushed ≡ old.flushed))
+    ⊎ ((end ≡ the_end.Memory) × (new ≡ old)))
 
--- `check` from the state that the file opened to: it printed how many commands there are
+-- `check` from the state that the file opened to: it printed how many commands there are, and only read the disk
 pub record DidCheck (d : Seen) (end : End) (before after : World) (from : State) : Type 0 where
-  pub printed : Printed the_end.Done (check_line from) end before.written before.writes after.written after.flushed after.writes
+  pub printed : Printed the_end.Done (check_line from) end (output before) (output after)
   pub input : SameInput before after
   pub clock : SameClock before after
+  pub same : IsUntouched d
   pub disk : DiskSurvives d from.history [] 0 (status_of end)
 
 -- what the word `members` with this name asks
@@ -197,37 +218,42 @@ end_of_reply (reply.Refused r) = the_end.Refused
 end_of_reply reply.NoMemory = the_end.Memory
 end_of_reply reply.KeepFault = the_end.Disk
 
--- a reply that may be given to a reading at the next moment was printed, and the end is this one
-pub record Asked (s : State) (moments : Option (List ℕ)) (reading : Result Request Refusal) (last : State) (end : End) (old : Option (List ℕ)) (before : ℕ) (new : Option (List ℕ)) (flushed : Option ℕ) (after : ℕ) : Type 0 where
+-- The reply to a reading at the clock's next moment was printed, or that there was no memory for it, and the end is its.
+pub record Asked (s : State) (moments : Option (List ℕ)) (reading : Result Request Refusal) (end : End) (old new : Out) : Type 0 where
   pub told : Reply
   pub at : ℕ
   pub moment : IfSome moments (λ ms. at ≡ first_moment ms)
-  pub turn : Turns s at reading told last
-  pub printed : Printed (end_of_reply told) (line_of told) end old before new flushed after
+  pub turn : (told ≡ (turn s at reading).0) ⊎ (told ≡ reply.NoMemory)
+  pub printed : Printed (end_of_reply told) (line_of told) end old new
+
+-- a front of the one reply to a reading, at the next moment, stands on the output, or one of that there was no memory
+abbrev pub RepliedFront : Result Request Refusal → State → World → World → Type 0
+RepliedFront reading from before after =
+    IfSome before.moments (λ moments. WritesFront before.written after.written (line_of (turn from (first_moment moments) reading).0))
+    ⊎ WritesFront before.written after.written (line_of reply.NoMemory)
 
 -- How `members` ends: its reply, that of the turn from the state that the file opened to, was printed, with status 0 where it
--- isn't refused; or there was no memory, or the disk or the output failed, and of what stands on the output nothing is said.
+-- isn't refused; or that there was no memory, or nothing, since there was none; or the output failed, and a front of the
+-- reply stands there. The disk doesn't fail once the journal is open.
 abbrev pub MembersEnds : List ℕ → End → State → World → World → Type 0
 MembersEnds name the_end.Done from before after = Replied (name_reading name) false from before after × IsFlushed after
 MembersEnds name the_end.Usage from before after = ⊥
-MembersEnds name the_end.Memory from before after = Unit {0}
-MembersEnds name the_end.Disk from before after = Rose before.faults after.faults
+MembersEnds name the_end.Memory from before after = ((after.written ≡ append_known before.written (line_of reply.NoMemory)) × IsFlushed after) ⊎ SameOutput before after
+MembersEnds name the_end.Disk from before after = ⊥
 MembersEnds name the_end.Input from before after = ⊥
-MembersEnds name the_end.Output from before after = Rose before.writes after.writes
+MembersEnds name the_end.Output from before after = Rose before.writes after.writes × RepliedFront (name_reading name) from before after × (after.flushed ≡ before.flushed)
 MembersEnds name (the_end.Damaged at) from before after = ⊥
 MembersEnds name the_end.TooMuch from before after = ⊥
 MembersEnds name the_end.Exists from before after = ⊥
 MembersEnds name the_end.Refused from before after = Replied (name_reading name) true from before after × IsFlushed after
 
--- `members` from the state that the file opened to
+-- `members` from the state that the file opened to; it looked at the clock once, and only read the disk
 pub record DidMembers (d : Seen) (name : List ℕ) (end : End) (before after : World) (from : State) : Type 0 where
   pub ends : MembersEnds name end from before after
   pub input : SameInput before after
+  pub clock : LookedOnce before after
+  pub same : IsUntouched d
   pub disk : DiskSurvives d from.history [] 0 (status_of end)
-
--- a service that was asked stopped for want of memory, or since its keeper failed
-abbrev pub StopCaused : End → ℕ → ℕ → Type 0
-StopCaused end before after = (end ≡ the_end.Memory) ⊎ ((end ≡ the_end.Disk) × Rose before after)
 
 -- what a run of a task did
 abbrev pub Did : Seen → Task → List ℕ → End → World → World → Type 0

@@ -41,3 +41,17 @@ printing k w out = record w { written = k.written out; flushed = k.flushed out; 
 -- and with this clock
 abbrev pub at_clock : {C : Type 0} → clock.Ghosts C → World → C → World
 at_clock c w time = record w { moments = c.moments time }
+
+-- what a run sees of an output: the bytes that were written, how many of them were flushed, and the count of faults
+pub record Out : Type 0 where
+  pub written : Option (List ℕ)
+  pub flushed : Option ℕ
+  pub writes : ℕ
+
+-- the same of this output
+abbrev pub out_of : {K : Type 0} → sink.Ghosts K → K → Out
+out_of k out = record { written = k.written out; flushed = k.flushed out; writes = k.write_faults out }
+
+-- and of the output of a world
+abbrev pub output : World → Out
+output w = record { written = w.written; flushed = w.flushed; writes = w.writes }

@@ -1,18 +1,17 @@
 // The tasks, each over a disk that it gives back.
-ghost use Rattle.std.specs.Prelude.{◌≡◌, ◌≤◌, List, ℕ, Option, Ok, Err, codes, length, option_map, IfOk, IfErr, IfSome, OnOk};
+ghost use Rattle.std.specs.Prelude.{◌≡◌, ◌≤◌, List, ℕ, Option, Ok, Err, codes, length, option_map, IfOk, IfErr, IfSome, OnErr, OnOk};
 ghost use Rattle.std.specs.Io.KnownBytes.{append_known};
 ghost use Rattle.reg_outside.specs.Disk.{Changes, Same};
 ghost use Rattle.reg_outside.specs.Faults.{Rose, HasCause};
-ghost use Rattle.reg_outside.specs.Streams.{WritesFront};
+ghost use Rattle.reg_outside.specs.Streams.{WritesFront, later_moments};
 ghost use Rattle.reg_keep.specs.JournalWords.{disk_of};
 ghost use Rattle.reg_service.specs.Opening.{opens, at_last, FrontsReopen};
-ghost use Rattle.reg_service.specs.Kept.{KeptOn, Halted};
 ghost use Rattle.reg_session.specs.Pending.{ReadsAs, AsksFormed};
 ghost use Rattle.reg_session.specs.Replies.{line_of};
 ghost use Rattle.reg_run.specs.Crash.{seen};
-ghost use Rattle.reg_run.specs.Ends.{Did, DidInit, OpenCaused, Asked, StopCaused, Printed, name_reading, end_of_reply, end_of_stop, end_of_open};
+ghost use Rattle.reg_run.specs.Ends.{Did, DidInit, OpenCaused, Asked, Printed, name_reading, end_of_reply, end_of_stop, end_of_open};
 ghost use Rattle.reg_run.specs.Status.{check_line};
-ghost use Rattle.reg_run.specs.World.{World, world, holding, printing, at_clock};
+ghost use Rattle.reg_run.specs.World.{World, world, holding, printing, at_clock, out_of};
 
 use crate::task::{End, Task};
 use reg_base::{Entity, Name, Text};
@@ -20,8 +19,8 @@ use reg_effect::Incremental;
 use reg_keep::{InitFault, Journal, Keeper, OpenFault};
 use reg_machine::Machine;
 use reg_outside::{Clock, Disk, Failed, Sink, Source, write_whole};
-use reg_service::{Next, Service};
-use reg_session::{LineReading, Stop, answer_input, reply_line, stop_of, turn};
+use reg_service::Service;
+use reg_session::{LineReading, Stop, answer_input, reply_line, turn};
 use reg_terms::{Op, Query, Refusal, Reply, Request};
 use std::alloc::{AllocError, Global};
 
@@ -117,6 +116,7 @@ fn apply_over<S: Source, K: Sink, D: Disk, C: Clock>(
 fn print<K: Sink>(out: &mut K, bytes: &[u8]) -> Result<(), Failed>
     ensures written { OnOk result (K.written out.new ≡ append_known (K.written out.old) bytes.now) }
     ensures flushed { OnOk result (K.flushed out.new ≡ option_map length (K.written out.new)) }
+    ensures unflushed { OnErr result (K.flushed out.new ≡ K.flushed out.old) }
     ensures front { WritesFront (K.written out.old) (K.written out.new) bytes.now }
     ensures cause { HasCause (K.write_faults out.old) (K.write_faults out.new) result }
 {
@@ -135,7 +135,7 @@ fn check_line(alloc: Global, machine: &Machine<Incremental>) -> Result<Vec<u8>, 
 }
 
 fn print_check<K: Sink>(alloc: Global, machine: &Machine<Incremental>, out: &mut K) -> End
-    ensures { Printed End.Done (check_line machine.now) result (K.written out.old) (K.write_faults out.old) (K.written out.new) (K.flushed out.new) (K.write_faults out.new) }
+    ensures { Printed End.Done (check_line machine.now) result (out_of ⟦<K as Sink>⟧ out.old) (out_of ⟦<K as Sink>⟧ out.new) }
 {
     match check_line(alloc, machine) {
         Err(AllocError) => End::Memory,
@@ -201,7 +201,7 @@ fn end_of_reply(reply: &Reply) -> End
 }
 
 fn print_reply<K: Sink>(alloc: Global, reply: &Reply, out: &mut K) -> End
-    ensures { Printed (end_of_reply reply.now) (line_of reply.now) result (K.written out.old) (K.write_faults out.old) (K.written out.new) (K.flushed out.new) (K.write_faults out.new) }
+    ensures { Printed (end_of_reply reply.now) (line_of reply.now) result (out_of ⟦<K as Sink>⟧ out.old) (out_of ⟦<K as Sink>⟧ out.new) }
 {
     match reply_line(alloc, reply) {
         Err(AllocError) => End::Memory,
@@ -212,28 +212,24 @@ fn print_reply<K: Sink>(alloc: Global, reply: &Reply, out: &mut K) -> End
     }
 }
 
-/// Asks a service for the members of a group, as GrouperSystem at the clock.
+/// Asks a service for the members of a group, as GrouperSystem at the clock, and gives its keeper
+/// back as it was.
 fn members<J: Keeper, K: Sink, C: Clock>(
     alloc: Global,
     service: Service<J>,
     name: &str,
     out: &mut K,
     clock: &mut C,
-) -> Result<(End, Service<J>), (End, J)>
-    ensures asked { IfOk result (λ r. Asked service.state (C.moments clock.old) (name_reading name.now) r.1.state r.0 (K.written out.old) (K.write_faults out.old) (K.written out.new) (K.flushed out.new) (K.write_faults out.new)) }
-    ensures kept { IfOk result (λ r. KeptOn ⟦<J as Keeper>⟧ service.state.history service.keeper r.1.state.history r.1.keeper) }
-    ensures same { IfOk result (λ r. r.1.state.history ≡ service.state.history) }
-    ensures stopped { IfErr result (λ e. StopCaused e.0 (J.keep_faults service.keeper) (J.keep_faults e.1)) }
-    ensures halted { IfErr result (λ e. (h : Halted ⟦<J as Keeper>⟧ service.state.history service.keeper e.1) × (h.after ≡ service.state.history)) }
+) -> (End, J)
+    ensures asked { Asked service.state (C.moments clock.old) (name_reading name.now) result.0 (out_of ⟦<K as Sink>⟧ out.old) (out_of ⟦<K as Sink>⟧ out.new) }
+    ensures same { result.1 ≡ service.keeper }
+    ensures clock { C.moments clock.new ≡ option_map later_moments (C.moments clock.old) }
 {
     let at = clock.now();
     let reading = name_reading(alloc, name);
     let (reply, next) = turn(alloc, service, at, reading);
     let end = print_reply(alloc, &reply, out);
-    match next {
-        Next::Go(service) => Ok((end, service)),
-        Next::Stop(cause, keeper) => Err((end_of_stop(stop_of(cause)), keeper)),
-    }
+    (end, next.into_keeper())
 }
 
 /// Asks the journal on a disk for the members of a group.
@@ -252,10 +248,12 @@ fn members_over<K: Sink, D: Disk, C: Clock>(
 {
     match open(alloc, disk) {
         Err((end, disk)) => (end, disk),
-        Ok(service) => match members(alloc, service, name, out, clock) {
-            Ok((end, service)) => (end, close(service)),
-            Err((end, keeper)) => (end, keeper.into_disk()),
-        },
+        Ok(service) => {
+            service.stays();
+            service.law_stops();
+            let (end, keeper) = members(alloc, service, name, out, clock);
+            (end, keeper.into_disk())
+        }
     }
 }
 

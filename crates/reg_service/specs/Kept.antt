@@ -64,6 +64,11 @@ abbrev pub keeper_of : {K : Type 0} → Next K → K
 keeper_of (next.Go s) = s.keeper
 keeper_of (next.Stop why keeper) = keeper
 
+-- The keeper is the one from before: the service goes on over it, or stopped for want of memory.
+abbrev pub LeavesKeeper : {K : Type 0} → K → Next K → Type 0
+LeavesKeeper old (next.Go s) = s.keeper ≡ old
+LeavesKeeper old (next.Stop why keeper) = (keeper ≡ old) × (why ≡ cause.Memory)
+
 -- The service goes on with a history that has one command more, at this place; the keeper's payloads are this history's,
 -- where they are told, and each stop leaves it.
 abbrev pub IsAcknowledged : {K : Type 0} → Ghosts K → List Stamped → ℕ → Next K → Type 0

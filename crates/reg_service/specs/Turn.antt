@@ -83,3 +83,13 @@ GoesOn s m (told, next.Stop why keeper) = Unit {0}
 -- the caller and the fields of what is asked have their forms
 abbrev pub HasForm : Request → Type 0
 HasForm request = (is_entity request.by ≡ true) × (op_has_form request.op ≡ true)
+
+-- a query is asked
+abbrev pub IsQuery : Op → Type 0
+IsQuery (op.Command command) = ⊥
+IsQuery (op.Query query) = Unit {0}
+
+-- what was read asks for no change: it is refused, or a query
+abbrev pub AsksNoChange : Result Request Refusal → Type 0
+AsksNoChange (Ok request) = IsQuery request.op
+AsksNoChange (Err r) = Unit {0}

@@ -7,8 +7,8 @@ ghost use Rattle.reg_terms.specs.declared.command.Stamped.{Stamped};
 ghost use Rattle.reg_terms.specs.Forms.{is_entity, has_form};
 ghost use Rattle.reg_wire.specs.Payload.{IsWritable};
 ghost use Rattle.reg_service.specs.Opening.{payloads_of, judged, FrontsReopen, IsServed};
-ghost use Rattle.reg_service.specs.Kept.{KeepsNext, KeptOn, IsAcknowledged, keeper_of};
-ghost use Rattle.reg_service.specs.Turn.{turn, requested, HasForm, Carries, Follows, GoesOn};
+ghost use Rattle.reg_service.specs.Kept.{KeepsNext, KeptOn, IsAcknowledged, LeavesKeeper, keeper_of};
+ghost use Rattle.reg_service.specs.Turn.{turn, requested, HasForm, IsQuery, Carries, Follows, GoesOn};
 
 use crate::opening::replay;
 use crate::uncounted::{advance, apply};
@@ -56,6 +56,18 @@ pub enum Next<K: Keeper> {
     Stop(Cause, K),
 }
 
+impl<K: Keeper> Next<K> {
+    /// The keeper, whether the service goes on or not.
+    pub fn into_keeper(self) -> K
+        ensures { result ≡ keeper_of self }
+    {
+        match self {
+            Next::Go(service) => service.into_keeper(),
+            Next::Stop(_, keeper) => keeper,
+        }
+    }
+}
+
 /// Asks the machine.
 fn asked<K: Keeper>(
     alloc: Global,
@@ -67,7 +79,7 @@ fn asked<K: Keeper>(
     requires { IsServed machine (K.payloads keeper) (K.has_failed keeper) }
     ensures turn { Carries machine (requested machine by.now (Op.Query query.now)) result }
     ensures kept { (expected : List Stamped) → KeepsNext ⟦<K as Keeper>⟧ machine.history expected keeper result.1 }
-    ensures same { keeper_of result.1 ≡ keeper }
+    ensures same { LeavesKeeper keeper result.1 }
     ensures unnumbered { (n : ℕ) → result.0 ≡ Reply.Number n → ⊥ }
 {
     let reply = match ask(alloc, &machine, by, query) {
@@ -176,6 +188,15 @@ impl<K: Keeper> Service<K> {
         let _keeper = &self.keeper;
     }
 
+    /// Each stop leaves the history, of which each front opens again. It does nothing: it is a law of
+    /// the value.
+    pub fn law_stops(&self)
+        ensures leaves { (r : Result (List (List ℕ)) ℕ) → K.stop_leaves self.now.keeper r → r ≡ Ok (payloads_of self.now.state.history) }
+        ensures fronts { FrontsReopen self.now.state.history }
+    {
+        let _keeper = &self.keeper;
+    }
+
     /// The keeper as it stands. Each stop leaves the history, of which each front opens again.
     pub fn into_keeper(self) -> K
         ensures keeper { result ≡ self.keeper }
@@ -197,7 +218,9 @@ impl<K: Keeper> Service<K> {
 
         // After a command is answered with its number, each stop leaves the history with it at its end.
         ensures acknowledged { (n : ℕ) → result.0 ≡ Reply.Number n → IsAcknowledged ⟦<K as Keeper>⟧ self.state.history n result.1 }
-        ensures asked { (query : Query) → request.op ≡ Op.Query query → keeper_of result.1 ≡ self.keeper }
+
+        // A query leaves the keeper as it was, and so the service doesn't stop for it.
+        ensures asked { IsQuery request.op → LeavesKeeper self.keeper result.1 }
     {
         let Service { machine, keeper } = self;
         let now = machine.clock().later_of(at);
@@ -217,7 +240,7 @@ impl<K: Keeper> Service<K> {
         ensures turn { Follows self.state at (Err refusal) result }
         ensures history { GoesOn self.state at result }
         ensures kept { KeepsNext ⟦<K as Keeper>⟧ self.state.history self.state.history self.keeper result.1 }
-        ensures same { keeper_of result.1 ≡ self.keeper }
+        ensures same { LeavesKeeper self.keeper result.1 }
     {
         let Service { machine, keeper } = self;
         let now = machine.clock().later_of(at);

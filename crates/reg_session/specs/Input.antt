@@ -1,6 +1,7 @@
 -- The input of a session, and how it ends.
-use Rattle.std.specs.Prelude.{◌≡◌, ◌⊎◌, ◌≤◌, ◌^◌, ◌<◌, ◌∷◌, [], ℕ, List, Option, length}
+use Rattle.std.specs.Prelude.{◌≡◌, ◌⊎◌, ◌≤◌, ◌^◌, ◌<◌, ◌∷◌, [], ℕ, List, Option, length, option_map}
 use Rattle.std.specs.Io.KnownBytes.{prepend_known, IsAtEnd}
+use Rattle.reg_outside.specs.Faults.{Rose}
 use Rattle.reg_terms.specs.declared.command.Stamped.{Stamped}
 use Rattle.reg_keep.specs.declared.keeper.Keeper.{Ghosts}
 use Rattle.reg_service.specs.Kept.{Halted}
@@ -39,23 +40,33 @@ abbrev pub StopsLast : {K : Type 0} → Ghosts K → Point → K → List ℕ �
 StopsLast g before old line written why keeper = (h : Halted g before.state.history old keeper)
     × (StopsIn before (line ∷ []) written h.answered h.after why ⊎ ((why ≡ stop.Output) × StopsBehind before (line ∷ []) written h.answered h.after))
 
+-- all that was written is flushed
+abbrev pub IsAllFlushed : Option (List ℕ) → Option ℕ → Type 0
+IsAllFlushed written flushed = flushed ≡ option_map length written
+
+-- a session that stops for this flushed, and so it did; or the flush failed, and it stopped for that
+abbrev pub FlushesFor : (why stopped : Stop) → Option (List ℕ) → Option ℕ → (before after : ℕ) → Type 0
+FlushesFor why stopped written flushed before after = ((stopped ≡ why) × IsAllFlushed written flushed) ⊎ ((stopped ≡ stop.Output) × Rose before after)
+
 -- Why the session over these bytes stopped. Where the input failed, or there was too much of it, the lines that an LF ends
--- were answered; where the output failed, a reply wasn't written, or all were and not flushed; else it stopped at a line.
-abbrev pub EndsInput : Point → List ℕ → Option (List ℕ) → Option (List ℕ) → (answered after : List Stamped) → Stop → Type 0
-EndsInput before taken left written answered after stop.Memory = StopsIn before (lines taken) written answered after stop.Memory
-EndsInput before taken left written answered after stop.Disk = StopsIn before (lines taken) written answered after stop.Disk
-EndsInput before taken left written answered after stop.Input = StopsBehind before (ended_lines taken) written answered after
-EndsInput before taken left written answered after stop.Output = StopsIn before (lines taken) written answered after stop.Output ⊎ (StopsBehind before (lines taken) written answered after × IsAtEnd left)
-EndsInput before taken left written answered after stop.TooMuch = StopsBehind before (ended_lines taken) written answered after × (length taken ≡ 2 ^ 32)
+-- were answered, and the replies flushed. Where the output failed, a reply wasn't written; or all were, up to the input's end
+-- or to where it failed or there was too much of it, and not flushed. Else it stopped at a line.
+abbrev pub EndsInput : Point → List ℕ → Option (List ℕ) → Option (List ℕ) → Option ℕ → (answered after : List Stamped) → Stop → Type 0
+EndsInput before taken left written flushed answered after stop.Memory = StopsIn before (lines taken) written answered after stop.Memory
+EndsInput before taken left written flushed answered after stop.Disk = StopsIn before (lines taken) written answered after stop.Disk
+EndsInput before taken left written flushed answered after stop.Input = StopsBehind before (ended_lines taken) written answered after × IsAllFlushed written flushed
+EndsInput before taken left written flushed answered after stop.Output =
+    StopsIn before (lines taken) written answered after stop.Output ⊎ ((StopsBehind before (lines taken) written answered after × IsAtEnd left) ⊎ StopsBehind before (ended_lines taken) written answered after)
+EndsInput before taken left written flushed answered after stop.TooMuch = StopsBehind before (ended_lines taken) written answered after × IsAllFlushed written flushed × (length taken ≡ 2 ^ 32)
 
 -- a session over an input stopped, from this point and keeper on
-pub record StopsInput {K : Type 0} (g : Ghosts K) (before : Point) (old : K) (left now written : Option (List ℕ)) (why : Stop) (keeper : K) : Type 0 where
+pub record StopsInput {K : Type 0} (g : Ghosts K) (before : Point) (old : K) (left now written : Option (List ℕ)) (flushed : Option ℕ) (why : Stop) (keeper : K) : Type 0 where
   pub taken : List ℕ
   pub input : Takes left taken now
   pub few : length taken ≤ 2 ^ 32
   pub cut : IsCutAtLineFeeds (lines taken) taken
   pub halted : Halted g before.state.history old keeper
-  pub ends : EndsInput before taken now written halted.answered halted.after why
+  pub ends : EndsInput before taken now written flushed halted.answered halted.after why
 
 -- so many bytes were taken from the first point on, and the lines that they end were answered
 pub record HasTaken (left now : Option (List ℕ)) (before after : Point) (pending kept : PendingLine) (count : ℕ) : Type 0 where

@@ -4,7 +4,7 @@ ghost use Rattle.std.specs.Io.KnownBytes.{IsAtEnd, prepend_known};
 ghost use Rattle.reg_outside.specs.Faults.{Rose};
 ghost use Rattle.reg_service.specs.Kept.{KeptOn};
 ghost use Rattle.reg_session.specs.Answered.{Answered, point};
-ghost use Rattle.reg_session.specs.Input.{AnswersInput, StopsInput, StopsLast};
+ghost use Rattle.reg_session.specs.Input.{AnswersInput, FlushesFor, StopsInput, StopsLast};
 ghost use Rattle.reg_session.specs.Pending.{Holds};
 ghost use Rattle.reg_session.specs.Stops.{IsAtLine};
 
@@ -51,6 +51,19 @@ fn flush<K: Sink>(out: &mut K) -> Result<(), Stop>
     }
 }
 
+/// Flushes where the input stops a session, and says why it stopped: for that, or since the flush
+/// failed.
+fn stop_flushed<K: Sink>(out: &mut K, why: Stop) -> Stop
+    ensures same { K.written out.new ≡ K.written out.old }
+    ensures why { FlushesFor why result (K.written out.new) (K.flushed out.new) (K.write_faults out.old) (K.write_faults out.new) }
+    ensures count { K.write_faults out.old ≤ K.write_faults out.new }
+{
+    match flush(out) {
+        Ok(()) => why,
+        Err(stop) => stop,
+    }
+}
+
 /// Answers the last line, which no LF ends, and flushes.
 fn finish<J: Keeper, K: Sink, C: Clock>(
     alloc: Global,
@@ -77,8 +90,9 @@ fn finish<J: Keeper, K: Sink, C: Clock>(
     }
 }
 
-/// Answers all lines of the input, at most 2^32 bytes of it, and flushes. Where it stops, the
-/// keeper is given back.
+/// Answers all lines of the input, at most 2^32 bytes of it, and flushes. Where the input fails, or
+/// there is more of it, it answers the lines that came whole, and flushes. Where it stops, the keeper
+/// is given back.
 pub fn answer_input<S: Source, J: Keeper, K: Sink, C: Clock>(
     alloc: Global,
     service: Service<J>,
@@ -91,7 +105,7 @@ pub fn answer_input<S: Source, J: Keeper, K: Sink, C: Clock>(
     ensures flushed { OnOk result (K.flushed out.new ≡ option_map length (K.written out.new)) }
     ensures kept { IfOk result (λ to. KeptOn ⟦<J as Keeper>⟧ service.state.history service.keeper to.state.history to.keeper) }
     ensures halted { IfErr result (λ e.
-        StopsInput ⟦<J as Keeper>⟧ (point ⟦<K as Sink>⟧ ⟦<C as Clock>⟧ out.old clock.old service.state) service.keeper (S.left input.old) (S.left input.new) (K.written out.new) e.0 e.1) }
+        StopsInput ⟦<J as Keeper>⟧ (point ⟦<K as Sink>⟧ ⟦<C as Clock>⟧ out.old clock.old service.state) service.keeper (S.left input.old) (S.left input.new) (K.written out.new) (K.flushed out.new) e.0 e.1) }
     ensures input { IfErr result (λ e. e.0 ≡ Stop.Input → Rose (S.read_faults input.old) (S.read_faults input.new)) }
     ensures output { IfErr result (λ e. e.0 ≡ Stop.Output → Rose (K.write_faults out.old) (K.write_faults out.new)) }
     ensures disk { IfErr result (λ e. e.0 ≡ Stop.Disk → Rose (J.keep_faults service.keeper) (J.keep_faults e.1)) }
@@ -105,7 +119,7 @@ pub fn answer_input<S: Source, J: Keeper, K: Sink, C: Clock>(
         let room = (LIMIT - taken).min(PIECE as u64) as usize;
         let count = match read_some(input, &mut buf, room) {
             Ok(count) => count,
-            Err(stop) => return Err((stop, service.into_keeper())),
+            Err(stop) => return Err((stop_flushed(out, stop), service.into_keeper())),
         };
         if count == 0 {
             let last = finish(alloc, service, &line, out, clock)?;
@@ -114,5 +128,5 @@ pub fn answer_input<S: Source, J: Keeper, K: Sink, C: Clock>(
         (service, line) = feed(alloc, service, line, &buf[..count], out, clock)?;
         taken += count as u64;
     }
-    Err((Stop::TooMuch, service.into_keeper()))
+    Err((stop_flushed(out, Stop::TooMuch), service.into_keeper()))
 }

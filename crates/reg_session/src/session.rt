@@ -5,8 +5,8 @@ ghost use Rattle.reg_outside.specs.Faults.{Rose};
 ghost use Rattle.reg_outside.specs.Streams.{WritesFront};
 ghost use Rattle.reg_terms.specs.declared.request.Request.{Request};
 ghost use Rattle.reg_terms.specs.declared.refusal.Refusal.{Refusal};
-ghost use Rattle.reg_service.specs.Kept.{KeptOn, KeepsNext};
-ghost use Rattle.reg_service.specs.Turn.{Follows, turn};
+ghost use Rattle.reg_service.specs.Kept.{KeptOn, KeepsNext, LeavesKeeper};
+ghost use Rattle.reg_service.specs.Turn.{AsksNoChange, Follows, turn};
 ghost use Rattle.reg_session.specs.Answered.{Answered, Feeds, point};
 ghost use Rattle.reg_session.specs.Lines.{lines_from};
 ghost use Rattle.reg_session.specs.Pending.{Holds, ReadsAs, AsksFormed};
@@ -80,6 +80,7 @@ pub fn turn<J: Keeper>(
     requires { AsksFormed reading }
     ensures turn { (told : Result Request Refusal) → ReadsAs reading told → Follows service.state at told result }
     ensures kept { (told : Result Request Refusal) → ReadsAs reading told → KeepsNext ⟦<J as Keeper>⟧ service.state.history (turn service.state at told).1.history service.keeper result.1 }
+    ensures same { (told : Result Request Refusal) → ReadsAs reading told → AsksNoChange told → LeavesKeeper service.keeper result.1 }
 {
     match reading {
         LineReading::Asked(request) => service.request(alloc, at, request),

@@ -1,7 +1,9 @@
 use Rattle.std.proofs.Common.{refl, inl, inr, arith, ◌-◌, length, ◌≤◌}
 use Rattle.reg_keep.specs.JournalWords.{disk_of}
 use Rattle.reg_run.proofs.Crashing.{untouched_same, survives_kept, stops_whole, stops_halted, no_shorter, answered_front}
-use Rattle.reg_run.proofs.Ending.{stop_status, apply_stopped}
+use Rattle.reg_run.specs.Ends.{end_of_stop}
+use Rattle.reg_run.specs.declared.task.End.TheVariants as the_end
+use Rattle.reg_run.proofs.Ending.{stop_whole, apply_stopped, did_apply}
 use Rattle.reg_run.proofs.perform.apply_over.Goals as goal
 
 -- the journal didn't open, so the disk was only read
@@ -26,18 +28,11 @@ returns-in-Ok-answer_input-clause-did g c name =
     inr (
       from,
       c.in-Ok.ensures.opens,
-      record {
-        taken = a.taken;
-        input = a.input;
-        few = omega (arith, a.few);
-        cut = a.cut;
-        accepted = a.accepted;
-        answered = length to.history - length from.history;
-        ends = record { to = _; all = a.all; written = refl; flushed = c.in-Ok-answer_input.ensures.flushed; ended = a.ended; few = a.few; opens = c.close.ensures.opens };
-        disk = rw c.close.ensures.disk (survives_kept g.D.Disk from.history to.history to.history a.accepted 0 c.args.disk mid new c.in-Ok.ensures.crash (g.met.D.Disk.only_now c.args.disk) c.in-Ok.ensures.same (g.met.D.Disk.reads_now new)
-            a.all.grown (no_shorter from.history to.history a.accepted a.all.grown) (inl refl) (λ is. refl)
-            (stops_whole from.history to.history c.in-Ok.service.keeper c.in-Ok-answer_input.service.keeper k.crash c.close.ensures.again (rw c.close.ensures.disk at c.close.ensures.images)));
-      },
+      did_apply _ the_end.Done _ _ from a.taken a.input (omega (arith, a.few)) a.cut a.accepted (length to.history - length from.history)
+          (record { to = _; all = a.all; written = refl; moments = refl; flushed = c.in-Ok-answer_input.ensures.flushed; ended = a.ended; few = a.few; opens = c.close.ensures.opens })
+          (rw c.close.ensures.disk (survives_kept g.D.Disk from.history to.history to.history a.accepted 0 c.args.disk mid new c.in-Ok.ensures.crash (g.met.D.Disk.only_now c.args.disk) c.in-Ok.ensures.same (g.met.D.Disk.reads_now new)
+          a.all.grown (no_shorter from.history to.history a.accepted a.all.grown) (inl refl) (λ is. refl)
+          (stops_whole from.history to.history c.in-Ok.service.keeper c.in-Ok-answer_input.service.keeper k.crash c.close.ensures.again (rw c.close.ensures.disk at c.close.ensures.images)))),
     )
 
 -- the session stopped
@@ -51,16 +46,9 @@ returns-in-Err-answer_input-clause-did g c name =
     rw (c.into_disk.ensures, c.end_of_stop.ensures) (inr (
       from,
       c.in-Ok.ensures.opens,
-      record {
-        taken = s.taken;
-        input = s.input;
-        few = s.few;
-        cut = s.cut;
-        accepted = h.kept.more;
-        answered = length h.answered - length from.history;
-        ends = apply_stopped c.in-Err-answer_input.stop from s.taken _ _ h.kept.more (length h.answered - length from.history) h.answered h.after c.in-Err-answer_input.ensures.input c.in-Err-answer_input.ensures.output
-            (λ is. omega (arith, c.in-Err-answer_input.ensures.disk is, c.in-Ok.ensures.later)) (answered_front from.history h.answered h.after h.kept.more h.kept.grown h.first h.last) h.kept.grown s.ends;
-        disk = survives_kept g.D.Disk from.history h.answered h.after h.kept.more _ c.args.disk mid new c.in-Ok.ensures.crash (g.met.D.Disk.only_now c.args.disk) c.in-Ok.ensures.same (g.met.D.Disk.reads_now new)
-            h.kept.grown h.first h.last (λ is. absurd (stop_status c.in-Err-answer_input.stop is)) (stops_halted from.history h.answered h.after c.in-Ok.service.keeper c.in-Err-answer_input.keeper h.kept.crash h.stopped);
-      },
+      did_apply _ (end_of_stop c.in-Err-answer_input.stop) _ _ from s.taken s.input s.few s.cut h.kept.more (length h.answered - length from.history)
+          (apply_stopped c.in-Err-answer_input.stop from s.taken _ _ h.kept.more (length h.answered - length from.history) h.answered h.after c.in-Err-answer_input.ensures.input c.in-Err-answer_input.ensures.output
+          (λ is. omega (arith, c.in-Err-answer_input.ensures.disk is, c.in-Ok.ensures.later)) (answered_front from.history h.answered h.after h.kept.more h.kept.grown h.first h.last) h.kept.grown s.ends)
+          (survives_kept g.D.Disk from.history h.answered h.after h.kept.more _ c.args.disk mid new c.in-Ok.ensures.crash (g.met.D.Disk.only_now c.args.disk) c.in-Ok.ensures.same (g.met.D.Disk.reads_now new)
+          h.kept.grown h.first h.last (stop_whole c.in-Err-answer_input.stop _ _ _ _ _ h.answered h.after s.ends) (stops_halted from.history h.answered h.after c.in-Ok.service.keeper c.in-Err-answer_input.keeper h.kept.crash h.stopped)),
     ))

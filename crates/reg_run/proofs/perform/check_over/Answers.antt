@@ -26,6 +26,7 @@ returns-in-Ok-clause-did g c name w =
         printed = rw c.machine.ensures at c.print_check-end.ensures;
         input = (refl, refl);
         clock = refl;
+        same = untouched_same g.D.Disk c.args.disk new c.in-Ok.ensures.crash (g.met.D.Disk.only_now c.args.disk) c.in-Ok.ensures.same;
         disk = survives_none g.D.Disk from.history _ _ c.args.disk new (survives_kept g.D.Disk from.history from.history from.history [] _ c.args.disk new new c.in-Ok.ensures.crash (g.met.D.Disk.only_now c.args.disk) c.in-Ok.ensures.same (g.met.D.Disk.reads_now new)
             same (no_shorter from.history from.history [] same) (inl refl) (λ is. refl)
             (stops_whole from.history from.history c.in-Ok.service.keeper c.in-Ok.service.keeper c.stays.ensures.crash c.close.ensures.again (rw c.close.ensures.disk at c.close.ensures.images)));

@@ -1,7 +1,8 @@
-use Rattle.std.proofs.Common.{refl, sym, inl, inr, ◌∙◌, ap, append-nil, []}
+use Rattle.std.proofs.Common.{refl, sym, inl, inr, append-nil, []}
 use Rattle.reg_keep.specs.JournalWords.{disk_of}
-use Rattle.reg_run.proofs.Crashing.{untouched_same, survives_kept, survives_none, stops_whole, stops_halted, no_shorter}
-use Rattle.reg_run.proofs.Ending.{asked_ends, asked_stopped, caused_status}
+use Rattle.reg_run.proofs.Crashing.{untouched_same, survives_kept, survives_none, stops_whole, no_shorter}
+use Rattle.reg_run.proofs.Ending.{asked_ends}
+use Rattle.reg_run.proofs.Opened.{image_opens}
 use Rattle.reg_run.proofs.perform.members_over.Goals as goal
 
 -- the journal didn't open, so the disk was only read
@@ -15,40 +16,22 @@ returns-in-Err-clause-did g c w = inl (record {
 })
 
 -- the query was answered at the history that the file opens to, and nothing was added
-pub returns-in-Ok-members-clause-did : goal.returns-in-Ok-members-clause-did
-returns-in-Ok-members-clause-did g c w =
+pub returns-in-Ok-clause-did : goal.returns-in-Ok-clause-did
+returns-in-Ok-clause-did g c w =
     let from = c.in-Ok.service.state in
-    let to = c.in-Ok-members.service.state in
-    let mid = disk_of c.in-Ok.service.keeper in
-    let new = disk_of c.in-Ok-members.service.keeper in
-    let same = c.in-Ok-members.ensures.same ∙ sym (append-nil from.history) in
-    rw c.close.ensures.disk (inr (
+    let new = disk_of c.in-Ok.service.keeper in
+    let same = sym (append-nil from.history) in
+    rw (c.into_disk.ensures, c.members-end.ensures.same) (inr (
       from,
       c.in-Ok.ensures.opens,
       record {
-        ends = asked_ends c.args.name.now c.in-Ok-members.end _ _ from to c.in-Ok-members.ensures.asked;
+        ends = asked_ends c.args.name.now c.members-end.result.0 _ _ from c.members-end.ensures.asked;
         input = (refl, refl);
-        disk = survives_none g.D.Disk from.history _ _ c.args.disk new (survives_kept g.D.Disk from.history to.history to.history [] _ c.args.disk mid new c.in-Ok.ensures.crash (g.met.D.Disk.only_now c.args.disk) c.in-Ok.ensures.same (g.met.D.Disk.reads_now new)
-            same (no_shorter from.history to.history [] same) (inl refl) (λ is. refl)
-            (stops_whole from.history to.history c.in-Ok.service.keeper c.in-Ok-members.service.keeper c.in-Ok-members.ensures.kept.crash c.close.ensures.again (rw c.close.ensures.disk at c.close.ensures.images)));
-      },
-    ))
-
--- the service stopped
-pub returns-in-Err-members-clause-did : goal.returns-in-Err-members-clause-did
-returns-in-Err-members-clause-did g c w =
-    let from = c.in-Ok.service.state in
-    let mid = disk_of c.in-Ok.service.keeper in
-    let new = disk_of c.in-Err-members.keeper in
-    let h = c.in-Err-members.ensures.halted.0 in
-    let same = c.in-Err-members.ensures.halted.1 ∙ sym (append-nil from.history) in
-    rw c.into_disk.ensures (inr (
-      from,
-      c.in-Ok.ensures.opens,
-      record {
-        ends = asked_stopped c.args.name.now c.in-Err-members.end _ _ from _ _ c.in-Ok.ensures.later refl c.in-Err-members.ensures.stopped;
-        input = (refl, refl);
-        disk = survives_none g.D.Disk from.history _ _ c.args.disk new (survives_kept g.D.Disk from.history h.answered h.after [] _ c.args.disk mid new c.in-Ok.ensures.crash (g.met.D.Disk.only_now c.args.disk) c.in-Ok.ensures.same (g.met.D.Disk.reads_now new)
-            same h.first h.last (λ is. absurd (caused_status c.in-Err-members.end _ _ c.in-Err-members.ensures.stopped is)) (stops_halted from.history h.answered h.after c.in-Ok.service.keeper c.in-Err-members.keeper h.kept.crash h.stopped));
+        clock = c.members-end.ensures.clock;
+        same = untouched_same g.D.Disk c.args.disk new c.in-Ok.ensures.crash (g.met.D.Disk.only_now c.args.disk) c.in-Ok.ensures.same;
+        disk = survives_none g.D.Disk from.history _ _ c.args.disk new (survives_kept g.D.Disk from.history from.history from.history [] _ c.args.disk new new c.in-Ok.ensures.crash (g.met.D.Disk.only_now c.args.disk) c.in-Ok.ensures.same (g.met.D.Disk.reads_now new)
+            same (no_shorter from.history from.history [] same) (inl refl) (λ is. refl)
+            (stops_whole from.history from.history c.in-Ok.service.keeper c.in-Ok.service.keeper c.stays.ensures.crash c.law_stops.ensures.fronts
+            (image_opens (g.D.Disk.may_leave new) from.history c.law_stops.ensures.fronts c.law_stops.ensures.leaves)));
       },
     ))

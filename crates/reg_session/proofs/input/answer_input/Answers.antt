@@ -1,10 +1,10 @@
-use Rattle.std.proofs.Common.{arith, rules, refl, inl}
+use Rattle.std.proofs.Common.{arith, rules, refl, inl, inr}
 use Rattle.std.proofs.lemmas.List.{length-take-le}
 use Rattle.reg_session.specs.Answered.{Point}
 use Rattle.reg_session.specs.Input.{StopsInput}
 use Rattle.reg_session.proofs.Feeding.{taken_none, taken_more, answers_all}
 use Rattle.reg_session.proofs.Halting.{kept_then, go_halted, err_by}
-use Rattle.reg_session.proofs.Reading.{stops_piece, stops_last, stops_failed, stops_full}
+use Rattle.reg_session.proofs.Reading.{stops_piece, stops_last, stops_early, early_input, early_output, early_disk}
 use Rattle.reg_session.proofs.input.answer_input.Goals as goal
 
 -- nothing was read yet
@@ -42,26 +42,46 @@ returns-then-count-eq0-clause-kept g c = kept_then g.J.Keeper _ _ _ _ _ _ c.loop
 pub returns-in_err-last-clause-halted : goal.returns-in_err-last-clause-halted
 returns-in_err-last-clause-halted g c =
     let here : Point = record { written = g.K.Sink.written c.args.out.now; moments = g.C.Clock.moments c.args.clock.now; state = c.args.service.state } in
-    err_by (λ e. StopsInput g.J.Keeper here c.args.service.keeper (g.S.Source.left c.args.input.now) (g.S.Source.left c.read_some.new.input) (g.K.Sink.written c.finish.new.out) e.0 e.1) c.from_residual.result c.in_err-last.field-0.0 c.from_residual.ensures.1
-    (stops_last g.J.Keeper here _ _ _ _ _ _ _ _ _ _ _ _ _ _ c.loop-taken.invariant.done c.loop-taken.invariant.held c.loop-taken.invariant.few c.in-Ok.ensures.bytes c.if-count-eq0.true (c.in-Ok.ensures.end c.if-count-eq0.true)
+    err_by (λ e. StopsInput g.J.Keeper here c.args.service.keeper (g.S.Source.left c.args.input.now) (g.S.Source.left c.read_some.new.input) (g.K.Sink.written c.finish.new.out) (g.K.Sink.flushed c.finish.new.out) e.0 e.1) c.from_residual.result c.in_err-last.field-0.0 c.from_residual.ensures.1
+    (stops_last g.J.Keeper here _ _ _ _ _ _ _ _ _ _ _ _ _ _ _ c.loop-taken.invariant.done c.loop-taken.invariant.held c.loop-taken.invariant.few c.in-Ok.ensures.bytes c.if-count-eq0.true (c.in-Ok.ensures.end c.if-count-eq0.true)
     c.loop-taken.invariant.kept c.in_err-last.ensures.others c.in_err-last.ensures.halted)
 
 -- a line of a piece did
 pub returns-in_err-service-clause-halted : goal.returns-in_err-service-clause-halted
 returns-in_err-service-clause-halted g c =
     let here : Point = record { written = g.K.Sink.written c.args.out.now; moments = g.C.Clock.moments c.args.clock.now; state = c.args.service.state } in
-    err_by (λ e. StopsInput g.J.Keeper here c.args.service.keeper (g.S.Source.left c.args.input.now) (g.S.Source.left c.read_some.new.input) (g.K.Sink.written c.feed.new.out) e.0 e.1) c.from_residual-in_err-service.result c.in_err-service.field-0.0 c.from_residual-in_err-service.ensures.1
-    (stops_piece g.J.Keeper here _ _ _ _ _ _ _ _ _ _ _ _ _ c.loop-taken.invariant.done c.loop-taken.invariant.held (omega (arith, c.in-Ok.ensures.within, length-take-le _ _ c.in-Ok.ensures.filled)) c.in-Ok.ensures.bytes
+    err_by (λ e. StopsInput g.J.Keeper here c.args.service.keeper (g.S.Source.left c.args.input.now) (g.S.Source.left c.read_some.new.input) (g.K.Sink.written c.feed.new.out) (g.K.Sink.flushed c.feed.new.out) e.0 e.1) c.from_residual-in_err-service.result c.in_err-service.field-0.0 c.from_residual-in_err-service.ensures.1
+    (stops_piece g.J.Keeper here _ _ _ _ _ _ _ _ _ _ _ _ _ _ c.loop-taken.invariant.done c.loop-taken.invariant.held (omega (arith, c.in-Ok.ensures.within, length-take-le _ _ c.in-Ok.ensures.filled)) c.in-Ok.ensures.bytes
     c.loop-taken.invariant.kept c.in_err-service.ensures.others c.in_err-service.ensures.halted)
 
 -- the input failed
 pub returns-in-Err-clause-halted : goal.returns-in-Err-clause-halted
 returns-in-Err-clause-halted g c =
-    rw c.in-Err.ensures.input.0 (stops_failed g.J.Keeper _ _ _ _ _ _ _ _ _ _ _ c.loop-taken.invariant.done c.loop-taken.invariant.held c.loop-taken.invariant.few c.in-Err.ensures.same refl
-    (go_halted g.J.Keeper c.args.service.state.history c.args.service.keeper c.loop-taken.service c.into_keeper.result c.loop-taken.invariant.kept c.into_keeper.ensures.keeper c.into_keeper.ensures.fronts c.into_keeper.ensures.leaves) refl refl)
+    stops_early g.J.Keeper _ _ _ _ _ _ _ _ _ _ _ _ _ _ _ _ c.loop-taken.invariant.done c.loop-taken.invariant.held c.loop-taken.invariant.few c.in-Err.ensures.same c.stop_flushed.ensures.same
+    (go_halted g.J.Keeper c.args.service.state.history c.args.service.keeper c.loop-taken.service c.into_keeper.result c.loop-taken.invariant.kept c.into_keeper.ensures.keeper c.into_keeper.ensures.fronts c.into_keeper.ensures.leaves) refl refl
+    (inl c.in-Err.ensures.input.0) c.stop_flushed.ensures.why
+
+pub returns-in-Err-clause-input : goal.returns-in-Err-clause-input
+returns-in-Err-clause-input g c = early_input _ _ _ _ _ _ _ _ c.stop_flushed.ensures.why (λ is. omega (arith, c.in-Err.ensures.input.1, c.loop-taken.invariant.reads))
+
+pub returns-in-Err-clause-output : goal.returns-in-Err-clause-output
+returns-in-Err-clause-output g c = early_output _ _ _ _ _ _ _ c.stop_flushed.ensures.why (λ is. let input = c.in-Err.ensures.input.0 in absurd (cc)) c.loop-taken.invariant.writes
+
+pub returns-in-Err-clause-disk : goal.returns-in-Err-clause-disk
+returns-in-Err-clause-disk g c is = absurd (early_disk _ _ _ _ _ _ c.stop_flushed.ensures.why (λ d. let input = c.in-Err.ensures.input.0 in absurd (cc)) is)
 
 -- there was too much of it
 pub returns-clause-halted : goal.returns-clause-halted
 returns-clause-halted g c =
-    stops_full g.J.Keeper _ _ _ _ _ _ _ _ _ _ c.loop-taken.invariant.done c.loop-taken.invariant.held c.loop-taken.invariant.few c.loop-taken-test.false refl
+    stops_early g.J.Keeper _ _ _ _ _ _ _ _ _ _ _ _ _ _ _ _ c.loop-taken.invariant.done c.loop-taken.invariant.held c.loop-taken.invariant.few refl c.stop_flushed-2.ensures.same
     (go_halted g.J.Keeper c.args.service.state.history c.args.service.keeper c.loop-taken.service c.into_keeper-2.result c.loop-taken.invariant.kept c.into_keeper-2.ensures.keeper c.into_keeper-2.ensures.fronts c.into_keeper-2.ensures.leaves) refl refl
+    (inr (refl, c.loop-taken-test.false)) c.stop_flushed-2.ensures.why
+
+pub returns-clause-input : goal.returns-clause-input
+returns-clause-input g c = early_input _ _ _ _ _ _ _ _ c.stop_flushed-2.ensures.why (λ is. absurd (cc))
+
+pub returns-clause-output : goal.returns-clause-output
+returns-clause-output g c = early_output _ _ _ _ _ _ _ c.stop_flushed-2.ensures.why (λ is. absurd (cc)) c.loop-taken.invariant.writes
+
+pub returns-clause-disk : goal.returns-clause-disk
+returns-clause-disk g c is = absurd (early_disk _ _ _ _ _ _ c.stop_flushed-2.ensures.why (λ d. absurd (cc)) is)

@@ -1,6 +1,6 @@
-use Rattle.std.proofs.Common.{◌≡◌, ◌∙◌, ℕ, ap, subst, max, Ok}
+use Rattle.std.proofs.Common.{◌≡◌, ◌∙◌, ℕ, ap, refl, subst, max, Ok}
 use Rattle.reg_machine.specs.History.{State}
-use Rattle.reg_service.specs.Kept.{KeepsNext}
+use Rattle.reg_service.specs.Kept.{KeepsNext, LeavesKeeper}
 use Rattle.reg_terms.specs.declared.request.Op.TheVariants as op
 use Rattle.reg_service.specs.Turn.{turn, requested, at_moment}
 use Rattle.reg_service.specs.Opening.{Served}
@@ -14,6 +14,9 @@ returns-in_default-clause-kept g c =
     stopped_at g.K.Keeper c.self.inside.machine c.self.inside.keeper _ _ c.self.invariant (g.met.K.Keeper.stop_now c.self.inside.keeper) (g.met.K.Keeper.stop_only_now c.self.inside.keeper)
     (ap (λ (v : Served g.row.K.Denot). v.state.history) c.self.view_is) (ap (λ (v : Served g.row.K.Denot). v.keeper) c.self.view_is)
 
+pub returns-in_default-clause-asked : goal.returns-in_default-clause-asked
+returns-in_default-clause-asked g c is = (ap (λ (v : Served g.row.K.Denot). v.keeper) c.self.view_is, refl)
+
 -- a query keeps nothing
 pub returns-in-Query-clause-kept : goal.returns-in-Query-clause-kept
 returns-in-Query-clause-kept g c =
@@ -21,6 +24,9 @@ returns-in-Query-clause-kept g c =
     let expected = (turn c.args.self.state c.args.at (Ok c.args.request)).1.history in
     let kept : KeepsNext g.K.Keeper c.in-Ok.machine.history expected c.self.inside.keeper c.asked.result.1 = c.asked.ensures.kept expected in
     subst (λ (v : Served g.row.K.Denot). KeepsNext g.K.Keeper v.state.history expected v.keeper c.asked.result.1) c.self.view_is (rw same at kept)
+
+pub returns-in-Query-clause-asked : goal.returns-in-Query-clause-asked
+returns-in-Query-clause-asked g c is = subst (λ (v : Served g.row.K.Denot). LeavesKeeper v.keeper c.asked.result.1) c.self.view_is c.asked.ensures.same
 
 -- a command is carried out at the later moment
 pub returns-in-Command-clause-kept : goal.returns-in-Command-clause-kept
@@ -30,6 +36,10 @@ returns-in-Command-clause-kept g c =
     let kept : KeepsNext g.K.Keeper c.self.inside.machine.history (requested later c.args.request.by (op.Command c.in-Command.command)).1.history c.self.inside.keeper c.carried_out.result.1 =
     subst (λ (m : State). KeepsNext g.K.Keeper m.history (requested m c.args.request.by (op.Command c.in-Command.command)).1.history c.self.inside.keeper c.carried_out.result.1) moved c.carried_out.ensures.kept in
     subst (λ (v : Served g.row.K.Denot). KeepsNext g.K.Keeper v.state.history (requested (at_moment v.state c.args.at) c.args.request.by c.args.request.op).1.history v.keeper c.carried_out.result.1) c.self.view_is (rw c.in-Command.is kept)
+
+-- and is no query
+pub returns-in-Command-clause-asked : goal.returns-in-Command-clause-asked
+returns-in-Command-clause-asked g c is = absurd (rw c.in-Command.is at is)
 
 -- and has its form
 pub carried_out-requires-clause-form : goal.carried_out-requires-clause-form
