@@ -1,5 +1,5 @@
 -- What a run leaves for a crash, from what its parts leave.
-use Rattle.std.proofs.Common.{◌≡◌, ◌≤◌, ◌+◌, ◌-◌, ◌++◌, ◌∷◌, List, ℕ, zero, suc, Option, Some, None, Result, Ok, Err, [], refl, ap, sym, ◌∙◌, subst, arith, option_map, ◌⊎◌, inl, inr, length, length-append, take, append-nil, append_assoc}
+use Rattle.std.proofs.Common.{◌≡◌, ◌≤◌, ◌+◌, ◌-◌, ◌++◌, ◌∷◌, List, ℕ, zero, suc, Option, Some, None, Result, Ok, Err, [], refl, ap, sym, ◌∙◌, subst, arith, option_map, ◌⊎◌, inl, inr, length, length-append, take, append_assoc}
 use Rattle.std.specs.Prelude.{IfSome, Bool, true, false, ◌||◌, is_ok, nat_lt}
 use Rattle.std.proofs.lemmas.List.{take_all, take_at}
 use Rattle.std.proofs.Math.Seq.{take-append-add}

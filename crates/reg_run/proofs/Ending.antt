@@ -12,17 +12,18 @@ use Rattle.reg_terms.specs.declared.query.Answer.{Answer}
 use Rattle.reg_terms.specs.declared.reply.Reply.{Reply}
 use Rattle.reg_terms.specs.declared.reply.Reply.TheVariants as reply
 use Rattle.reg_machine.specs.History.{State, facts}
+use Rattle.reg_keep.specs.declared.keeper.Keeper.{Ghosts}
 use Rattle.reg_view.specs.Answers.{answer_of}
 use Rattle.reg_service.specs.Turn.{turn, answered}
 use Rattle.reg_session.specs.Answered.{Point}
 use Rattle.reg_session.specs.Lines.{lines, IsCutAtLineFeeds}
 use Rattle.reg_session.specs.Replies.{line_of}
-use Rattle.reg_session.specs.Input.{EndsInput, Takes}
+use Rattle.reg_session.specs.Input.{EndsInput, StopsInput, Takes}
 use Rattle.reg_session.specs.declared.stop.Stop.{Stop}
 use Rattle.reg_session.specs.declared.stop.Stop.TheVariants as stop
 use Rattle.reg_run.specs.Status.{status_of}
 use Rattle.reg_run.specs.Crash.{Seen, DiskSurvives, IsWhole}
-use Rattle.reg_run.specs.Ends.{Asked, IsFlushed, Printed, ApplyEnds, DidApply, MembersEnds, Replied, RepliedFront, TooMuchExactly, begins_at, name_reading, end_of_reply, end_of_stop, is_refused}
+use Rattle.reg_run.specs.Ends.{Asked, IsFlushed, Printed, ApplyEnds, DidApply, MembersEnds, RepliedFront, TooMuchExactly, begins_at, name_reading, end_of_reply, end_of_stop, is_refused}
 use Rattle.reg_run.specs.World.{World, Out, output}
 use Rattle.reg_run.specs.declared.task.End.{End}
 use Rattle.reg_run.specs.declared.task.End.TheVariants as the_end
@@ -114,7 +115,7 @@ six (inl e) = absurd (omega arith)
 six (inr (inl e)) = absurd (omega arith)
 six (inr (inr e)) = absurd (omega arith)
 
-pub stop_whole : (s : Stop) (p : Point) (taken : List ℕ) (left w : Option (List ℕ)) (f : Option ℕ) (answered after : List Stamped) → EndsInput p taken left w f answered after s
+stop_whole : (s : Stop) (p : Point) (taken : List ℕ) (left w : Option (List ℕ)) (f : Option ℕ) (answered after : List Stamped) → EndsInput p taken left w f answered after s
     → IsWhole (status_of (end_of_stop s)) → answered ≡ after
 stop_whole stop.Memory p taken left w f answered after e is = absurd (three is)
 stop_whole stop.Disk p taken left w f answered after e is = absurd (four is)
@@ -122,10 +123,14 @@ stop_whole stop.Input p taken left w f answered after e is = e.0.done ∙ sym e.
 stop_whole stop.Output p taken left w f answered after e is = absurd (six is)
 stop_whole stop.TooMuch p taken left w f answered after e is = e.0.done ∙ sym e.0.kept
 
+pub whole_stop : {K : Type 0} (g : Ghosts K) (p : Point) (old : K) (left now w : Option (List ℕ)) (f : Option ℕ) (why : Stop) (keeper : K) (s : StopsInput g p old left now w f why keeper)
+    → IsWhole (status_of (end_of_stop why)) → s.halted.answered ≡ s.halted.after
+whole_stop g p old left now w f why keeper s = stop_whole why p s.taken now w f s.halted.answered s.halted.after s.ends
+
 -- an input that ended with fewer bytes had no more
-all_given : {Q : Type 0} (left now : Option (List ℕ)) (taken : List ℕ) → left ≡ prepend_known taken now → IsAtEnd now → length taken < 2 ^ 32 → IfSome left (λ bytes. 2 ^ 32 ≤ length bytes → Q)
-all_given left None taken is ended few = rw is tt
-all_given left (Some rest) taken is ended few = let none : rest ≡ [] = ended in rw (is, none, append-nil taken) (λ many. absurd (omega (arith, few, many)))
+all_given : (Q : Type 0) (left now : Option (List ℕ)) (taken : List ℕ) → left ≡ prepend_known taken now → IsAtEnd now → length taken < 2 ^ 32 → IfSome left (λ bytes. 2 ^ 32 ≤ length bytes → Q)
+all_given Q left None taken is ended few = rw is tt
+all_given Q left (Some rest) taken is ended few = let none : rest ≡ [] = ended in rw (is, none, append-nil taken) (λ many. absurd (omega (arith, few, many)))
 
 any_given : {Q : List ℕ → Type 0} (left : Option (List ℕ)) → ((bytes : List ℕ) → Q bytes) → IfSome left Q
 any_given None each = tt
@@ -137,7 +142,7 @@ too_much_of : (end : End) (from : State) (taken : List ℕ) (before after : Worl
 too_much_of the_end.Done from taken before after accepted answered input e = record {
   only = λ is. absurd (cc);
   where_taken = λ none is. absurd (omega (arith, e.few, is));
-  where_given = λ none. all_given before.left after.left taken input e.ended e.few;
+  where_given = λ none. all_given _ before.left after.left taken input e.ended e.few;
 }
 too_much_of the_end.Usage from taken before after accepted answered input e = elim e [ ]
 too_much_of the_end.Memory from taken before after accepted answered input e = record {

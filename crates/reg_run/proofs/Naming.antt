@@ -1,5 +1,5 @@
 -- What the word `members` asks has its form.
-use Rattle.std.proofs.Common.{◌≡◌, List, ℕ, Bool, Option, Some, None, true, false, refl}
+use Rattle.std.proofs.Common.{◌≡◌, List, ℕ, Bool, Some, None, true, false, refl}
 use Rattle.std.specs.Prelude.{if◌then◌else◌}
 use Rattle.reg_base.specs.Names.{is_name, name_of}
 use Rattle.reg_terms.specs.declared.request.Op.TheVariants as op

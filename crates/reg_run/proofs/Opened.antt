@@ -1,5 +1,5 @@
 -- What a file opens to, by its records.
-use Rattle.std.proofs.Common.{◌≡◌, List, ℕ, Option, Some, None, Result, Ok, Err, refl, ap, ◌∙◌, map, length, take, subst, arith}
+use Rattle.std.proofs.Common.{◌≡◌, List, ℕ, Option, Some, None, Result, Ok, Err, refl, ap, ◌∙◌, map, length, subst, arith}
 use Rattle.std.proofs.lemmas.List.{take_all}
 use Rattle.std.specs.Prelude.{IfSome}
 use Rattle.reg_outside.specs.Faults.{Rose}

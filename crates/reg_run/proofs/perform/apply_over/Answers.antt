@@ -1,9 +1,9 @@
-use Rattle.std.proofs.Common.{refl, inl, inr, arith, ◌-◌, length, ◌≤◌}
+use Rattle.std.proofs.Common.{refl, inl, inr, arith, ◌-◌, length}
 use Rattle.reg_keep.specs.JournalWords.{disk_of}
 use Rattle.reg_run.proofs.Crashing.{untouched_same, survives_kept, stops_whole, stops_halted, no_shorter, answered_front}
 use Rattle.reg_run.specs.Ends.{end_of_stop}
 use Rattle.reg_run.specs.declared.task.End.TheVariants as the_end
-use Rattle.reg_run.proofs.Ending.{stop_whole, apply_stopped, did_apply}
+use Rattle.reg_run.proofs.Ending.{whole_stop, apply_stopped, did_apply}
 use Rattle.reg_run.proofs.perform.apply_over.Goals as goal
 
 -- the journal didn't open, so the disk was only read
@@ -50,5 +50,5 @@ returns-in-Err-answer_input-clause-did g c name =
           (apply_stopped c.in-Err-answer_input.stop from s.taken _ _ h.kept.more (length h.answered - length from.history) h.answered h.after c.in-Err-answer_input.ensures.input c.in-Err-answer_input.ensures.output
           (λ is. omega (arith, c.in-Err-answer_input.ensures.disk is, c.in-Ok.ensures.later)) (answered_front from.history h.answered h.after h.kept.more h.kept.grown h.first h.last) h.kept.grown s.ends)
           (survives_kept g.D.Disk from.history h.answered h.after h.kept.more _ c.args.disk mid new c.in-Ok.ensures.crash (g.met.D.Disk.only_now c.args.disk) c.in-Ok.ensures.same (g.met.D.Disk.reads_now new)
-          h.kept.grown h.first h.last (stop_whole c.in-Err-answer_input.stop _ _ _ _ _ h.answered h.after s.ends) (stops_halted from.history h.answered h.after c.in-Ok.service.keeper c.in-Err-answer_input.keeper h.kept.crash h.stopped)),
+          h.kept.grown h.first h.last (whole_stop _ _ _ _ _ _ _ _ _ s) (stops_halted from.history h.answered h.after c.in-Ok.service.keeper c.in-Err-answer_input.keeper h.kept.crash h.stopped)),
     ))
