@@ -1,9 +1,9 @@
 -- Groups that are members, after one membership more, one less, and one with another window.
 use Rattle.std.proofs.Common.{◌≡◌, ◌++◌, ◌==◌, ℕ, List, [], ◌∷◌, Bool, true, false, not, Option, refl, sym, ap, ◌∙◌, append_assoc, filter, map, inl, inr}
-use Rattle.std.specs.Prelude.{◌&&◌, ◌||◌, if◌then◌else◌}
+use Rattle.std.specs.Prelude.{◌&&◌, ◌||◌}
 use Rattle.std.specs.List.{list_any}
 use Rattle.std.proofs.lemmas.List.{append-nil}
-use Rattle.std.proofs.lemmas.Bool.{cases_Bool, and_parts, eqb-true}
+use Rattle.std.proofs.lemmas.Bool.{cases_Bool}
 use Rattle.reg_terms.specs.declared.kinds.Member.{Member}
 use Rattle.reg_terms.specs.declared.kinds.Member.TheVariants.{Person, Group}
 use Rattle.reg_terms.specs.declared.rows.MemberRow.{MemberRow}
@@ -79,22 +79,4 @@ nests_redated from until g m [] = refl
 nests_redated from until g m (row ∷ rows) = elim (cases_Bool (is_row g m row)) [
   | inl t ↦ rw (t, nests_redated from until g m rows) refl
   | inr t ↦ rw (t, nests_redated from until g m rows) refl
-]
-
-same : (a b : Member) → same_member a b ≡ true → a ≡ b
-same (Person a) (Person b) h = ap Person (eqb-true a b h)
-same (Person a) (Group b) h = absurd (let clash : ⊥ = cc in clash)
-same (Group a) (Person b) h = absurd (let clash : ⊥ = cc in clash)
-same (Group a) (Group b) h = ap Group (eqb-true a b h)
-
--- a row in the place of another is that row with another window
-pub window_put : (from : ℕ) (until : Option ℕ) (g : ℕ) (m : Member) (row : MemberRow)
-    → (if is_row g m row then (record { group = g; member = m; from = from; until = until }) else row) ≡ windowed from until g m row
-window_put from until g m row = elim (cases_Bool (is_row g m row)) [
-  | inl t ↦
-      let parts = and_parts (row.group == g) (same_member row.member m) t in
-      let group = eqb-true row.group g parts.0 in
-      let member = same row.member m parts.1 in
-      rw (t, group, member) refl
-  | inr t ↦ rw t refl
 ]

@@ -1,4 +1,4 @@
-use Rattle.std.proofs.Common.{◌≡◌, ◌∙◌, sym, ap, rules, get_or}
+use Rattle.std.proofs.Common.{◌≡◌, ◌∙◌, sym, ap, rules}
 use Rattle.std.proofs.lemmas.List.Sorted.{answers_always}
 use Rattle.reg_facts.proofs.Searched.{at_place, searched_by}
 use Rattle.reg_facts.proofs.numbered.place_by_id.Goals as goal
