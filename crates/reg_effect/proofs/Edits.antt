@@ -4,7 +4,8 @@ use Rattle.std.proofs.lemmas.Bool.{cases_Bool, eqb-true, and_parts, or_parts}
 use Rattle.std.specs.List.{list_any}
 use Rattle.std.specs.BTreeSet.{insert_key}
 use Rattle.std.specs.Set.{remove_key}
-use Rattle.std.specs.Ordering.{match_ordering, is_eq}
+use Rattle.std.specs.BTreeMap.{is_at}
+use Rattle.std.specs.Ordering.{nat_cmp, ordering_then, match_ordering, is_eq}
 use Rattle.std.specs.declared.cmp.Ordering.{Ordering}
 use Rattle.std.specs.declared.cmp.Ordering.TheVariants.{Less, Equal, Greater}
 use Rattle.reg_terms.specs.declared.kinds.Member.{Member}
@@ -13,7 +14,8 @@ use Rattle.reg_terms.specs.declared.rows.CompositeRow.{CompositeRow}
 use Rattle.reg_terms.specs.Kinds.{same_member}
 use Rattle.reg_effect.specs.Order.{row_cmp, composite_cmp, is_row, has_row}
 use Rattle.reg_effect.specs.Member.{is_composite}
-use Rattle.reg_effect.proofs.Places.{at_place, at_number}
+use Rattle.reg_graph.proofs.Kept.{at_pair}
+use Rattle.reg_effect.proofs.Places.{at_number}
 
 -- a test that what is taken out fails sees no difference
 pub any_removed : {X : Type 0} (t test : X → Bool) → ((x : X) → t x ≡ true → test x ≡ false) → (xs : List X) → list_any test (remove_key t xs) ≡ list_any test xs
@@ -68,27 +70,24 @@ pub any_added : {X : Type 0} (cmp : X → X → Ordering) (test : X → Bool) (x
 any_added cmp test x h f xs = any_put cmp test x h xs ∙ rw f refl
 
 -- rows at one place are one
+apart : (o : Ordering) (b : Bool) → (is_eq (ordering_then o Less) ≡ (b && false)) × (is_eq (ordering_then o Greater) ≡ (b && false))
+apart Less true = (refl, refl)
+apart Less false = (refl, refl)
+apart Equal true = (refl, refl)
+apart Equal false = (refl, refl)
+apart Greater true = (refl, refl)
+apart Greater false = (refl, refl)
+
 pub row_eq : (g : ℕ) (m : Member) (y : ℕ) (n : Member) → is_eq (row_cmp (g, m) (y, n)) ≡ is_row g m (y, n)
-row_eq g (Person p) y (Person q) = at_place g 0 p y 0 q ∙ both (y == g) (q == p)
-  where
-    both : (a b : Bool) → ((a && true) && b) ≡ (a && b)
-    both true b = refl
-    both false b = refl
-row_eq g (Person p) y (Group q) = at_place g 0 p y 1 q ∙ none (y == g) (q == p)
-  where
-    none : (a b : Bool) → ((a && false) && b) ≡ (a && false)
-    none true b = refl
-    none false b = refl
-row_eq g (Group p) y (Person q) = at_place g 1 p y 0 q ∙ none (y == g) (q == p)
-  where
-    none : (a b : Bool) → ((a && false) && b) ≡ (a && false)
-    none true b = refl
-    none false b = refl
-row_eq g (Group p) y (Group q) = at_place g 1 p y 1 q ∙ both (y == g) (q == p)
-  where
-    both : (a b : Bool) → ((a && true) && b) ≡ (a && b)
-    both true b = refl
-    both false b = refl
+row_eq g (Person p) y (Person q) = at_pair g p y q
+row_eq g (Person p) y (Group q) = (apart (nat_cmp g y) (y == g)).0
+row_eq g (Group p) y (Person q) = (apart (nat_cmp g y) (y == g)).1
+row_eq g (Group p) y (Group q) = at_pair g p y q
+
+-- the row that stands at a place is taken out
+pub rows_removed : (g : ℕ) (m : Member) (rows : List (ℕ × Member)) → remove_key (is_at (row_cmp (g, m))) rows ≡ remove_key (is_row g m) rows
+rows_removed g m [] = refl
+rows_removed g m (r ∷ rs) = rw (row_eq g m r.0 r.1, rows_removed g m rs) refl
 
 pub member_is : (m n : Member) → same_member n m ≡ true → n ≡ m
 member_is (Person a) (Person b) h = rw (eqb-true b a h) refl

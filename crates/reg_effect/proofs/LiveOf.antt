@@ -14,13 +14,40 @@ use Rattle.std.proofs.lemmas.Map.Lookups.{btree_set_from_contains}
 use Rattle.reg_terms.specs.declared.kinds.Member.{Member}
 use Rattle.reg_terms.specs.declared.kinds.Member.TheVariants.{Person, Group}
 use Rattle.reg_terms.specs.declared.rows.MemberRow.{MemberRow}
-use Rattle.reg_facts.specs.RowOrder.{place_of}
+use Rattle.reg_facts.specs.RowOrder.{member_cmp}
 use Rattle.reg_effect.specs.Order.{row_cmp, is_row, has_row}
 use Rattle.reg_effect.specs.Changes.{rows_where, rows_on}
 use Rattle.reg_effect.proofs.Edits.{any_put, row_same, row_equal, row_eq, row_is, rows_absent}
 
+member_cmp_total : IsTotalOrder member_cmp
+member_cmp_total = record { antisymm = antisymm; trans = trans; congr = congr }
+  where
+    antisymm : (a b : Member) → member_cmp a b ≡ ordering_reverse (member_cmp b a)
+    antisymm (Person a) (Person b) = nat_cmp_total.antisymm a b
+    antisymm (Person a) (Group b) = refl
+    antisymm (Group a) (Person b) = refl
+    antisymm (Group a) (Group b) = nat_cmp_total.antisymm a b
+
+    trans : (a b c : Member) → member_cmp a b ≡ Less → member_cmp b c ≡ Less → member_cmp a c ≡ Less
+    trans (Person a) (Person b) (Person c) p q = nat_cmp_total.trans a b c p q
+    trans (Person a) (Person b) (Group c) p q = refl
+    trans (Person a) (Group b) (Person c) p q = cc
+    trans (Person a) (Group b) (Group c) p q = refl
+    trans (Group a) (Person b) (Person c) p q = cc
+    trans (Group a) (Person b) (Group c) p q = cc
+    trans (Group a) (Group b) (Person c) p q = cc
+    trans (Group a) (Group b) (Group c) p q = nat_cmp_total.trans a b c p q
+
+    congr : (a b c : Member) → member_cmp a b ≡ Equal → member_cmp a c ≡ member_cmp b c
+    congr (Person a) (Person b) (Person c) e = nat_cmp_total.congr a b c e
+    congr (Person a) (Person b) (Group c) e = refl
+    congr (Person a) (Group b) c e = cc
+    congr (Group a) (Person b) c e = cc
+    congr (Group a) (Group b) (Person c) e = refl
+    congr (Group a) (Group b) (Group c) e = nat_cmp_total.congr a b c e
+
 pub row_cmp_total : IsTotalOrder row_cmp
-row_cmp_total = on_total (λ (r : ℕ × Member). place_of r.0 r.1) (then_total (then_total (on_total (λ (p : ℕ × ℕ × ℕ). p.0) nat_cmp_total) (on_total (λ (p : ℕ × ℕ × ℕ). p.1) nat_cmp_total)) (on_total (λ (p : ℕ × ℕ × ℕ). p.2) nat_cmp_total))
+row_cmp_total = then_total (on_total (λ (r : ℕ × Member). r.0) nat_cmp_total) (on_total (λ (r : ℕ × Member). r.1) member_cmp_total)
 
 module _ {X : Type 0} (R : X → X → Ordering) (o : IsTotalOrder R) where
   pub all_put : (P : X → Type 0) (x : X) (xs : List X) → P x → AllByRecursion P xs → AllByRecursion P (insert_key R xs x)

@@ -1,5 +1,5 @@
 -- Rows and composites as ordered maps and sets keep them.
-use Rattle.std.proofs.Common.{◌≡◌, ◌<◌, ◌==◌, ◌&&◌, ◌^◌, ℕ, List, [], ◌∷◌, Bool, true, false, cond, map, filter, Option, Some, None, Bor, arith, refl, sym, ◌∙◌, ap, inl, inr}
+use Rattle.std.proofs.Common.{◌≡◌, ◌<◌, ◌==◌, ◌&&◌, ◌^◌, ℕ, List, [], ◌∷◌, ◌++◌, Bool, not, true, false, cond, map, filter, Option, Some, None, Bor, arith, refl, sym, ◌∙◌, ap, inl, inr}
 use Rattle.std.proofs.lemmas.Grind.{common_steps}
 use Rattle.std.proofs.lemmas.Bool.Decides.{nat_tests}
 use Rattle.std.proofs.lemmas.Bool.{cases_Bool, eqb-true, eqb-false, or_left, or_parts}
@@ -11,145 +11,108 @@ use Rattle.std.specs.Map.Iter.{TakesFirst, deref}
 use Rattle.std.specs.BTreeMap.Range.{range_contains}
 use Rattle.std.specs.Set.{remove_key}
 use Rattle.std.specs.Map.{lookup, remove_entry}
-use Rattle.std.specs.Ordering.{nat_cmp, match_ordering, is_eq}
+use Rattle.std.specs.Ordering.{nat_cmp, ordering_then, match_ordering, is_eq, is_le, is_lt}
 use Rattle.std.specs.declared.cmp.Ordering.{Ordering}
 use Rattle.std.specs.declared.cmp.Ordering.TheVariants.{Less, Equal, Greater}
 use Rattle.std.specs.declared.ops.Bound.TheVariants.{Included}
+use Rattle.std.proofs.lemmas.List.{append-nil, append_assoc}
 use Rattle.std.proofs.lemmas.List.Elements.{recursion_from_All}
 use Rattle.std.proofs.lemmas.Map.Views.{All-insert_key, All-remove_key}
 use Rattle.reg_terms.specs.declared.kinds.Member.{Member}
 use Rattle.reg_terms.specs.declared.kinds.Member.TheVariants.{Person, Group}
 use Rattle.reg_terms.specs.declared.rows.CompositeRow.{CompositeRow}
+use Rattle.reg_terms.specs.contracts.kinds.MemberOrd.TheImpl.{ghosts}
+use Rattle.reg_facts.specs.RowOrder.{member_cmp}
 use Rattle.reg_effect.specs.declared.composites.Factors.{Factors}
-use Rattle.reg_facts.specs.RowOrder.{place_of, place_cmp}
-use Rattle.reg_effect.specs.Order.{row_cmp, composite_cmp, row_at, is_row, has_row, has_rows, nested, ArePlaces}
+use Rattle.reg_effect.specs.Order.{row_cmp, composite_cmp, has_rows, nested, IsSmall, HaveSmallIds, groups_of}
 use Rattle.reg_effect.specs.Factors.{composite_at}
 use Rattle.reg_effect.specs.Member.{is_composite}
 
--- ---- lists under a map
-pub map_inserted : {A B : Type 0} (f : A → B) (P : A → A → Ordering) (R : B → B → Ordering) (a : A) (xs : List A) → AllByRecursion (λ x. R (f a) (f x) ≡ P a x) xs → map f (insert_key P xs a) ≡ insert_key R (map f xs) (f a)
-map_inserted f P R a [] h = refl
-map_inserted f P R a (x ∷ xs) h = rw h.0 (go (map_inserted f P R a xs h.1) (P a x))
-  where
-    go : map f (insert_key P xs a) ≡ insert_key R (map f xs) (f a) → (o : Ordering) → map f (match_ordering o (a ∷ x ∷ xs) (x ∷ xs) (x ∷ insert_key P xs a)) ≡ match_ordering o (f a ∷ f x ∷ map f xs) (f x ∷ map f xs) (f x ∷ insert_key R (map f xs) (f a))
-    go r Less = refl
-    go r Equal = refl
-    go r Greater = ap (λ ys. f x ∷ ys) r
+-- ---- the order that is derived for keys is the order of rows
+member_order_is : (m n : Member) → ghosts.cmp m n ≡ member_cmp m n
+member_order_is (Person a) (Person b) = refl
+member_order_is (Person a) (Group b) = refl
+member_order_is (Group a) (Person b) = refl
+member_order_is (Group a) (Group b) = refl
 
-pub map_removed : {A B : Type 0} (f : A → B) (s : A → Bool) (t : B → Bool) (xs : List A) → AllByRecursion (λ x. t (f x) ≡ s x) xs → map f (remove_key s xs) ≡ remove_key t (map f xs)
-map_removed f s t [] h = refl
-map_removed f s t (x ∷ xs) h = rw h.0 (elim (s x) as (λ b. map f (cond b xs (x ∷ remove_key s xs)) ≡ cond b (map f xs) (f x ∷ remove_key t (map f xs))) [ true ↦ refl | false ↦ ap (λ ys. f x ∷ ys) (map_removed f s t xs h.1) ])
+abbrev pub derived_cmp : ℕ × Member → ℕ × Member → Ordering
+derived_cmp a b = ordering_then (nat_cmp a.0 b.0) (ghosts.cmp a.1 b.1)
 
-pub map_any : {A B : Type 0} (f : A → B) (s : A → Bool) (t : B → Bool) (xs : List A) → AllByRecursion (λ x. t (f x) ≡ s x) xs → list_any t (map f xs) ≡ list_any s xs
-map_any f s t [] h = refl
-map_any f s t (x ∷ xs) h = rw (h.0, map_any f s t xs h.1) refl
+pub derived_is : (a b : ℕ × Member) → derived_cmp a b ≡ row_cmp a b
+derived_is a b = ap (λ o. ordering_then (nat_cmp a.0 b.0) o) (member_order_is a.1 b.1)
 
--- ---- places of rows
-abbrev pub Small : ℕ × ℕ × ℕ → Type 0
-Small p = (p.1 < 2) × (p.2 < 2 ^ 32)
-
-pub place_back : (p : ℕ × ℕ × ℕ) → p.1 < 2 → place_of (row_at p).0 (row_at p).1 ≡ p
-place_back (a, k, n) h = elim (cases_Bool (k == 0)) [
-  | inl t ↦ rw (eqb-true k 0 t) refl
-  | inr f ↦ let e : k ≡ 1 = one k h (eqb-false k 0 f) in rw e refl
-]
-  where
-    one : (k : ℕ) → k < 2 → (k ≡ 0 → ⊥) → k ≡ 1
-    one k h z = omega (arith, h, z)
-
-pub row_back : (g : ℕ) (m : Member) → row_at (place_of g m) ≡ (g, m)
-row_back g (Person p) = refl
-row_back g (Group h) = refl
-
-pub at_place : (a b c x y z : ℕ) → is_at (place_cmp (a, b, c)) (x, y, z) ≡ (((x == a) && (y == b)) && (z == c))
-at_place a b c x y z = grind (arith, nat_tests, common_steps)
-
-pub row_place : (g : ℕ) (m : Member) (p : ℕ × ℕ × ℕ) → p.1 < 2 → is_row g m (row_at p) ≡ is_at (place_cmp (place_of g m)) p
-row_place g (Person s) (x, y, z) h = rw (at_place g 0 s x y z) (elim (cases_Bool (y == 0)) [ inl t ↦ rw t (both (x == g) (z == s)) | inr f ↦ rw f (none (x == g) (z == s)) ])
-  where
-    both : (a b : Bool) → (a && b) ≡ ((a && true) && b)
-    both true b = refl
-    both false b = refl
-
-    none : (a b : Bool) → (a && false) ≡ ((a && false) && b)
-    none true b = refl
-    none false b = refl
-row_place g (Group s) (x, y, z) h = rw (at_place g 1 s x y z) (elim (cases_Bool (y == 0)) [
-  | inl t ↦ let e : y ≡ 0 = eqb-true y 0 t in rw e (none (x == g) (z == s))
-  | inr f ↦ let e : y ≡ 1 = one y h (eqb-false y 0 f) in rw e (both (x == g) (z == s))
-])
-  where
-    both : (a b : Bool) → (a && b) ≡ ((a && true) && b)
-    both true b = refl
-    both false b = refl
-
-    none : (a b : Bool) → (a && false) ≡ ((a && false) && b)
-    none true b = refl
-    none false b = refl
-
-    one : (k : ℕ) → k < 2 → (k ≡ 0 → ⊥) → k ≡ 1
-    one k h z = omega (arith, h, z)
-
-pub each_place : {Q : ℕ × ℕ × ℕ → Type 0} → ((p : ℕ × ℕ × ℕ) → p.1 < 2 → Q p) → (ps : List (ℕ × ℕ × ℕ)) → AllByRecursion Small ps → AllByRecursion Q ps
-each_place f [] h = tt
-each_place f (p ∷ ps) h = (f p h.0.0, each_place f ps h.1)
-
-pub by_place : (ps : List (ℕ × ℕ × ℕ)) → ArePlaces ps → AllByRecursion Small ps
-by_place ps h = recursion_from_All Small ps h
-
-pub rows_has : (g : ℕ) (m : Member) (ps : List (ℕ × ℕ × ℕ)) → ArePlaces ps → list_any (is_at (place_cmp (place_of g m))) ps ≡ has_row g m (map row_at ps)
-rows_has g m ps h = sym (map_any row_at (is_at (place_cmp (place_of g m))) (is_row g m) ps (each_place (row_place g m) ps (by_place ps h)))
-
-pub rows_inserted : (g : ℕ) (m : Member) (ps : List (ℕ × ℕ × ℕ)) → ArePlaces ps → map row_at (insert_key place_cmp ps (place_of g m)) ≡ insert_key row_cmp (map row_at ps) (g, m)
-rows_inserted g m ps h =
-    map_inserted row_at place_cmp row_cmp (place_of g m) ps (each_place (λ p l. same p l) ps (by_place ps h))
-    ∙ ap (λ r. insert_key row_cmp (map row_at ps) r) (row_back g m)
-  where
-    same : (p : ℕ × ℕ × ℕ) → p.1 < 2 → row_cmp (row_at (place_of g m)) (row_at p) ≡ place_cmp (place_of g m) p
-    same p l = ap (λ (r : ℕ × Member). row_cmp r (row_at p)) (row_back g m) ∙ ap (λ (q : ℕ × ℕ × ℕ). place_cmp (place_of g m) q) (place_back p l)
-
-pub rows_removed : (g : ℕ) (m : Member) (ps : List (ℕ × ℕ × ℕ)) → ArePlaces ps → map row_at (remove_key (is_at (place_cmp (place_of g m))) ps) ≡ remove_key (is_row g m) (map row_at ps)
-rows_removed g m ps h = map_removed row_at (is_at (place_cmp (place_of g m))) (is_row g m) ps (each_place (row_place g m) ps (by_place ps h))
-
-pub small_place : (g : ℕ) (m : Member) → (place_of g m).2 < 2 ^ 32 → Small (place_of g m)
-small_place g (Person p) h = (omega arith, h)
-small_place g (Group p) h = (omega arith, h)
-
-pub places_inserted : (place : ℕ × ℕ × ℕ) (ps : List (ℕ × ℕ × ℕ)) → ArePlaces ps → Small place → ArePlaces (insert_key place_cmp ps place)
-places_inserted place ps h l = All-insert_key place_cmp place Small ps h l
-
-pub places_removed : (test : ℕ × ℕ × ℕ → Bool) (ps : List (ℕ × ℕ × ℕ)) → ArePlaces ps → ArePlaces (remove_key test ps)
-places_removed test ps h = All-remove_key test Small ps h
+-- so a part of them is one part by both
+pub part_is : (low high : ℕ × Member) (rows : List (ℕ × Member)) → filter (range_contains derived_cmp (Included low) (Included high)) rows ≡ filter (range_contains row_cmp (Included low) (Included high)) rows
+part_is low high [] = refl
+part_is low high (r ∷ rs) = rw (derived_is low r, derived_is high r, part_is low high rs) refl
 
 -- ---- the groups that a group's rows name
-abbrev pub range_of : ℕ → ℕ × ℕ × ℕ → Bool
-range_of g = range_contains place_cmp (Included (g, 1, 0)) (Included (g, 1, 4294967295))
+abbrev pub range_of : ℕ → ℕ × Member → Bool
+range_of g = range_contains row_cmp (Included (g, Group 0)) (Included (g, Group 4294967295))
 
-pub in_range : (g x y z : ℕ) → z < 2 ^ 32 → range_of g (x, y, z) ≡ ((x == g) && (y == 1))
-in_range g x y z h = grind (arith, nat_tests, common_steps)
+pub in_range : (g x h : ℕ) → h < 2 ^ 32 → range_of g (x, Group h) ≡ (x == g)
+in_range g x h l = grind (arith, nat_tests, common_steps)
 
-pub nested_by : (g : ℕ) (ps : List (ℕ × ℕ × ℕ)) → AllByRecursion Small ps → map (λ (p : ℕ × ℕ × ℕ). p.2) (filter (range_of g) ps) ≡ nested g (map row_at ps)
-nested_by g [] h = refl
-nested_by g ((x, y, z) ∷ ps) h =
-    let rest = nested_by g ps h.1 in
-    rw (in_range g x y z h.0.1) (elim (cases_Bool (y == 0)) [
-      | inl t ↦ rw (eqb-true y 0 t) (none (x == g) rest)
-      | inr f ↦ let e : y ≡ 1 = one y h.0.0 (eqb-false y 0 f) in rw e (some (x == g) rest)
-    ])
+pub out_of_range : (g x p : ℕ) → range_of g (x, Person p) ≡ false
+out_of_range g x p = never (nat_cmp g x)
   where
-    one : (k : ℕ) → k < 2 → (k ≡ 0 → ⊥) → k ≡ 1
-    one k h z = omega (arith, h, z)
+    never : (o : Ordering) → (is_le (ordering_then o Greater) && not (is_lt (ordering_then o Greater))) ≡ false
+    never Less = refl
+    never Equal = refl
+    never Greater = refl
 
-    none : (b : Bool) → map (λ (p : ℕ × ℕ × ℕ). p.2) (filter (range_of g) ps) ≡ nested g (map row_at ps) → map (λ (p : ℕ × ℕ × ℕ). p.2) (cond (b && false) ((x, 0, z) ∷ filter (range_of g) ps) (filter (range_of g) ps)) ≡ nested g (map row_at ps)
-    none true r = r
-    none false r = r
+-- the groups that rows name
+abbrev pub named : List (ℕ × Member) → List ℕ
+named [] = []
+named (row ∷ rows) = groups_of row.1 ++ named rows
 
-    some : (b : Bool) → map (λ (p : ℕ × ℕ × ℕ). p.2) (filter (range_of g) ps) ≡ nested g (map row_at ps) → map (λ (p : ℕ × ℕ × ℕ). p.2) (cond (b && true) ((x, 1, z) ∷ filter (range_of g) ps) (filter (range_of g) ps)) ≡ cond b (z ∷ nested g (map row_at ps)) (nested g (map row_at ps))
-    some true r = ap (λ ys. z ∷ ys) r
-    some false r = r
+pub nested_by : (g : ℕ) (rows : List (ℕ × Member)) → AllByRecursion (λ (row : ℕ × Member). IsSmall row.1) rows → named (filter (range_of g) rows) ≡ nested g rows
+nested_by g [] h = refl
+nested_by g ((x, Person p) ∷ rs) h = rw (out_of_range g x p) (nested_by g rs h.1)
+nested_by g ((x, Group k) ∷ rs) h = rw (in_range g x k h.0) (elim (x == g) as (λ b. named (cond b ((x, Group k) ∷ filter (range_of g) rs) (filter (range_of g) rs)) ≡ cond b (k ∷ nested g rs) (nested g rs))
+    [ true ↦ ap (λ ys. k ∷ ys) (nested_by g rs h.1) | false ↦ nested_by g rs h.1 ])
 
-pub nested_is : (g n : ℕ) (items : List ℕ) (xs ps : List (ℕ × ℕ × ℕ)) (view : List (ℕ × Member)) → items ≡ map (λ (p : ℕ × ℕ × ℕ). p.2) xs → xs ≡ filter (range_of n) ps → n ≡ g → ArePlaces ps → map row_at ps ≡ view → items ≡ nested g view
-nested_is g n items xs ps view a b c d e = a ∙ ap (λ ys. map (λ (p : ℕ × ℕ × ℕ). p.2) ys) b ∙ rw (c, ← e) (nested_by g ps (by_place ps d))
+pub nested_is : (g : ℕ) (items : List ℕ) (xs keys view : List (ℕ × Member)) → items ≡ named xs → xs ≡ filter (range_of g) keys → HaveSmallIds keys → keys ≡ view → items ≡ nested g view
+nested_is g items xs keys view a b h e = a ∙ ap named b ∙ rw (← e) (nested_by g keys (recursion_from_All (λ (row : ℕ × Member). IsSmall row.1) keys h))
+
+-- one more is looked at
+pub named_more : (bs : List (Bor (ℕ × Member))) (b : Bor (ℕ × Member)) → named (map deref (bs ++ b ∷ [])) ≡ named (map deref bs) ++ groups_of b.now.1
+named_more [] b = append-nil (groups_of b.now.1)
+named_more (x ∷ xs) b = ap (λ ys. groups_of x.now.1 ++ ys) (named_more xs b) ∙ sym (append_assoc (groups_of x.now.1) (named (map deref xs)) (groups_of b.now.1))
+
+-- ---- the rows of a group
+abbrev pub range_all : ℕ → ℕ × Member → Bool
+range_all g = range_contains row_cmp (Included (g, Person 0)) (Included (g, Group 4294967295))
+
+pub in_range_all : (g x : ℕ) (m : Member) → IsSmall m → range_all g (x, m) ≡ (x == g)
+in_range_all g x (Person p) h = grind (arith, nat_tests, common_steps)
+in_range_all g x (Group k) h = grind (arith, nat_tests, common_steps)
+
+pub any_by : (g : ℕ) (rows : List (ℕ × Member)) → AllByRecursion (λ (row : ℕ × Member). IsSmall row.1) rows → has_rows g rows ≡ list_any (range_all g) rows
+any_by g [] h = refl
+any_by g ((x, m) ∷ rs) h = rw (in_range_all g x m h.0, any_by g rs h.1) refl
+
+-- a test that some entry passes leaves a first one
+found : {X : Type 0} (test : X → Bool) (p : X) (xs rest : List X) → filter test xs ≡ p ∷ rest → list_any test xs ≡ true
+found test p [] rest e = cc
+found test p (x ∷ xs) rest e = elim (cases_Bool (test x)) [
+  | inl t ↦ or_left _ _ t
+  | inr f ↦ rw f (found test p xs rest (rw f at e))
+]
+
+missed : {X : Type 0} (test : X → Bool) (xs : List X) → filter test xs ≡ [] → list_any test xs ≡ false
+missed test [] e = refl
+missed test (x ∷ xs) e = elim (cases_Bool (test x)) [
+  | inl t ↦ let w : x ∷ filter test xs ≡ [] = rw t at e in cc
+  | inr f ↦ rw f (missed test xs (rw f at e))
+]
+
+pub any_is : (g : ℕ) (r : Option (Bor (ℕ × Member))) (s t keys view : List (ℕ × Member)) → TakesFirst deref s r t → s ≡ filter (range_all g) keys → HaveSmallIds keys → keys ≡ view → is_some r ≡ has_rows g view
+any_is g r s t keys view h e small v = go r h ∙ (sym (any_by g keys (recursion_from_All (λ (row : ℕ × Member). IsSmall row.1) keys small)) ∙ ap (has_rows g) v)
+  where
+    go : (r : Option (Bor (ℕ × Member))) → TakesFirst deref s r t → is_some r ≡ list_any (range_all g) keys
+    go None h = sym (missed (range_all g) keys (sym e ∙ h.0))
+    go (Some x) h = sym (found (range_all g) x.now keys t (sym e ∙ h))
 
 -- ---- composites by group
 pub at_number : (g x : ℕ) → is_at (nat_cmp g) x ≡ (x == g)
@@ -183,41 +146,6 @@ composite_inserted g f (e ∷ es) h =
 pub composite_removed : (g : ℕ) (es : List (ℕ × Factors)) → map composite_at (remove_entry (is_at (nat_cmp g)) es) ≡ remove_key (λ (c : CompositeRow). c.group == g) (map composite_at es)
 composite_removed g [] = refl
 composite_removed g (e ∷ es) = rw (at_number g e.0) (elim (e.0 == g) as (λ b. map composite_at (cond b es (e ∷ remove_entry (is_at (nat_cmp g)) es)) ≡ cond b (map composite_at es) (composite_at e ∷ remove_key (λ (c : CompositeRow). c.group == g) (map composite_at es))) [ true ↦ refl | false ↦ ap (λ ys. composite_at e ∷ ys) (composite_removed g es) ])
-
--- ---- the rows of a group
-abbrev pub range_all : ℕ → ℕ × ℕ × ℕ → Bool
-range_all g = range_contains place_cmp (Included (g, 0, 0)) (Included (g, 1, 4294967295))
-
-pub in_range_all : (g x y z : ℕ) → y < 2 → z < 2 ^ 32 → range_all g (x, y, z) ≡ (x == g)
-in_range_all g x y z k h = grind (arith, nat_tests, common_steps)
-
-pub any_by : (g : ℕ) (ps : List (ℕ × ℕ × ℕ)) → AllByRecursion Small ps → has_rows g (map row_at ps) ≡ list_any (range_all g) ps
-any_by g [] h = refl
-any_by g ((x, y, z) ∷ ps) h = rw (in_range_all g x y z h.0.0 h.0.1, any_by g ps h.1) refl
-
-pub some_of : (g : ℕ) (xs ps : List (ℕ × ℕ × ℕ)) (p : ℕ × ℕ × ℕ) (view : List (ℕ × Member)) → filter (range_all g) ps ≡ p ∷ xs → ArePlaces ps → map row_at ps ≡ view → has_rows g view ≡ true
-some_of g xs ps p view e d v = rw (← v) (any_by g ps (by_place ps d) ∙ found ps e)
-  where
-    found : (ps : List (ℕ × ℕ × ℕ)) → filter (range_all g) ps ≡ p ∷ xs → list_any (range_all g) ps ≡ true
-    found [] e = cc
-    found (q ∷ qs) e = elim (cases_Bool (range_all g q)) [
-      | inl t ↦ or_left _ _ t
-      | inr f ↦ rw f (found qs (rw f at e))
-    ]
-
-pub none_of : (g : ℕ) (ps : List (ℕ × ℕ × ℕ)) (view : List (ℕ × Member)) → filter (range_all g) ps ≡ [] → ArePlaces ps → map row_at ps ≡ view → has_rows g view ≡ false
-none_of g ps view e d v = rw (← v) (any_by g ps (by_place ps d) ∙ missed ps e)
-  where
-    missed : (ps : List (ℕ × ℕ × ℕ)) → filter (range_all g) ps ≡ [] → list_any (range_all g) ps ≡ false
-    missed [] e = refl
-    missed (q ∷ qs) e = elim (cases_Bool (range_all g q)) [
-      | inl t ↦ let w : q ∷ filter (range_all g) qs ≡ [] = rw t at e in cc
-      | inr f ↦ rw f (missed qs (rw f at e))
-    ]
-
-pub any_is : (g n : ℕ) (r : Option (Bor (ℕ × ℕ × ℕ))) (s t ps : List (ℕ × ℕ × ℕ)) (view : List (ℕ × Member)) → TakesFirst deref s r t → s ≡ filter (range_all n) ps → n ≡ g → ArePlaces ps → map row_at ps ≡ view → is_some r ≡ has_rows g view
-any_is g n None s t ps view h e k d v = let f : s ≡ filter (range_all g) ps = rw k at e in sym (none_of g ps view (sym f ∙ h.0) d v)
-any_is g n (Some x) s t ps view h e k d v = let f : s ≡ filter (range_all g) ps = rw k at e in sym (some_of g t ps x.now view (sym f ∙ h) d v)
 
 pub found_some : (g : ℕ) (cs : List CompositeRow) → is_some (find (λ (c : CompositeRow). c.group == g) cs) ≡ is_composite g cs
 found_some g [] = refl

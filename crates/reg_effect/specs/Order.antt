@@ -1,17 +1,17 @@
 -- The order of rows and composites: rows by group, then persons, then groups, and composites by group.
-use Rattle.std.specs.Prelude.{ℕ, ◌==◌, ◌&&◌, ◌<◌, ◌^◌, List, [], ◌∷◌, Bool, if◌then◌else◌}
+use Rattle.std.specs.Prelude.{⊤, ℕ, ◌==◌, ◌&&◌, ◌<◌, ◌^◌, List, [], ◌∷◌, Bool, if◌then◌else◌}
 use Rattle.std.specs.List.{list_any, All}
-use Rattle.std.specs.Ordering.{nat_cmp}
+use Rattle.std.specs.Ordering.{nat_cmp, ordering_then}
 use Rattle.std.specs.declared.cmp.Ordering.{Ordering}
 use Rattle.reg_terms.specs.declared.kinds.Member.{Member}
 use Rattle.reg_terms.specs.declared.kinds.Member.TheVariants.{Person, Group}
 use Rattle.reg_terms.specs.declared.rows.CompositeRow.{CompositeRow}
 use Rattle.reg_terms.specs.Kinds.{same_member}
-use Rattle.reg_facts.specs.RowOrder.{place_of, place_cmp}
+use Rattle.reg_facts.specs.RowOrder.{member_cmp}
 
--- the order of rows
+-- by group, and then by member
 abbrev pub row_cmp : ℕ × Member → ℕ × Member → Ordering
-row_cmp a b = place_cmp (place_of a.0 a.1) (place_of b.0 b.1)
+row_cmp a b = ordering_then (nat_cmp a.0 b.0) (member_cmp a.1 b.1)
 
 -- the order of composites
 abbrev pub composite_cmp : CompositeRow → CompositeRow → Ordering
@@ -29,13 +29,19 @@ has_row g m rows = list_any (is_row g m) rows
 abbrev pub has_rows : ℕ → List (ℕ × Member) → Bool
 has_rows g rows = list_any (λ (row : ℕ × Member). row.0 == g) rows
 
--- the row that stands at a place
-abbrev pub row_at : ℕ × ℕ × ℕ → ℕ × Member
-row_at place = (place.0, if place.1 == 0 then Person place.2 else Group place.2)
+-- a group's id is a number of 32 bits
+abbrev pub IsSmall : Member → Type 0
+IsSmall (Person p) = ⊤
+IsSmall (Group h) = h < 2 ^ 32
 
--- places of persons and groups, with numbers of 32 bits
-abbrev pub ArePlaces : List (ℕ × ℕ × ℕ) → Type 0
-ArePlaces places = All (λ (place : ℕ × ℕ × ℕ). (place.1 < 2) × (place.2 < 2 ^ 32)) places
+-- the members' ids are such numbers
+abbrev pub HaveSmallIds : List (ℕ × Member) → Type 0
+HaveSmallIds rows = All (λ (row : ℕ × Member). IsSmall row.1) rows
+
+-- the group that a member is, or none
+abbrev pub groups_of : Member → List ℕ
+groups_of (Person p) = []
+groups_of (Group h) = h ∷ []
 
 -- the groups that the group's rows name
 abbrev pub nested : ℕ → List (ℕ × Member) → List ℕ

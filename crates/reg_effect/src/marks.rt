@@ -15,7 +15,7 @@ use std::marker::Model;
 #[derive(Drop)]
 pub(crate) struct Marks {
     alloc: Global,
-    pairs: BTreeSet<(u32, u32)>,
+    pairs: BTreeSet<(GroupId, SubjectId)>,
 }
 
 impl Model for Marks {
@@ -42,14 +42,14 @@ impl Marks {
     pub(crate) fn has(&self, g: GroupId, s: SubjectId) -> bool
         ensures { result ≡ holds g s self.now }
     {
-        self.pairs.contains(&(g.number(), s.number()))
+        self.pairs.contains(&(g, s))
     }
 
     pub(crate) fn add(&mut self, g: GroupId, s: SubjectId) -> Result<(), AllocError>
         ensures { OnOk result ((x y : ℕ) → holds x y self.new
             ≡ (((x == g) && (y == s)) || holds x y self.old)) }
     {
-        self.pairs.insert((g.number(), s.number()))?;
+        self.pairs.insert((g, s))?;
         Ok(())
     }
 
@@ -67,8 +67,10 @@ impl Marks {
         ensures sorted { IfOk result (λ v. IsStrictlySortedBy nat_cmp v.items) }
     {
         let mut subjects = Vec::new(self.alloc);
-        for pair in self.pairs.range((g.number(), 0)..=(g.number(), u32::MAX)) {
-            subjects.push(SubjectId::new(pair.1))?;
+        let first = (g, SubjectId::new(0));
+        let last = (g, SubjectId::new(u32::MAX));
+        for pair in self.pairs.range(first..=last) {
+            subjects.push(pair.1)?;
         }
         Ok(subjects)
     }
@@ -80,7 +82,7 @@ impl Marks {
     {
         let mut pairs = Pairs::new(self.alloc);
         for pair in &self.pairs {
-            pairs.push((GroupId::new(pair.0), SubjectId::new(pair.1)))?;
+            pairs.push(*pair)?;
         }
         Ok(pairs)
     }
@@ -92,10 +94,8 @@ impl Marks {
     {
         let mut pairs = Pairs::new(self.alloc);
         for pair in &self.pairs {
-            let group = GroupId::new(pair.0);
-            let subject = SubjectId::new(pair.1);
-            if !other.has(group, subject) {
-                pairs.push((group, subject))?;
+            if !other.has(pair.0, pair.1) {
+                pairs.push(*pair)?;
             }
         }
         Ok(pairs)

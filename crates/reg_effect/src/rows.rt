@@ -1,9 +1,8 @@
 // Rows of groups, in order.
-ghost use Rattle.std.specs.Prelude.{◌≡◌, ◌<◌, ◌^◌, [], IfOk, OnOk, OnErr};
+ghost use Rattle.std.specs.Prelude.{◌≡◌, ◌++◌, [], IfOk, OnOk, OnErr};
 ghost use Rattle.std.specs.BTreeSet.{insert_key};
 ghost use Rattle.std.specs.Set.{remove_key};
-ghost use Rattle.reg_facts.specs.RowOrder.{place_of};
-ghost use Rattle.reg_effect.specs.Order.{row_cmp, row_at, is_row, has_row, has_rows, nested};
+ghost use Rattle.reg_effect.specs.Order.{row_cmp, is_row, has_row, has_rows, nested, groups_of};
 
 use reg_base::{GroupId, SubjectId};
 use reg_facts::Member;
@@ -11,51 +10,33 @@ use std::alloc::{AllocError, Global};
 use std::collections::BTreeSet;
 use std::marker::Model;
 
-/// A person's kind among the members of a group.
-const PERSON: u32 = 0;
-/// A nested group's kind.
-const GROUP: u32 = 1;
-
 /// Rows (group, member), each once, by group, persons before groups, and the member's id. Contracts see the list.
 #[derive(Drop)]
 pub struct Rows {
     alloc: Global,
-    places: BTreeSet<(u32, u32, u32)>,
+    rows: BTreeSet<(GroupId, Member)>,
 }
 
 impl Model for Rows {
-    ghost use Rattle.std.specs.Prelude.{List, ℕ, map};
+    ghost use Rattle.std.specs.Prelude.{List, ℕ};
     ghost use Rattle.reg_terms.specs.declared.kinds.Member.{Member};
-    ghost use Rattle.reg_effect.specs.Order.{row_at, ArePlaces};
+    ghost use Rattle.reg_effect.specs.Order.{HaveSmallIds};
 
     ghost Value = { List (ℕ × Member) };
 
-    ghost view = { λ r. map row_at r.places.keys };
+    ghost view = { λ r. r.rows.keys };
 
-    ghost invariant = { λ r. ArePlaces r.places.keys };
+    ghost invariant = { λ r. HaveSmallIds r.rows.keys };
 }
 
-/// Where a row stands in the order.
-fn place_of(group: GroupId, member: Member) -> (u32, u32, u32)
-    ensures value { result ≡ place_of group member }
-    ensures small { result.2 < 2 ^ 32 }
+/// Adds the group that the member is, if it is one.
+fn add_group(groups: &mut Vec<GroupId>, member: &Member) -> Result<(), AllocError>
+    ensures { OnOk result (groups.new.items ≡ groups.old.items ++ groups_of member.now) }
 {
-    match member {
-        Member::Person(person) => (group.number(), PERSON, person.number()),
-        Member::Group(nested) => (group.number(), GROUP, nested.number()),
+    if let Member::Group(group) = member {
+        groups.push(*group)?;
     }
-}
-
-/// The row that stands at a place.
-fn row_at(place: (u32, u32, u32)) -> (GroupId, Member)
-    ensures { result ≡ row_at place }
-{
-    let member = if place.1 == PERSON {
-        Member::Person(SubjectId::new(place.2))
-    } else {
-        Member::Group(GroupId::new(place.2))
-    };
-    (GroupId::new(place.0), member)
+    Ok(())
 }
 
 impl Rows {
@@ -65,7 +46,7 @@ impl Rows {
     {
         Rows {
             alloc,
-            places: BTreeSet::new(alloc),
+            rows: BTreeSet::new(alloc),
         }
     }
 
@@ -73,18 +54,16 @@ impl Rows {
     pub fn has(&self, group: GroupId, member: Member) -> bool
         ensures { result ≡ has_row group member self.now }
     {
-        self.places.contains(&place_of(group, member))
+        self.rows.contains(&(group, member))
     }
 
     /// Whether the group has rows. Takes no memory.
     pub fn has_any(&self, group: GroupId) -> bool
         ensures { result ≡ has_rows group self.now }
     {
-        let number = group.number();
-        self.places
-            .range((number, PERSON, 0)..=(number, GROUP, u32::MAX))
-            .next()
-            .is_some()
+        let first = (group, Member::Person(SubjectId::new(0)));
+        let last = (group, Member::Group(GroupId::new(u32::MAX)));
+        self.rows.range(first..=last).next().is_some()
     }
 
     /// Puts a row at its place, unless it is there. Out of memory the rows stay as they were.
@@ -92,7 +71,7 @@ impl Rows {
         ensures ok { OnOk result (self.new ≡ insert_key row_cmp self.old (group, member)) }
         ensures err { OnErr result (self.new ≡ self.old) }
     {
-        self.places.insert(place_of(group, member))?;
+        self.rows.insert((group, member))?;
         Ok(())
     }
 
@@ -100,20 +79,18 @@ impl Rows {
     pub fn remove(&mut self, group: GroupId, member: Member)
         ensures { self.new ≡ remove_key (is_row group member) self.old }
     {
-        self.places.remove(&place_of(group, member));
+        self.rows.remove(&(group, member));
     }
 
     /// The groups that the group's rows name, by id.
     pub fn nested(&self, group: GroupId) -> Result<Vec<GroupId>, AllocError>
         ensures { IfOk result (λ v. v.items ≡ nested group self.now) }
     {
-        let number = group.number();
+        let first = (group, Member::Group(GroupId::new(0)));
+        let last = (group, Member::Group(GroupId::new(u32::MAX)));
         let mut groups = Vec::new(self.alloc);
-        for place in self
-            .places
-            .range((number, GROUP, 0)..=(number, GROUP, u32::MAX))
-        {
-            groups.push(GroupId::new(place.2))?;
+        for row in self.rows.range(first..=last) {
+            add_group(&mut groups, &row.1)?;
         }
         Ok(groups)
     }
@@ -123,8 +100,8 @@ impl Rows {
         ensures { IfOk result (λ v. v.items ≡ self.now) }
     {
         let mut rows = Vec::new(self.alloc);
-        for place in &self.places {
-            rows.push(row_at(*place))?;
+        for row in &self.rows {
+            rows.push(*row)?;
         }
         Ok(rows)
     }

@@ -9,13 +9,13 @@ use Rattle.reg_effect.proofs.marks.Marks.beyond.Goals as goal
 pub loop-pair-preserved-in-Continue-1 : goal.loop-pair-preserved-in-Continue-1
 loop-pair-preserved-in-Continue-1 c =
     let keep : ℕ × ℕ → Bool = λ (q : ℕ × ℕ). not (holds q.0 q.1 c.args.other.now) in
-    let has : holds c.in-Some.pair.now.0 c.in-Some.pair.now.1 c.args.other.now ≡ false = sym (rw (c.new-group.ensures, c.new-subject.ensures) at c.if-not-has.ensures) in
-    kept_more keep c.loop-pair.yielded c.in-Some.pair c.loop-pair.pairs c.push.new.self _ _ c.loop-pair.invariant c.in_ok-push.ensures.ok c.new-group.ensures c.new-subject.ensures (rw has refl)
+    let has : holds c.in-Some.pair.now.0 c.in-Some.pair.now.1 c.args.other.now ≡ false = sym c.if-not-has.ensures in
+    kept_more keep c.loop-pair.yielded c.in-Some.pair c.loop-pair.pairs c.push.new.self _ _ c.loop-pair.invariant c.in_ok-push.ensures.ok refl refl (rw has refl)
 
 pub loop-pair-preserved : goal.loop-pair-preserved
 loop-pair-preserved c =
     let keep : ℕ × ℕ → Bool = λ (q : ℕ × ℕ). not (holds q.0 q.1 c.args.other.now) in
-    let has : holds c.in-Some.pair.now.0 c.in-Some.pair.now.1 c.args.other.now ≡ true = sym (rw (c.new-group.ensures, c.new-subject.ensures) at c.if-not-has.ensures) in
+    let has : holds c.in-Some.pair.now.0 c.in-Some.pair.now.1 c.args.other.now ≡ true = sym c.if-not-has.ensures in
     kept_less keep c.loop-pair.yielded c.in-Some.pair c.loop-pair.pairs c.loop-pair.invariant (rw has refl)
 
 pub returns-clause-ordered : goal.returns-clause-ordered

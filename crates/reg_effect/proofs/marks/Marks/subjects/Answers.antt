@@ -9,15 +9,15 @@ use Rattle.reg_effect.proofs.marks.Marks.subjects.Goals as goal
 
 pub returns-clause-value : goal.returns-clause-value
 returns-clause-value c =
-    let all : map deref c.loop-pair.yielded ≡ filter (range_contains pair_cmp (Included (c.number.result, 0)) (Included (c.number-2.result, 4294967295))) c.args.self.now = search (rules, iter_end) in
-    listed_is _ _ _ _ _ _ _ c.loop-pair.invariant all c.number.ensures c.number-2.ensures c.self.invariant c.self.view_is
+    let all : map deref c.loop-pair.yielded ≡ filter (range_contains pair_cmp (Included (c.args.g, c.new.result)) (Included (c.args.g, c.new-2.result))) c.args.self.now = search (rules, iter_end) in
+    listed_is _ _ _ _ _ _ _ c.loop-pair.invariant all c.new.ensures c.new-2.ensures c.self.invariant c.self.view_is
 
 pub returns-clause-each : goal.returns-clause-each
 returns-clause-each c =
-    let all : map deref c.loop-pair.yielded ≡ filter (range_contains pair_cmp (Included (c.number.result, 0)) (Included (c.number-2.result, 4294967295))) c.args.self.now = search (rules, iter_end) in
-    rw (listed_is _ _ _ _ _ _ _ c.loop-pair.invariant all c.number.ensures c.number-2.ensures c.self.invariant c.self.view_is) (λ s. each_listed c.args.g s c.args.self.now)
+    let all : map deref c.loop-pair.yielded ≡ filter (range_contains pair_cmp (Included (c.args.g, c.new.result)) (Included (c.args.g, c.new-2.result))) c.args.self.now = search (rules, iter_end) in
+    rw (listed_is _ _ _ _ _ _ _ c.loop-pair.invariant all c.new.ensures c.new-2.ensures c.self.invariant c.self.view_is) (λ s. each_listed c.args.g s c.args.self.now)
 
 pub returns-clause-sorted : goal.returns-clause-sorted
 returns-clause-sorted c =
-    let all : map deref c.loop-pair.yielded ≡ filter (range_contains pair_cmp (Included (c.number.result, 0)) (Included (c.number-2.result, 4294967295))) c.args.self.now = search (rules, iter_end) in
-    rw (listed_is _ _ _ _ _ _ _ c.loop-pair.invariant all c.number.ensures c.number-2.ensures c.self.invariant c.self.view_is) (ascending_by c.args.g c.args.self.now (rw c.self.view_is at c.self.invariant).ordered)
+    let all : map deref c.loop-pair.yielded ≡ filter (range_contains pair_cmp (Included (c.args.g, c.new.result)) (Included (c.args.g, c.new-2.result))) c.args.self.now = search (rules, iter_end) in
+    rw (listed_is _ _ _ _ _ _ _ c.loop-pair.invariant all c.new.ensures c.new-2.ensures c.self.invariant c.self.view_is) (ascending_by c.args.g c.args.self.now (rw c.self.view_is at c.self.invariant).ordered)

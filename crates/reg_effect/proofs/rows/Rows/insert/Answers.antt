@@ -1,11 +1,11 @@
-use Rattle.std.proofs.Common.{◌∙◌, ap, map}
-use Rattle.reg_facts.specs.RowOrder.{place_of}
-use Rattle.reg_effect.specs.Order.{row_at}
-use Rattle.reg_effect.proofs.Places.{rows_inserted, places_inserted, small_place}
+use Rattle.std.proofs.Common.{rules, ◌≡◌}
+use Rattle.std.specs.BTreeSet.{insert_key}
+use Rattle.std.proofs.lemmas.Map.Views.{All-insert_key}
+use Rattle.reg_effect.specs.Order.{row_cmp, IsSmall}
 use Rattle.reg_effect.proofs.rows.Rows.insert.Goals as goal
 
 pub invariant_of-self-2 : goal.invariant_of-self-2
-invariant_of-self-2 c = rw (c.in_ok-insert.ensures.keys, c.place_of.ensures.value) (places_inserted (place_of c.args.group c.args.member) c.self.inside.places.keys c.self.invariant (small_place c.args.group c.args.member (rw c.place_of.ensures.value at c.place_of.ensures.small)))
-
-pub returns-clause-ok : goal.returns-clause-ok
-returns-clause-ok c = ap (λ ks. map row_at ks) c.in_ok-insert.ensures.keys ∙ rw (c.place_of.ensures.value, ← c.self.view_is) (rows_inserted c.args.group c.args.member c.self.inside.places.keys c.self.invariant)
+invariant_of-self-2 c =
+    let keys : c.insert.new.self.keys ≡ insert_key row_cmp c.self.inside.rows.keys (c.args.group, c.args.member) = search rules in
+    let small : IsSmall c.args.member = search rules in
+    rw keys (All-insert_key row_cmp (c.args.group, c.args.member) (λ row. IsSmall row.1) c.self.inside.rows.keys c.self.invariant small)

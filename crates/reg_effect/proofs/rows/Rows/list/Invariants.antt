@@ -1,7 +1,6 @@
 use Rattle.std.proofs.Common.{◌≡◌, map}
 use Rattle.std.specs.Map.Iter.{deref}
-use Rattle.reg_effect.specs.Order.{row_at}
 use Rattle.reg_effect.proofs.rows.Rows.list.Given as goal
 
-abbrev pub invariant-loop-place : goal.invariant-loop-place
-invariant-loop-place l = l.rows.items ≡ map row_at (map deref l.yielded)
+abbrev pub invariant-loop-row : goal.invariant-loop-row
+invariant-loop-row l = l.rows.items ≡ map deref l.yielded
