@@ -10,7 +10,7 @@ use Rattle.reg_effect.specs.Member.{combine, gives, level, member}
 use Rattle.reg_graph.specs.Edges.{reaches, IsAcyclic}
 use Rattle.reg_effect.specs.Edges.{edges}
 use Rattle.reg_effect.specs.Changes.{changed, group_of}
-use Rattle.reg_effect.specs.Order.{row_cmp, composite_cmp, is_row}
+use Rattle.reg_effect.specs.Order.{row_cmp, composite_cmp, is_live_row}
 use Rattle.reg_effect.specs.Walk.{Touches}
 use Rattle.reg_effect.proofs.Edits.{any_removed, any_added, row_is, row_same, group_same}
 use Rattle.reg_graph.proofs.Reaching.{reaches_self, reaches_trans, reaches_edge}
@@ -22,9 +22,9 @@ own_same (RowOn g m) L M x s h =
     let test : ℕ × Member → Bool = λ (row : ℕ × Member). (row.0 == x) && gives M s row.1 in
     rw (any_added row_cmp test (g, m) (row_same g m test) (rw h refl) L.rows) refl
 own_same (RowOff g m) L M x s h =
-    rw (any_removed (is_row g m) (λ (row : ℕ × Member). (row.0 == x) && gives M s row.1) (λ row t. other row.0 row.1 t) L.rows) refl
+    rw (any_removed (is_live_row g m) (λ (row : ℕ × Member). (row.0 == x) && gives M s row.1) (λ row t. other row.0 row.1 t) L.rows) refl
   where
-    other : (y : ℕ) (n : Member) → is_row g m (y, n) ≡ true → ((y == x) && gives M s n) ≡ false
+    other : (y : ℕ) (n : Member) → is_live_row g m (y, n) ≡ true → ((y == x) && gives M s n) ≡ false
     other y n t = rw ((row_is g m y n t).0, h) refl
 own_same (FactorsOn g op left right) L M x s h =
     let c : CompositeRow = record { group = g; op = op; left = left; right = right } in

@@ -9,7 +9,8 @@ use Rattle.reg_terms.specs.declared.kinds.SetOp.TheVariants.{Intersection, Compl
 use Rattle.reg_effect.specs.declared.live.Live.{Live}
 use Rattle.reg_effect.specs.declared.live.Change.{Change}
 use Rattle.reg_effect.specs.declared.live.Change.TheVariants.{RowOn, RowOff, FactorsOn, FactorsOff}
-use Rattle.reg_effect.specs.Member.{is_composite, combine, gives, in_rows, in_factors, level, member}
+use Rattle.reg_facts.specs.Edits.{is_composite}
+use Rattle.reg_effect.specs.Member.{combine, gives, in_rows, in_factors, level, member}
 use Rattle.reg_graph.specs.Edges.{IsAcyclic, among}
 use Rattle.reg_effect.specs.Edges.{edges}
 use Rattle.std.proofs.lemmas.Bool.{or_parts}
@@ -20,7 +21,7 @@ use Rattle.std.specs.declared.cmp.Ordering.{Ordering}
 use Rattle.std.specs.declared.cmp.Ordering.TheVariants.{Less, Equal, Greater}
 use Rattle.reg_graph.proofs.Reaching.{eq_turned}
 use Rattle.reg_effect.specs.Changes.{changed, group_of, Fits}
-use Rattle.reg_effect.specs.Order.{row_cmp, composite_cmp, is_row, has_rows}
+use Rattle.reg_effect.specs.Order.{row_cmp, composite_cmp, is_live_row, has_live_rows}
 use Rattle.reg_effect.specs.Asked.{asks, asks_row, IsWell, Once}
 use Rattle.reg_effect.proofs.Deep.{member_level}
 use Rattle.reg_effect.proofs.Edits.{any_removed, any_added, any_new, row_is, row_same, composite_absent, composite_added}
@@ -39,10 +40,10 @@ asks_same (RowOff g (Group h)) was M k q = k h q
 asks_same (FactorsOn g op left right) was M k q = k left q
 asks_same (FactorsOff g) was M k q = k g q
 
-pub no_rows : (M : ℕ → Bool) (rows : List (ℕ × Member)) (g q : ℕ) → has_rows g rows ≡ false → in_rows M rows g q ≡ false
+pub no_rows : (M : ℕ → Bool) (rows : List (ℕ × Member)) (g q : ℕ) → has_live_rows g rows ≡ false → in_rows M rows g q ≡ false
 no_rows M [] g q h = refl
 no_rows M (row ∷ rows) g q h = elim (cases_Bool (row.0 == g)) [
-  | inl t ↦ absurd (both_ways (has_rows g (row ∷ rows)) h (or_left _ _ t))
+  | inl t ↦ absurd (both_ways (has_live_rows g (row ∷ rows)) h (or_left _ _ t))
   | inr f ↦ rw f (no_rows M rows g q (rw f at h))
 ]
 
@@ -78,9 +79,9 @@ row_on_kept g m L q n =
 pub level_kept : (c : Change) (L : Live) → IsWell L → Fits c L → IsAcyclic (edges L) → (q : ℕ) → asks c (member L) q ≡ false → level (λ h. member L h q) L (group_of c) q ≡ level (λ h. member L h q) (changed c L) (group_of c) q
 level_kept (RowOn g m) L w f a q n = row_on_kept g m L q n
 level_kept (RowOff g m) L w f a q n =
-    rw (any_removed (is_row g m) (λ (row : ℕ × Member). (row.0 == g) && gives (λ h. member L h q) q row.1) (λ row t. gone row.0 row.1 t) L.rows) refl
+    rw (any_removed (is_live_row g m) (λ (row : ℕ × Member). (row.0 == g) && gives (λ h. member L h q) q row.1) (λ row t. gone row.0 row.1 t) L.rows) refl
   where
-    gone : (y : ℕ) (o : Member) → is_row g m (y, o) ≡ true → ((y == g) && gives (λ h. member L h q) q o) ≡ false
+    gone : (y : ℕ) (o : Member) → is_live_row g m (y, o) ≡ true → ((y == g) && gives (λ h. member L h q) q o) ≡ false
     gone y o t = rw ((row_is g m y o t).1, gives_is L m q, n) (never (y == g))
 level_kept (FactorsOn g op left right) L w f a q n =
     let c : CompositeRow = record { group = g; op = op; left = left; right = right } in
@@ -126,10 +127,10 @@ pub once_gone : (g : ℕ) (cs : List CompositeRow) → Once cs → Once (remove_
 once_gone g [] o = tt
 once_gone g (d ∷ ds) o = elim (cases_Bool (d.group == g)) [ inl u ↦ rw u o.1 | inr v ↦ rw v (composite_gone d.group g ds o.0, once_gone g ds o.1) ]
 
-pub rows_gone : (x : ℕ) (t : ℕ × Member → Bool) (rows : List (ℕ × Member)) → has_rows x rows ≡ false → has_rows x (remove_key t rows) ≡ false
+pub rows_gone : (x : ℕ) (t : ℕ × Member → Bool) (rows : List (ℕ × Member)) → has_live_rows x rows ≡ false → has_live_rows x (remove_key t rows) ≡ false
 rows_gone x t [] h = refl
 rows_gone x t (r ∷ rs) h =
-    let parts = or_parts (r.0 == x) (has_rows x rs) h in
+    let parts = or_parts (r.0 == x) (has_live_rows x rs) h in
     let rest = rows_gone x t rs parts.1 in
     elim (cases_Bool (t r)) [ inl u ↦ rw u parts.1 | inr v ↦ rw v (rw parts.0 rest) ]
 
@@ -139,7 +140,7 @@ well_kept (RowOn g m) L w f = record {
   once = w.once;
 }
 well_kept (RowOff g m) L w f = record {
-  rowless = λ x h. rows_gone x (is_row g m) L.rows (w.rowless x h);
+  rowless = λ x h. rows_gone x (is_live_row g m) L.rows (w.rowless x h);
   once = w.once;
 }
 well_kept (FactorsOn g op left right) L w f = record {

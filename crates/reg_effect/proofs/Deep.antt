@@ -10,7 +10,8 @@ use Rattle.reg_effect.specs.declared.live.Live.{Live}
 use Rattle.reg_effect.specs.Member.{in_rows, in_factors, level, member_in, entries, member}
 use Rattle.reg_graph.specs.Edges.{reaches, has_edge, IsAcyclic}
 use Rattle.reg_effect.specs.Edges.{edges, row_edges, factor_edges}
-use Rattle.reg_effect.proofs.Ranks.{passing, passing_le, rank_falls}
+use Rattle.reg_graph.proofs.Counting.{passing, passing_le}
+use Rattle.reg_effect.proofs.Ranks.{rank_falls}
 
 -- the groups of the entries
 abbrev pub sources : List (ℕ × Member) → List CompositeRow → List ℕ

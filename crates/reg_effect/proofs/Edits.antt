@@ -12,8 +12,8 @@ use Rattle.reg_terms.specs.declared.kinds.Member.{Member}
 use Rattle.reg_terms.specs.declared.kinds.Member.TheVariants.{Person, Group}
 use Rattle.reg_terms.specs.declared.rows.CompositeRow.{CompositeRow}
 use Rattle.reg_terms.specs.Kinds.{same_member}
-use Rattle.reg_effect.specs.Order.{row_cmp, composite_cmp, is_row, has_row}
-use Rattle.reg_effect.specs.Member.{is_composite}
+use Rattle.reg_effect.specs.Order.{row_cmp, composite_cmp, is_live_row, has_live_row}
+use Rattle.reg_facts.specs.Edits.{is_composite}
 use Rattle.reg_graph.proofs.Kept.{at_pair}
 use Rattle.reg_effect.proofs.Places.{at_number}
 
@@ -78,14 +78,14 @@ apart Equal false = (refl, refl)
 apart Greater true = (refl, refl)
 apart Greater false = (refl, refl)
 
-pub row_eq : (g : ℕ) (m : Member) (y : ℕ) (n : Member) → is_eq (row_cmp (g, m) (y, n)) ≡ is_row g m (y, n)
+pub row_eq : (g : ℕ) (m : Member) (y : ℕ) (n : Member) → is_eq (row_cmp (g, m) (y, n)) ≡ is_live_row g m (y, n)
 row_eq g (Person p) y (Person q) = at_pair g p y q
 row_eq g (Person p) y (Group q) = (apart (nat_cmp g y) (y == g)).0
 row_eq g (Group p) y (Person q) = (apart (nat_cmp g y) (y == g)).1
 row_eq g (Group p) y (Group q) = at_pair g p y q
 
 -- the row that stands at a place is taken out
-pub rows_removed : (g : ℕ) (m : Member) (rows : List (ℕ × Member)) → remove_key (is_at (row_cmp (g, m))) rows ≡ remove_key (is_row g m) rows
+pub rows_removed : (g : ℕ) (m : Member) (rows : List (ℕ × Member)) → remove_key (is_at (row_cmp (g, m))) rows ≡ remove_key (is_live_row g m) rows
 rows_removed g m [] = refl
 rows_removed g m (r ∷ rs) = rw (row_eq g m r.0 r.1, rows_removed g m rs) refl
 
@@ -95,7 +95,7 @@ member_is (Person a) (Group b) h = cc
 member_is (Group a) (Person b) h = cc
 member_is (Group a) (Group b) h = rw (eqb-true b a h) refl
 
-pub row_is : (g : ℕ) (m : Member) (y : ℕ) (n : Member) → is_row g m (y, n) ≡ true → (y ≡ g) × (n ≡ m)
+pub row_is : (g : ℕ) (m : Member) (y : ℕ) (n : Member) → is_live_row g m (y, n) ≡ true → (y ≡ g) × (n ≡ m)
 row_is g m y n h = let w = and_parts (y == g) (same_member n m) h in (eqb-true y g w.0, member_is m n w.1)
 
 pub row_equal : (g : ℕ) (m : Member) (r : ℕ × Member) → row_cmp (g, m) r ≡ Equal → r ≡ (g, m)
@@ -104,7 +104,7 @@ row_equal g m (y, n) e = let w = row_is g m y n (sym (row_eq g m y n) ∙ ap is_
 pub row_same : (g : ℕ) (m : Member) (test : ℕ × Member → Bool) (r : ℕ × Member) → row_cmp (g, m) r ≡ Equal → test r ≡ test (g, m)
 row_same g m test r e = ap test (row_equal g m r e)
 
-pub rows_absent : (g : ℕ) (m : Member) (rows : List (ℕ × Member)) → list_any (λ r. is_eq (row_cmp (g, m) r)) rows ≡ has_row g m rows
+pub rows_absent : (g : ℕ) (m : Member) (rows : List (ℕ × Member)) → list_any (λ r. is_eq (row_cmp (g, m) r)) rows ≡ has_live_row g m rows
 rows_absent g m [] = refl
 rows_absent g m (r ∷ rs) = rw (row_eq g m r.0 r.1, rows_absent g m rs) refl
 

@@ -19,8 +19,8 @@ use Rattle.reg_graph.specs.Edges.{has_edge, reaches, InputsFirst, IsAbove, IsAcy
 use Rattle.reg_graph.proofs.Reaching.{reaches_self, reaches_trans, reaches_edge, kept_along}
 use Rattle.reg_effect.specs.declared.live.Live.{Live}
 use Rattle.reg_effect.specs.declared.live.Change.TheVariants.{RowOn, RowOff, FactorsOn, FactorsOff}
-use Rattle.reg_effect.specs.Member.{is_composite}
-use Rattle.reg_effect.specs.Order.{row_cmp, composite_cmp, is_row, has_row}
+use Rattle.reg_facts.specs.Edits.{is_composite}
+use Rattle.reg_effect.specs.Order.{row_cmp, composite_cmp, is_live_row, has_live_row}
 use Rattle.reg_effect.specs.Edges.{edges, edge_of, row_edges, factor_edges}
 use Rattle.reg_effect.specs.Changes.{changed}
 use Rattle.reg_effect.specs.Invariant.{copies, IsCounted}
@@ -53,7 +53,7 @@ pub edge_more : (a b x : ℕ) (n : Member) (rest : List (ℕ × ℕ)) → copies
 edge_more a b x (Person p) rest = omega arith
 edge_more a b x (Group h) rest = omega arith
 
-pub row_more : (a b g : ℕ) (m : Member) (rows : List (ℕ × Member)) → has_row g m rows ≡ false → copies a b (row_edges (insert_key row_cmp rows (g, m))) ≡ copies a b (edge_of g m []) + copies a b (row_edges rows)
+pub row_more : (a b g : ℕ) (m : Member) (rows : List (ℕ × Member)) → has_live_row g m rows ≡ false → copies a b (row_edges (insert_key row_cmp rows (g, m))) ≡ copies a b (edge_of g m []) + copies a b (row_edges rows)
 row_more a b g m rows h = step rows (rows_absent g m rows ∙ h)
   where
     step : (rows : List (ℕ × Member)) → list_any (λ r. is_eq (row_cmp (g, m) r)) rows ≡ false → copies a b (row_edges (insert_key row_cmp rows (g, m))) ≡ copies a b (edge_of g m []) + copies a b (row_edges rows)
@@ -71,14 +71,14 @@ row_more a b g m rows h = step rows (rows_absent g m rows ∙ h)
             let k = edge_more a b r.0 r.1 (row_edges (insert_key row_cmp rs (g, m))) in
             omega (arith, e, f, k)
 
-pub row_less : (a b g : ℕ) (m : Member) (rows : List (ℕ × Member)) → has_row g m rows ≡ true → copies a b (row_edges rows) ≡ copies a b (edge_of g m []) + copies a b (row_edges (remove_key (is_row g m) rows))
+pub row_less : (a b g : ℕ) (m : Member) (rows : List (ℕ × Member)) → has_live_row g m rows ≡ true → copies a b (row_edges rows) ≡ copies a b (edge_of g m []) + copies a b (row_edges (remove_key (is_live_row g m) rows))
 row_less a b g m [] h = cc
-row_less a b g m ((y, n) ∷ rs) h = elim (cases_Bool (is_row g m (y, n))) [
+row_less a b g m ((y, n) ∷ rs) h = elim (cases_Bool (is_live_row g m (y, n))) [
   | inl t ↦ let w = row_is g m y n t in rw t (rw (w.0, w.1) (edge_more a b g m (row_edges rs)))
   | inr f ↦
       let r = row_less a b g m rs (rw f at h) in
       let k = edge_more a b y n (row_edges rs) in
-      let l = edge_more a b y n (row_edges (remove_key (is_row g m) rs)) in
+      let l = edge_more a b y n (row_edges (remove_key (is_live_row g m) rs)) in
       rw f (omega (arith, r, k, l))
 ]
 
@@ -112,7 +112,7 @@ factor_less a b g c (d ∷ ds) h = elim (cases_Bool (d.group == g)) [
     some x y e = cc
 
 -- ---- the kept graph after a change
-pub counted_person : (L : Live) (g p : ℕ) (graph : List (ℕ × ℕ)) → has_row g (Person p) L.rows ≡ false → IsCounted L graph → IsCounted (changed (RowOn g (Person p)) L) graph
+pub counted_person : (L : Live) (g p : ℕ) (graph : List (ℕ × ℕ)) → has_live_row g (Person p) L.rows ≡ false → IsCounted L graph → IsCounted (changed (RowOn g (Person p)) L) graph
 counted_person L g p graph h k a b =
     let r = row_more a b g (Person p) L.rows h in
     let s = copies_edges L a b in
@@ -120,7 +120,7 @@ counted_person L g p graph h k a b =
     let u = k a b in
     omega (arith, r, s, t, u)
 
-pub counted_nested : (L : Live) (g x : ℕ) (old new : List (ℕ × ℕ)) → has_row g (Group x) L.rows ≡ false → IsCounted L old → IsPermutation ((g, x) ∷ old) new → IsCounted (changed (RowOn g (Group x)) L) new
+pub counted_nested : (L : Live) (g x : ℕ) (old new : List (ℕ × ℕ)) → has_live_row g (Group x) L.rows ≡ false → IsCounted L old → IsPermutation ((g, x) ∷ old) new → IsCounted (changed (RowOn g (Group x)) L) new
 counted_nested L g x old new h k p a b =
     let r = row_more a b g (Group x) L.rows h in
     let s = copies_edges L a b in
@@ -129,7 +129,7 @@ counted_nested L g x old new h k p a b =
     let v = copies_pushed a b (g, x) old new p in
     omega (arith, r, s, t, u, v)
 
-pub counted_person_off : (L : Live) (g p : ℕ) (graph : List (ℕ × ℕ)) → has_row g (Person p) L.rows ≡ true → IsCounted L graph → IsCounted (changed (RowOff g (Person p)) L) graph
+pub counted_person_off : (L : Live) (g p : ℕ) (graph : List (ℕ × ℕ)) → has_live_row g (Person p) L.rows ≡ true → IsCounted L graph → IsCounted (changed (RowOff g (Person p)) L) graph
 counted_person_off L g p graph h k a b =
     let r = row_less a b g (Person p) L.rows h in
     let s = copies_edges L a b in
@@ -137,7 +137,7 @@ counted_person_off L g p graph h k a b =
     let u = k a b in
     omega (arith, r, s, t, u)
 
-pub counted_nested_off : (L : Live) (g x : ℕ) (old new : List (ℕ × ℕ)) → has_row g (Group x) L.rows ≡ true → IsCounted L old → IsPermutation old ((g, x) ∷ new) → IsCounted (changed (RowOff g (Group x)) L) new
+pub counted_nested_off : (L : Live) (g x : ℕ) (old new : List (ℕ × ℕ)) → has_live_row g (Group x) L.rows ≡ true → IsCounted L old → IsPermutation old ((g, x) ∷ new) → IsCounted (changed (RowOff g (Group x)) L) new
 counted_nested_off L g x old new h k p a b =
     let r = row_less a b g (Group x) L.rows h in
     let s = copies_edges L a b in
@@ -166,9 +166,9 @@ counted_factors_off L g c old mid new h k p q a b =
     let w = copies_taken a b (c.group, c.right) mid new q in
     omega (arith, r, s, t, u, v, w)
 
-pub counted_row_off : (L : Live) (g x : ℕ) (m : Member) (old new : List (ℕ × ℕ)) → m ≡ Group x → has_row g m L.rows ≡ true → IsCounted L old → IsPermutation old ((g, x) ∷ new) → IsCounted (changed (RowOff g m) L) new
+pub counted_row_off : (L : Live) (g x : ℕ) (m : Member) (old new : List (ℕ × ℕ)) → m ≡ Group x → has_live_row g m L.rows ≡ true → IsCounted L old → IsPermutation old ((g, x) ∷ new) → IsCounted (changed (RowOff g m) L) new
 counted_row_off L g x m old new e =
-    let P : Member → Type 0 = λ n. has_row g n L.rows ≡ true → IsCounted L old → IsPermutation old ((g, x) ∷ new) → IsCounted (changed (RowOff g n) L) new in
+    let P : Member → Type 0 = λ n. has_live_row g n L.rows ≡ true → IsCounted L old → IsPermutation old ((g, x) ∷ new) → IsCounted (changed (RowOff g n) L) new in
     subst P (sym e) (counted_nested_off L g x old new)
 
 -- ---- edges that stand as often are the same edges
@@ -189,7 +189,7 @@ pub one_self : (a b : ℕ) → one a b (a, b) ≡ 1
 one_self a b = rw (eq-eqb a a refl, eq-eqb b b refl) refl
 
 -- the edge of a row that stands is in the graph
-pub nested_stands : (L : Live) (g x : ℕ) (graph : List (ℕ × ℕ)) → has_row g (Group x) L.rows ≡ true → IsCounted L graph → has_edge graph g x ≡ true
+pub nested_stands : (L : Live) (g x : ℕ) (graph : List (ℕ × ℕ)) → has_live_row g (Group x) L.rows ≡ true → IsCounted L graph → has_edge graph g x ≡ true
 nested_stands L g x graph h k =
     let r = row_less g x g (Group x) L.rows h in
     let s = copies_edges L g x in
@@ -260,7 +260,7 @@ counts a b es h = above (copies a b es) (sym (edge_copies a b es) ∙ h)
 pub no_way_back : (es fs : List (ℕ × ℕ)) (a b : ℕ) → IsAcyclic es → 0 < copies a b es → ((x y : ℕ) → copies x y fs ≤ copies x y es) → reaches fs b a ≡ false
 no_way_back es fs a b c e fewer = false_from_ne_true (reaches fs b a) (λ r. both_ways (reaches es b a) (c a b (positive a b es e)) (reaches_fewer es fs (λ x y h. positive x y es (let i = counts x y fs h in let j = fewer x y in omega (arith, i, j))) b a r))
 
-pub nested_open : (L : Live) (g x : ℕ) (graph : List (ℕ × ℕ)) → has_row g (Group x) L.rows ≡ false → IsCounted L graph → IsAcyclic (edges (changed (RowOn g (Group x)) L)) → reaches graph x g ≡ false
+pub nested_open : (L : Live) (g x : ℕ) (graph : List (ℕ × ℕ)) → has_live_row g (Group x) L.rows ≡ false → IsCounted L graph → IsAcyclic (edges (changed (RowOn g (Group x)) L)) → reaches graph x g ≡ false
 nested_open L g x graph h k c =
     let N = changed (RowOn g (Group x)) L in
     no_way_back (edges N) graph g x c

@@ -15,7 +15,7 @@ use Rattle.reg_terms.specs.declared.kinds.Member.{Member}
 use Rattle.reg_terms.specs.declared.kinds.Member.TheVariants.{Person, Group}
 use Rattle.reg_terms.specs.declared.rows.MemberRow.{MemberRow}
 use Rattle.reg_facts.specs.RowOrder.{member_cmp}
-use Rattle.reg_effect.specs.Order.{row_cmp, is_row, has_row}
+use Rattle.reg_effect.specs.Order.{row_cmp, is_live_row, has_live_row}
 use Rattle.reg_effect.specs.Changes.{rows_where, rows_on}
 use Rattle.reg_effect.proofs.Edits.{any_put, row_same, row_equal, row_eq, row_is, rows_absent}
 
@@ -87,10 +87,10 @@ where_sorted test (r ∷ rs) acc s = elim (cases_Bool (test r)) [
 ]
 
 -- and are those that pass it
-pub where_has : (test : MemberRow → Bool) (g : ℕ) (m : Member) (rows : List MemberRow) (acc : List (ℕ × Member)) → has_row g m (rows_where test rows acc) ≡ (list_any (λ (r : MemberRow). test r && is_row g m (r.group, r.member)) rows || has_row g m acc)
+pub where_has : (test : MemberRow → Bool) (g : ℕ) (m : Member) (rows : List MemberRow) (acc : List (ℕ × Member)) → has_live_row g m (rows_where test rows acc) ≡ (list_any (λ (r : MemberRow). test r && is_live_row g m (r.group, r.member)) rows || has_live_row g m acc)
 where_has test g m [] acc = refl
 where_has test g m (r ∷ rs) acc = elim (cases_Bool (test r)) [
-  | inl t ↦ rw t (where_has test g m rs (insert_key row_cmp acc (r.group, r.member)) ∙ rw (any_put row_cmp (is_row g m) (r.group, r.member) (row_same r.group r.member (is_row g m)) acc) (turned (list_any (λ (r : MemberRow). test r && is_row g m (r.group, r.member)) rs) (is_row g m (r.group, r.member)) (has_row g m acc)))
+  | inl t ↦ rw t (where_has test g m rs (insert_key row_cmp acc (r.group, r.member)) ∙ rw (any_put row_cmp (is_live_row g m) (r.group, r.member) (row_same r.group r.member (is_live_row g m)) acc) (turned (list_any (λ (r : MemberRow). test r && is_live_row g m (r.group, r.member)) rs) (is_live_row g m (r.group, r.member)) (has_live_row g m acc)))
   | inr f ↦ rw f (where_has test g m rs acc)
 ]
   where
@@ -105,7 +105,7 @@ pub rows_on_sorted : (at : ℕ) (rows : List MemberRow) (acc : List (ℕ × Memb
 rows_on_sorted at rows acc s = where_sorted (λ (r : MemberRow). nat_le r.from at) rows acc s
 
 -- and are those with from <= at
-pub rows_on_has : (at g : ℕ) (m : Member) (rows : List MemberRow) (acc : List (ℕ × Member)) → has_row g m (rows_on at rows acc) ≡ (list_any (λ (r : MemberRow). nat_le r.from at && is_row g m (r.group, r.member)) rows || has_row g m acc)
+pub rows_on_has : (at g : ℕ) (m : Member) (rows : List MemberRow) (acc : List (ℕ × Member)) → has_live_row g m (rows_on at rows acc) ≡ (list_any (λ (r : MemberRow). nat_le r.from at && is_live_row g m (r.group, r.member)) rows || has_live_row g m acc)
 rows_on_has at g m rows acc = where_has (λ (r : MemberRow). nat_le r.from at) g m rows acc
 
 -- a row more in the facts is a row more that is on, or none
@@ -114,7 +114,7 @@ rows_on_more at [] r acc = refl
 rows_on_more at (q ∷ qs) r acc = rows_on_more at qs r (cond (nat_le q.from at) (insert_key row_cmp acc (q.group, q.member)) acc)
 
 -- two lists in order with the same rows are one
-pub one_rows : (xs ys : List (ℕ × Member)) → IsStrictlySortedBy row_cmp xs → IsStrictlySortedBy row_cmp ys → ((g : ℕ) (m : Member) → has_row g m xs ≡ has_row g m ys) → xs ≡ ys
+pub one_rows : (xs ys : List (ℕ × Member)) → IsStrictlySortedBy row_cmp xs → IsStrictlySortedBy row_cmp ys → ((g : ℕ) (m : Member) → has_live_row g m xs ≡ has_live_row g m ys) → xs ≡ ys
 one_rows xs ys a b h =
     let s : BTreeSet (ℕ × Member) = record { keys = xs } in
     let t : BTreeSet (ℕ × Member) = record { keys = ys } in
@@ -140,70 +140,70 @@ taken_sorted R t (x ∷ xs) s =
       | inr n ↦ rw n (all_taken (λ z. R x z ≡ Less) t xs s.0, rest)
     ]
 
-pub none_after : (g : ℕ) (m : Member) (rs : List (ℕ × Member)) → AllByRecursion (λ z. row_cmp (g, m) z ≡ Less) rs → has_row g m rs ≡ false
+pub none_after : (g : ℕ) (m : Member) (rs : List (ℕ × Member)) → AllByRecursion (λ z. row_cmp (g, m) z ≡ Less) rs → has_live_row g m rs ≡ false
 none_after g m [] a = refl
-none_after g m (z ∷ zs) a = or_from (is_row g m z) (has_row g m zs) (sym (row_eq g m z.0 z.1) ∙ ap is_eq a.0) (none_after g m zs a.1)
+none_after g m (z ∷ zs) a = or_from (is_live_row g m z) (has_live_row g m zs) (sym (row_eq g m z.0 z.1) ∙ ap is_eq a.0) (none_after g m zs a.1)
 
-pub row_self : (g : ℕ) (m : Member) → is_row g m (g, m) ≡ true
+pub row_self : (g : ℕ) (m : Member) → is_live_row g m (g, m) ≡ true
 row_self g (Person p) = and_from (g == g) (p == p) (eq-eqb g g refl) (eq-eqb p p refl)
 row_self g (Group h) = and_from (g == g) (h == h) (eq-eqb g g refl) (eq-eqb h h refl)
 
-pub row_turned : (g x : ℕ) (m n : Member) → is_row g m (x, n) ≡ is_row x n (g, m)
-row_turned g x m n = go (is_row g m (x, n)) (is_row x n (g, m)) refl refl
+pub row_turned : (g x : ℕ) (m n : Member) → is_live_row g m (x, n) ≡ is_live_row x n (g, m)
+row_turned g x m n = go (is_live_row g m (x, n)) (is_live_row x n (g, m)) refl refl
   where
-    go : (a b : Bool) → is_row g m (x, n) ≡ a → is_row x n (g, m) ≡ b → a ≡ b
+    go : (a b : Bool) → is_live_row g m (x, n) ≡ a → is_live_row x n (g, m) ≡ b → a ≡ b
     go true true p q = refl
     go false false p q = refl
-    go true false p q = let w = row_is g m x n p in absurd (both_ways (is_row x n (g, m)) q (rw (w.0, w.1) (row_self g m)))
-    go false true p q = let w = row_is x n g m q in absurd (both_ways (is_row g m (x, n)) p (rw (w.0, w.1) (row_self x n)))
+    go true false p q = let w = row_is g m x n p in absurd (both_ways (is_live_row x n (g, m)) q (rw (w.0, w.1) (row_self g m)))
+    go false true p q = let w = row_is x n g m q in absurd (both_ways (is_live_row g m (x, n)) p (rw (w.0, w.1) (row_self x n)))
 
 -- what stands after a row is taken out of a list in order
-pub row_taken : (g x : ℕ) (m n : Member) (rows : List (ℕ × Member)) → IsStrictlySortedBy row_cmp rows → has_row x n (remove_key (is_row g m) rows) ≡ (not (is_row g m (x, n)) && has_row x n rows)
+pub row_taken : (g x : ℕ) (m n : Member) (rows : List (ℕ × Member)) → IsStrictlySortedBy row_cmp rows → has_live_row x n (remove_key (is_live_row g m) rows) ≡ (not (is_live_row g m (x, n)) && has_live_row x n rows)
 unfolding IsStrictlySortedBy
-row_taken g x m n [] s = elim (is_row g m (x, n)) as (λ b. false ≡ (not b && false)) [ true ↦ refl | false ↦ refl ]
+row_taken g x m n [] s = elim (is_live_row g m (x, n)) as (λ b. false ≡ (not b && false)) [ true ↦ refl | false ↦ refl ]
 row_taken g x m n ((y, k) ∷ rs) s =
     let rest = row_taken g x m n rs s.1 in
-    elim (cases_Bool (is_row g m (x, n))) [
+    elim (cases_Bool (is_live_row g m (x, n))) [
       | inl same ↦
           let w = row_is g m x n same in
-          elim (cases_Bool (is_row g m (y, k))) [
+          elim (cases_Bool (is_live_row g m (y, k))) [
             | inl t ↦ let v = row_is g m y k t in
                 rw (t, same) (let later : AllByRecursion (λ z. row_cmp (g, m) z ≡ Less) rs = rw (v.0, v.1) at s.0 in rw (w.0, w.1) (none_after g m rs later))
             | inr f ↦
-                let gone : is_row x n (y, k) ≡ false = rw (w.0, w.1) f in
+                let gone : is_live_row x n (y, k) ≡ false = rw (w.0, w.1) f in
                 rw (f, gone, rest, same) refl
           ]
-      | inr other ↦ elim (cases_Bool (is_row g m (y, k))) [
+      | inr other ↦ elim (cases_Bool (is_live_row g m (y, k))) [
         | inl t ↦ let v = row_is g m y k t in
-            let gone : is_row x n (y, k) ≡ false = rw (v.0, v.1) (sym (row_turned g x m n) ∙ other) in
+            let gone : is_live_row x n (y, k) ≡ false = rw (v.0, v.1) (sym (row_turned g x m n) ∙ other) in
             rw (t, other, gone) refl
         | inr f ↦ rw (f, rest, other) refl
       ]
     ]
 
 -- a row less in the facts is a row less that is on, if it was on
-pub rows_on_less : (at g : ℕ) (m : Member) (rows : List MemberRow) → rows_on at (filter (λ (r : MemberRow). not (is_row g m (r.group, r.member))) rows) [] ≡ remove_key (is_row g m) (rows_on at rows [])
+pub rows_on_less : (at g : ℕ) (m : Member) (rows : List MemberRow) → rows_on at (filter (λ (r : MemberRow). not (is_live_row g m (r.group, r.member))) rows) [] ≡ remove_key (is_live_row g m) (rows_on at rows [])
 rows_on_less at g m rows =
-    one_rows (rows_on at left []) (remove_key (is_row g m) (rows_on at rows [])) (rows_on_sorted at left [] nothing_sorted) (taken_sorted row_cmp (is_row g m) (rows_on at rows []) (rows_on_sorted at rows [] nothing_sorted))
+    one_rows (rows_on at left []) (remove_key (is_live_row g m) (rows_on at rows [])) (rows_on_sorted at left [] nothing_sorted) (taken_sorted row_cmp (is_live_row g m) (rows_on at rows []) (rows_on_sorted at rows [] nothing_sorted))
     (λ x n. rows_on_has at x n left []
-    ∙ (ap (λ b. b || false) (any-filter_same (test x n) keep (not (is_row g m (x, n))) (λ r t. ap not (named x n r t)) rows)
-    ∙ (outside (not (is_row g m (x, n))) (list_any (test x n) rows)
-    ∙ sym (row_taken g x m n (rows_on at rows []) (rows_on_sorted at rows [] nothing_sorted) ∙ ap (λ b. not (is_row g m (x, n)) && b) (rows_on_has at x n rows [])))))
+    ∙ (ap (λ b. b || false) (any-filter_same (test x n) keep (not (is_live_row g m (x, n))) (λ r t. ap not (named x n r t)) rows)
+    ∙ (outside (not (is_live_row g m (x, n))) (list_any (test x n) rows)
+    ∙ sym (row_taken g x m n (rows_on at rows []) (rows_on_sorted at rows [] nothing_sorted) ∙ ap (λ b. not (is_live_row g m (x, n)) && b) (rows_on_has at x n rows [])))))
   where
     keep : MemberRow → Bool
-    keep r = not (is_row g m (r.group, r.member))
+    keep r = not (is_live_row g m (r.group, r.member))
 
     left : List MemberRow
-    left = filter (λ (r : MemberRow). not (is_row g m (r.group, r.member))) rows
+    left = filter (λ (r : MemberRow). not (is_live_row g m (r.group, r.member))) rows
 
     test : ℕ → Member → MemberRow → Bool
-    test x n r = nat_le r.from at && is_row x n (r.group, r.member)
+    test x n r = nat_le r.from at && is_live_row x n (r.group, r.member)
 
     nothing_sorted : IsStrictlySortedBy row_cmp []
     nothing_sorted = empty_sorted row_cmp
 
-    named : (x : ℕ) (n : Member) (r : MemberRow) → test x n r ≡ true → is_row g m (r.group, r.member) ≡ is_row g m (x, n)
-    named x n r t = let w = row_is x n r.group r.member (and_parts (nat_le r.from at) (is_row x n (r.group, r.member)) t).1 in rw (w.0, w.1) refl
+    named : (x : ℕ) (n : Member) (r : MemberRow) → test x n r ≡ true → is_live_row g m (r.group, r.member) ≡ is_live_row g m (x, n)
+    named x n r t = let w = row_is x n r.group r.member (and_parts (nat_le r.from at) (is_live_row x n (r.group, r.member)) t).1 in rw (w.0, w.1) refl
 
     outside : (a b : Bool) → ((a && b) || false) ≡ (a && (b || false))
     outside true b = refl

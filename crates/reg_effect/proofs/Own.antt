@@ -6,8 +6,9 @@ use Rattle.reg_terms.specs.declared.kinds.Member.{Member}
 use Rattle.reg_terms.specs.declared.kinds.Member.TheVariants.{Person, Group}
 use Rattle.reg_terms.specs.declared.rows.CompositeRow.{CompositeRow}
 use Rattle.reg_effect.specs.declared.live.Live.{Live}
-use Rattle.reg_effect.specs.Member.{is_composite, combine, in_rows, in_factors, level}
-use Rattle.reg_effect.specs.Order.{has_row, nested}
+use Rattle.reg_facts.specs.Edits.{is_composite}
+use Rattle.reg_effect.specs.Member.{combine, in_rows, in_factors, level}
+use Rattle.reg_effect.specs.Order.{has_live_row, nested}
 use Rattle.reg_effect.specs.Edges.{edges, row_edges, factor_edges}
 use Rattle.reg_effect.specs.Asked.{Once}
 use Rattle.reg_effect.specs.Bound.{leaving}
@@ -50,15 +51,15 @@ by_factors M L g s found c left right o f e l r =
     let h : find (λ (d : CompositeRow). d.group == g) L.composites ≡ Some c = sym f ∙ e in
     rw (l, r) (sym (rw (found_composite g L.composites c h) (found_factors M g L.composites c o h)))
 
-pub rows_given : (M : ℕ → Bool) (rows : List (ℕ × Member)) (g s : ℕ) → (has_row g (Person s) rows || list_any M (nested g rows)) ≡ in_rows M rows g s
+pub rows_given : (M : ℕ → Bool) (rows : List (ℕ × Member)) (g s : ℕ) → (has_live_row g (Person s) rows || list_any M (nested g rows)) ≡ in_rows M rows g s
 rows_given M [] g s = refl
-rows_given M ((x, Person p) ∷ rows) g s = over ((x == g) && (p == s)) (has_row g (Person s) rows) (list_any M (nested g rows)) ∙ ap (λ b. ((x == g) && (p == s)) || b) (rows_given M rows g s)
+rows_given M ((x, Person p) ∷ rows) g s = over ((x == g) && (p == s)) (has_live_row g (Person s) rows) (list_any M (nested g rows)) ∙ ap (λ b. ((x == g) && (p == s)) || b) (rows_given M rows g s)
   where
     over : (a b c : Bool) → ((a || b) || c) ≡ (a || (b || c))
     over true b c = refl
     over false b c = refl
 rows_given M ((x, Group h) ∷ rows) g s = elim (cases_Bool (x == g)) [
-  | inl t ↦ rw t (past (has_row g (Person s) rows) (M h) (list_any M (nested g rows)) ∙ ap (λ b. M h || b) (rows_given M rows g s))
+  | inl t ↦ rw t (past (has_live_row g (Person s) rows) (M h) (list_any M (nested g rows)) ∙ ap (λ b. M h || b) (rows_given M rows g s))
   | inr f ↦ rw f (rows_given M rows g s)
 ]
   where
@@ -68,7 +69,7 @@ rows_given M ((x, Group h) ∷ rows) g s = elim (cases_Bool (x == g)) [
     past false true c = refl
     past false false c = refl
 
-pub by_rows : (M : ℕ → Bool) (L : Live) (g s : ℕ) (found : Option CompositeRow) (direct : Bool) (below : List ℕ) → found ≡ find (λ (d : CompositeRow). d.group == g) L.composites → found ≡ None → direct ≡ has_row g (Person s) L.rows → below ≡ nested g L.rows → (direct || list_any M below) ≡ level M L g s
+pub by_rows : (M : ℕ → Bool) (L : Live) (g s : ℕ) (found : Option CompositeRow) (direct : Bool) (below : List ℕ) → found ≡ find (λ (d : CompositeRow). d.group == g) L.composites → found ≡ None → direct ≡ has_live_row g (Person s) L.rows → below ≡ nested g L.rows → (direct || list_any M below) ≡ level M L g s
 by_rows M L g s found direct below f e d b = rw (d, b, no_composite g L.composites (sym f ∙ e)) (rows_given M L.rows g s)
 
 pub rows_leaving : (rows : List (ℕ × Member)) (g : ℕ) → length (nested g rows) ≡ leaving (row_edges rows) g

@@ -2,7 +2,7 @@
 use Rattle.std.proofs.Common.{◌≡◌, ◌<◌, ◌==◌, ◌&&◌, ◌^◌, ℕ, List, [], ◌∷◌, ◌++◌, Bool, not, true, false, cond, map, filter, Option, Some, None, Bor, arith, refl, sym, ◌∙◌, ap, inl, inr}
 use Rattle.std.proofs.lemmas.Grind.{common_steps}
 use Rattle.std.proofs.lemmas.Bool.Decides.{nat_tests}
-use Rattle.std.proofs.lemmas.Bool.{cases_Bool, eqb-true, eqb-false, or_left, or_parts}
+use Rattle.std.proofs.lemmas.Bool.{cases_Bool, eqb-true, or_left, or_parts}
 use Rattle.std.specs.List.{list_any, AllByRecursion, find}
 use Rattle.std.specs.BTreeSet.{insert_key}
 use Rattle.std.specs.BTreeMap.{is_at, insert_entry}
@@ -17,16 +17,15 @@ use Rattle.std.specs.declared.cmp.Ordering.TheVariants.{Less, Equal, Greater}
 use Rattle.std.specs.declared.ops.Bound.TheVariants.{Included}
 use Rattle.std.proofs.lemmas.List.{append-nil, append_assoc}
 use Rattle.std.proofs.lemmas.List.Elements.{recursion_from_All}
-use Rattle.std.proofs.lemmas.Map.Views.{All-insert_key, All-remove_key}
 use Rattle.reg_terms.specs.declared.kinds.Member.{Member}
 use Rattle.reg_terms.specs.declared.kinds.Member.TheVariants.{Person, Group}
 use Rattle.reg_terms.specs.declared.rows.CompositeRow.{CompositeRow}
 use Rattle.reg_terms.specs.contracts.kinds.MemberOrd.TheImpl.{ghosts}
 use Rattle.reg_facts.specs.RowOrder.{member_cmp}
 use Rattle.reg_effect.specs.declared.composites.Factors.{Factors}
-use Rattle.reg_effect.specs.Order.{row_cmp, composite_cmp, has_rows, nested, IsSmall, HaveSmallIds, groups_of}
+use Rattle.reg_effect.specs.Order.{row_cmp, composite_cmp, has_live_rows, nested, IsSmall, HaveSmallIds, groups_of}
 use Rattle.reg_effect.specs.Factors.{composite_at}
-use Rattle.reg_effect.specs.Member.{is_composite}
+use Rattle.reg_facts.specs.Edits.{is_composite}
 
 -- ---- the order that is derived for keys is the order of rows
 member_order_is : (m n : Member) → ghosts.cmp m n ≡ member_cmp m n
@@ -88,7 +87,7 @@ pub in_range_all : (g x : ℕ) (m : Member) → IsSmall m → range_all g (x, m)
 in_range_all g x (Person p) h = grind (arith, nat_tests, common_steps)
 in_range_all g x (Group k) h = grind (arith, nat_tests, common_steps)
 
-pub any_by : (g : ℕ) (rows : List (ℕ × Member)) → AllByRecursion (λ (row : ℕ × Member). IsSmall row.1) rows → has_rows g rows ≡ list_any (range_all g) rows
+pub any_by : (g : ℕ) (rows : List (ℕ × Member)) → AllByRecursion (λ (row : ℕ × Member). IsSmall row.1) rows → has_live_rows g rows ≡ list_any (range_all g) rows
 any_by g [] h = refl
 any_by g ((x, m) ∷ rs) h = rw (in_range_all g x m h.0, any_by g rs h.1) refl
 
@@ -107,8 +106,8 @@ missed test (x ∷ xs) e = elim (cases_Bool (test x)) [
   | inr f ↦ rw f (missed test xs (rw f at e))
 ]
 
-pub any_is : (g : ℕ) (r : Option (Bor (ℕ × Member))) (s t keys view : List (ℕ × Member)) → TakesFirst deref s r t → s ≡ filter (range_all g) keys → HaveSmallIds keys → keys ≡ view → is_some r ≡ has_rows g view
-any_is g r s t keys view h e small v = go r h ∙ (sym (any_by g keys (recursion_from_All (λ (row : ℕ × Member). IsSmall row.1) keys small)) ∙ ap (has_rows g) v)
+pub any_is : (g : ℕ) (r : Option (Bor (ℕ × Member))) (s t keys view : List (ℕ × Member)) → TakesFirst deref s r t → s ≡ filter (range_all g) keys → HaveSmallIds keys → keys ≡ view → is_some r ≡ has_live_rows g view
+any_is g r s t keys view h e small v = go r h ∙ (sym (any_by g keys (recursion_from_All (λ (row : ℕ × Member). IsSmall row.1) keys small)) ∙ ap (has_live_rows g) v)
   where
     go : (r : Option (Bor (ℕ × Member))) → TakesFirst deref s r t → is_some r ≡ list_any (range_all g) keys
     go None h = sym (missed (range_all g) keys (sym e ∙ h.0))

@@ -1,6 +1,5 @@
 -- A group's rank: how many entries are of groups that it reaches.
-use Rattle.std.proofs.Common.{◌≡◌, ◌<◌, ◌≤◌, ◌+◌, ◌==◌, ℕ, List, [], ◌∷◌, length, Bool, true, false, cond, arith, inl, inr}
-use Rattle.std.proofs.lemmas.Bool.{or_cases, eqb-true, cases_Bool}
+use Rattle.std.proofs.Common.{◌≡◌, ◌<◌, ◌==◌, ℕ, List, true}
 use Rattle.std.specs.List.{list_any}
 use Rattle.reg_graph.specs.Edges.{reaches, has_edge, IsAcyclic}
 use Rattle.reg_graph.proofs.Reaching.{reaches_self, reaches_trans, reaches_edge}

@@ -16,8 +16,8 @@ use Rattle.reg_facts.specs.Edits as facts
 use Rattle.reg_graph.specs.Edges.{has_edge, IsAcyclic}
 use Rattle.reg_effect.specs.declared.live.Live.{Live}
 use Rattle.reg_effect.specs.declared.live.Change.TheVariants.{RowOn, RowOff, FactorsOn, FactorsOff}
-use Rattle.reg_effect.specs.Member.{is_composite}
-use Rattle.reg_effect.specs.Order.{composite_cmp, is_row, has_row}
+use Rattle.reg_facts.specs.Edits.{is_composite}
+use Rattle.reg_effect.specs.Order.{composite_cmp, is_live_row, has_live_row}
 use Rattle.reg_effect.specs.Edges.{edges, edge_of, row_edges, factor_edges}
 use Rattle.reg_effect.specs.Changes.{rows_on, composites_in, live_of, changed, Suits}
 use Rattle.reg_effect.specs.Asked.{Once}
@@ -32,18 +32,18 @@ pub acyclic_permuted : (es fs : List (ℕ × ℕ)) → IsPermutation es fs → I
 acyclic_permuted es fs p c = acyclic_fewer es fs c (λ a b h. list_any-IsPermutation (λ (e : ℕ × ℕ). (e.0 == a) && (e.1 == b)) es fs p ∙ h)
 
 -- ---- the edges of the live data stand
-pub edge_row : (a b : ℕ) (rs : List (ℕ × Member)) → has_edge (row_edges rs) a b ≡ has_row a (Group b) rs
+pub edge_row : (a b : ℕ) (rs : List (ℕ × Member)) → has_edge (row_edges rs) a b ≡ has_live_row a (Group b) rs
 edge_row a b [] = refl
-edge_row a b ((x, Person p) ∷ rs) = edge_row a b rs ∙ none (x == a) (has_row a (Group b) rs)
+edge_row a b ((x, Person p) ∷ rs) = edge_row a b rs ∙ none (x == a) (has_live_row a (Group b) rs)
   where
     none : (c d : Bool) → d ≡ ((c && false) || d)
     none true d = refl
     none false d = refl
 edge_row a b ((x, Group h) ∷ rs) = ap (λ c. ((x == a) && (h == b)) || c) (edge_row a b rs)
 
-pub row_of_facts : (g : ℕ) (m : Member) (rows : List MemberRow) → has_row g m (map pair_of rows) ≡ facts.has_row g m rows
+pub row_of_facts : (g : ℕ) (m : Member) (rows : List MemberRow) → has_live_row g m (map pair_of rows) ≡ facts.has_row g m rows
 row_of_facts g m [] = refl
-row_of_facts g m (r ∷ rs) = ap (λ c. is_row g m (r.group, r.member) || c) (row_of_facts g m rs)
+row_of_facts g m (r ∷ rs) = ap (λ c. is_live_row g m (r.group, r.member) || c) (row_of_facts g m rs)
 
 abbrev pub makes : ℕ → ℕ → CompositeRow → Bool
 makes a b c = ((c.group == a) && (c.left == b)) || ((c.group == a) && (c.right == b))
@@ -102,12 +102,12 @@ unfolding edges
 acyclic_within L N rows composites c = acyclic_fewer (edges L) (edges N) c (λ a b e.
     list_any-append (λ (e : ℕ × ℕ). (e.0 == a) && (e.1 == b)) (row_edges L.rows) (factor_edges L.composites)
     ∙ elim (or_cases (has_edge (row_edges N.rows) a b) (has_edge (factor_edges N.composites) a b) (sym (list_any-append (λ (e : ℕ × ℕ). (e.0 == a) && (e.1 == b)) (row_edges N.rows) (factor_edges N.composites)) ∙ e)) [
-      | inl r ↦ or_left (has_edge (row_edges L.rows) a b) (has_edge (factor_edges L.composites) a b) (edge_row a b L.rows ∙ rows (is_row a (Group b)) (sym (edge_row a b N.rows) ∙ r))
+      | inl r ↦ or_left (has_edge (row_edges L.rows) a b) (has_edge (factor_edges L.composites) a b) (edge_row a b L.rows ∙ rows (is_live_row a (Group b)) (sym (edge_row a b N.rows) ∙ r))
       | inr f ↦ or_right (has_edge (row_edges L.rows) a b) (has_edge (factor_edges L.composites) a b) (edge_factor a b L.composites ∙ composites (makes a b) (sym (edge_factor a b N.composites) ∙ f))
     ])
 
-pub row_off_suits : (g : ℕ) (m : Member) (L : Live) → has_row g m L.rows ≡ true → IsAcyclic (edges L) → Suits (RowOff g m) L
-row_off_suits g m L h c = record { fits = h; no_circle = acyclic_within L (changed (RowOff g m) L) (λ test. any_removed_from (is_row g m) test L.rows) (λ test e. e) c }
+pub row_off_suits : (g : ℕ) (m : Member) (L : Live) → has_live_row g m L.rows ≡ true → IsAcyclic (edges L) → Suits (RowOff g m) L
+row_off_suits g m L h c = record { fits = h; no_circle = acyclic_within L (changed (RowOff g m) L) (λ test. any_removed_from (is_live_row g m) test L.rows) (λ test e. e) c }
 
 pub factors_off_suits : (g : ℕ) (L : Live) → is_composite g L.composites ≡ true → IsAcyclic (edges L) → Suits (FactorsOff g) L
 factors_off_suits g L h c = record { fits = h; no_circle = acyclic_within L (changed (FactorsOff g) L) (λ test e. e) (λ test. any_removed_from (λ (d : CompositeRow). d.group == g) test L.composites) c }

@@ -6,8 +6,8 @@ use Rattle.reg_terms.specs.declared.kinds.Member.TheVariants.{Person, Group}
 use Rattle.reg_effect.specs.declared.live.Live.{Live}
 use Rattle.reg_effect.specs.declared.live.Change.{Change}
 use Rattle.reg_effect.specs.declared.live.Change.TheVariants.{RowOn, RowOff, FactorsOn, FactorsOff}
-use Rattle.reg_effect.specs.Member.{is_composite}
-use Rattle.reg_effect.specs.Order.{has_rows}
+use Rattle.reg_facts.specs.Edits.{is_composite}
+use Rattle.reg_effect.specs.Order.{has_live_rows}
 
 -- for whom a row of this member asks: the person, or the members that M gives the nested group
 abbrev pub asks_row : (ℕ → ℕ → Bool) → Member → ℕ → Bool
@@ -28,5 +28,5 @@ Once (c ∷ cs) = (is_composite c.group cs ≡ false) × Once cs
 
 -- composites have no rows, and each group is a composite once at most
 pub record IsWell (L : Live) : Type 0 where
-  pub rowless : (g : ℕ) → is_composite g L.composites ≡ true → has_rows g L.rows ≡ false
+  pub rowless : (g : ℕ) → is_composite g L.composites ≡ true → has_live_rows g L.rows ≡ false
   pub once : Once L.composites

@@ -9,8 +9,8 @@ use Rattle.reg_graph.specs.Edges.{IsAcyclic}
 use Rattle.reg_effect.specs.declared.live.Live.{Live}
 use Rattle.reg_effect.specs.declared.live.Change.{Change}
 use Rattle.reg_effect.specs.declared.live.Change.TheVariants.{RowOn, RowOff, FactorsOn, FactorsOff}
-use Rattle.reg_effect.specs.Member.{is_composite}
-use Rattle.reg_effect.specs.Order.{row_cmp, composite_cmp, is_row, has_row, has_rows}
+use Rattle.reg_facts.specs.Edits.{is_composite}
+use Rattle.reg_effect.specs.Order.{row_cmp, composite_cmp, is_live_row, has_live_row, has_live_rows}
 use Rattle.reg_effect.specs.Edges.{edges}
 
 -- no rows and no composites
@@ -20,15 +20,15 @@ nothing = record { rows = []; composites = [] }
 -- live data after a change: what comes takes its place in the order, what goes is taken out
 abbrev pub changed : Change → Live → Live
 changed (RowOn g m) L = record L { rows = insert_key row_cmp L.rows (g, m) }
-changed (RowOff g m) L = record L { rows = remove_key (is_row g m) L.rows }
+changed (RowOff g m) L = record L { rows = remove_key (is_live_row g m) L.rows }
 changed (FactorsOn g op left right) L = record L { composites = insert_key composite_cmp L.composites (record { group = g; op = op; left = left; right = right }) }
 changed (FactorsOff g) L = record L { composites = remove_key (λ (c : CompositeRow). c.group == g) L.composites }
 
 -- whether a change fits live data: what comes isn't there, what goes is, and a composite has no rows
 abbrev pub Fits : Change → Live → Type 0
-Fits (RowOn g m) L = (has_row g m L.rows ≡ false) × (is_composite g L.composites ≡ false)
-Fits (RowOff g m) L = has_row g m L.rows ≡ true
-Fits (FactorsOn g op left right) L = (is_composite g L.composites ≡ false) × (has_rows g L.rows ≡ false)
+Fits (RowOn g m) L = (has_live_row g m L.rows ≡ false) × (is_composite g L.composites ≡ false)
+Fits (RowOff g m) L = has_live_row g m L.rows ≡ true
+Fits (FactorsOn g op left right) L = (is_composite g L.composites ≡ false) × (has_live_rows g L.rows ≡ false)
 Fits (FactorsOff g) L = is_composite g L.composites ≡ true
 
 -- the group that a change is of

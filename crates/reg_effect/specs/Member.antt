@@ -6,11 +6,8 @@ use Rattle.reg_terms.specs.declared.kinds.Member.TheVariants.{Person, Group}
 use Rattle.reg_terms.specs.declared.kinds.SetOp.{SetOp}
 use Rattle.reg_terms.specs.declared.kinds.SetOp.TheVariants.{Intersection, Complement}
 use Rattle.reg_terms.specs.declared.rows.CompositeRow.{CompositeRow}
+use Rattle.reg_facts.specs.Edits.{is_composite}
 use Rattle.reg_effect.specs.declared.live.Live.{Live}
-
--- whether the group is a composite
-abbrev pub is_composite : ℕ → List CompositeRow → Bool
-is_composite g cs = list_any (λ (c : CompositeRow). c.group == g) cs
 
 -- in both, or in the left and not in the right
 abbrev pub combine : SetOp → Bool → Bool → Bool

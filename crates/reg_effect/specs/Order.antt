@@ -18,16 +18,16 @@ abbrev pub composite_cmp : CompositeRow → CompositeRow → Ordering
 composite_cmp c d = nat_cmp c.group d.group
 
 -- whether this is the group's row of the member
-abbrev pub is_row : ℕ → Member → ℕ × Member → Bool
-is_row g m row = (row.0 == g) && same_member row.1 m
+abbrev pub is_live_row : ℕ → Member → ℕ × Member → Bool
+is_live_row g m row = (row.0 == g) && same_member row.1 m
 
 -- whether the group has a row of the member
-abbrev pub has_row : ℕ → Member → List (ℕ × Member) → Bool
-has_row g m rows = list_any (is_row g m) rows
+abbrev pub has_live_row : ℕ → Member → List (ℕ × Member) → Bool
+has_live_row g m rows = list_any (is_live_row g m) rows
 
 -- whether the group has rows
-abbrev pub has_rows : ℕ → List (ℕ × Member) → Bool
-has_rows g rows = list_any (λ (row : ℕ × Member). row.0 == g) rows
+abbrev pub has_live_rows : ℕ → List (ℕ × Member) → Bool
+has_live_rows g rows = list_any (λ (row : ℕ × Member). row.0 == g) rows
 
 -- a group's id is a number of 32 bits
 abbrev pub IsSmall : Member → Type 0

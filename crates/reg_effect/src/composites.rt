@@ -3,7 +3,7 @@ ghost use Rattle.std.specs.Prelude.{◌≡◌, ◌==◌, [], IfOk, OnOk, OnErr, 
 ghost use Rattle.std.specs.BTreeSet.{insert_key};
 ghost use Rattle.std.specs.List.{find};
 ghost use Rattle.std.specs.Set.{remove_key};
-ghost use Rattle.reg_effect.specs.Member.{is_composite};
+ghost use Rattle.reg_facts.specs.Edits.{is_composite};
 ghost use Rattle.reg_effect.specs.Order.{composite_cmp};
 ghost use Rattle.reg_effect.specs.Factors.{composite_at};
 

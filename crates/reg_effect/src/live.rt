@@ -1,8 +1,8 @@
 // Live data and their changes.
 ghost use Rattle.std.specs.Prelude.{◌≡◌, ◌==◌, [], IfOk, OnOk};
 ghost use Rattle.std.specs.List.{find};
-ghost use Rattle.reg_effect.specs.Member.{is_composite};
-ghost use Rattle.reg_effect.specs.Order.{has_rows};
+ghost use Rattle.reg_facts.specs.Edits.{is_composite};
+ghost use Rattle.reg_effect.specs.Order.{has_live_rows};
 ghost use Rattle.reg_effect.specs.Changes.{nothing, changed, group_of, Fits, rows_on, composites_in, live_of};
 
 use crate::{Composites, Pairs, Rows};
@@ -67,7 +67,7 @@ impl Live {
 
     /// Whether the group has rows. Takes no memory.
     pub fn has_rows(&self, group: GroupId) -> bool
-        ensures { result ≡ has_rows group self.now.rows }
+        ensures { result ≡ has_live_rows group self.now.rows }
     {
         self.rows.has_any(group)
     }

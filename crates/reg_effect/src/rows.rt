@@ -2,7 +2,7 @@
 ghost use Rattle.std.specs.Prelude.{◌≡◌, ◌++◌, [], IfOk, OnOk, OnErr};
 ghost use Rattle.std.specs.BTreeSet.{insert_key};
 ghost use Rattle.std.specs.Set.{remove_key};
-ghost use Rattle.reg_effect.specs.Order.{row_cmp, is_row, has_row, has_rows, nested, groups_of};
+ghost use Rattle.reg_effect.specs.Order.{row_cmp, is_live_row, has_live_row, has_live_rows, nested, groups_of};
 
 use reg_base::{GroupId, SubjectId};
 use reg_facts::Member;
@@ -52,14 +52,14 @@ impl Rows {
 
     /// Whether the group has a row of the member. Takes no memory.
     pub fn has(&self, group: GroupId, member: Member) -> bool
-        ensures { result ≡ has_row group member self.now }
+        ensures { result ≡ has_live_row group member self.now }
     {
         self.rows.contains(&(group, member))
     }
 
     /// Whether the group has rows. Takes no memory.
     pub fn has_any(&self, group: GroupId) -> bool
-        ensures { result ≡ has_rows group self.now }
+        ensures { result ≡ has_live_rows group self.now }
     {
         let first = (group, Member::Person(SubjectId::new(0)));
         let last = (group, Member::Group(GroupId::new(u32::MAX)));
@@ -77,7 +77,7 @@ impl Rows {
 
     /// Takes a row out, where it is there. Takes no memory.
     pub fn remove(&mut self, group: GroupId, member: Member)
-        ensures { self.new ≡ remove_key (is_row group member) self.old }
+        ensures { self.new ≡ remove_key (is_live_row group member) self.old }
     {
         self.rows.remove(&(group, member));
     }

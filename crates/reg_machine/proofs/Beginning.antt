@@ -16,7 +16,7 @@ use Rattle.reg_effect.specs.declared.live.Live.{Live}
 use Rattle.reg_effect.specs.declared.live.Change.TheVariants.{RowOff}
 use Rattle.reg_effect.specs.Bound.{most_steps_of}
 use Rattle.reg_effect.specs.Changes.{all_off, all_on, changed, changed_by, rows_where, SuitAll}
-use Rattle.reg_effect.specs.Order.{has_row, row_cmp}
+use Rattle.reg_effect.specs.Order.{has_live_row, row_cmp}
 use Rattle.std.specs.BTreeSet.{insert_key}
 use Rattle.reg_effect.specs.Standing.{standing}
 use Rattle.reg_machine.specs.Dates.{begins_at, ends_at, beginning, ending, date_changes, due, pair_gone, without_ended, IsNext}
@@ -61,7 +61,7 @@ no_steps : (L : Live) → most_steps_of [] L ≡ 0
 unfolding most_steps_of
 no_steps L = refl
 
-off_changes : (t : ℕ) (p : ℕ × Member) (L : Live) → has_row p.0 p.1 L.rows ≡ true → changes_of t (pair_gone p) L ≡ RowOff p.0 p.1 ∷ []
+off_changes : (t : ℕ) (p : ℕ × Member) (L : Live) → has_live_row p.0 p.1 L.rows ≡ true → changes_of t (pair_gone p) L ≡ RowOff p.0 p.1 ∷ []
 unfolding changes_of
 off_changes t p L on = rw on refl
 

@@ -8,7 +8,7 @@ ghost use Rattle.reg_terms.specs.declared.rows.MemberRow.{MemberRow};
 ghost use Rattle.reg_facts.specs.Edits.{is_row};
 ghost use Rattle.reg_facts.specs.Edits as edits;
 ghost use Rattle.reg_facts.specs.Events.{events_of};
-ghost use Rattle.reg_effect.specs.Order.{has_row};
+ghost use Rattle.reg_effect.specs.Order.{has_live_row};
 ghost use Rattle.reg_terms.specs.Forms.{has_form};
 ghost use Rattle.reg_machine.specs.Checks as checks;
 ghost use Rattle.reg_machine.specs.Dates.{due, is_on, pass_steps};
@@ -162,7 +162,7 @@ impl<K: Kept> Machine<K> {
     /// It does nothing.
     fn law_stays(&self)
         ensures between { (u : ℕ) → self.now.clock ≤ u → due self.now.clock u (facts self.now.history self.now.clock).rows ≡ None → live u (facts self.now.history u) ≡ live self.now.clock (facts self.now.history self.now.clock) }
-        ensures on { (u g : ℕ) (m : Member) → self.now.clock ≤ u → has_row g m (live u (facts self.now.history u)).rows ≡ list_any (λ (row : MemberRow). is_row g m row && is_on u row) (facts self.now.history self.now.clock).rows }
+        ensures on { (u g : ℕ) (m : Member) → self.now.clock ≤ u → has_live_row g m (live u (facts self.now.history u)).rows ≡ list_any (λ (row : MemberRow). is_row g m row && is_on u row) (facts self.now.history self.now.clock).rows }
     {
         self.current.law_rows_open();
     }
@@ -210,7 +210,7 @@ impl<K: Kept> Machine<K> {
         // As long as no command comes, nothing that is live changes between two dates, and a row
         // that stands is on from its beginning until just before its end.
         ensures between { due self.clock to (facts self.history self.clock).rows ≡ None → live to (facts self.history to) ≡ live self.clock (facts self.history self.clock) }
-        ensures on { (g : ℕ) (m : Member) → has_row g m (live to (facts self.history to)).rows ≡ list_any (λ (row : MemberRow). is_row g m row && is_on to row) (facts self.history self.clock).rows }
+        ensures on { (g : ℕ) (m : Member) → has_live_row g m (live to (facts self.history to)).rows ≡ list_any (λ (row : MemberRow). is_row g m row && is_on to row) (facts self.history self.clock).rows }
     {
         let mut machine = self;
         machine.law_stays();
