@@ -11,7 +11,7 @@ use Rattle.reg_terms.specs.declared.kinds.Member.{Member}
 use Rattle.reg_terms.specs.declared.kinds.Member.TheVariants.{Person, Group}
 use Rattle.reg_facts.specs.RowOrder.{member_cmp, place_of, place_cmp}
 use Rattle.reg_effect.specs.Order.{row_cmp, is_live_row}
-use Rattle.reg_machine.specs.Coming.{row_at}
+use Rattle.reg_machine.specs.RowPlaces.{row_at}
 
 pub place_back : (p : ℕ × ℕ × ℕ) → p.1 < 2 → place_of (row_at p).0 (row_at p).1 ≡ p
 place_back (a, k, n) h = elim (cases_Bool (k == 0)) [
