@@ -11,7 +11,7 @@ use Rattle.reg_base.specs.Entities.{entity_of}
 use Rattle.reg_base.specs.MomentText.{moment_of}
 use Rattle.reg_base.specs.declared.entity.Entity.TheVariants.{Person, Group}
 use Rattle.reg_terms.specs.Limits.{max_display, max_moment}
-use Rattle.reg_terms.specs.Forms.{is_display, is_entity, is_folder_text, is_optional_moment, is_field, has_form, query_has_form, op_has_form}
+use Rattle.reg_terms.specs.Forms.{is_display, is_entity, is_folder_text, is_object_text, is_optional_moment, is_field, has_form, query_has_form, op_has_form}
 use Rattle.reg_terms.specs.Parts.{field_kind}
 use Rattle.reg_terms.specs.Table.{row_of, field_kinds, made, op_fields, IsMade}
 use Rattle.reg_terms.specs.declared.field.FieldKind.{FieldKind}
@@ -24,7 +24,7 @@ use Rattle.reg_terms.specs.declared.request.Op.{Op}
 use Rattle.reg_terms.specs.declared.request.Op.TheVariants as asked
 use Rattle.reg_terms.specs.declared.request.Request.{Request}
 use Rattle.reg_json.specs.Steps.{◌>>=◌, ensured}
-use Rattle.reg_json.specs.Fields.{text_at, text_or_empty, optional_text_at, known_keys, no_other, display_at, set_op_at, name_from, folder_from, extension_from, entity_from, moment_from}
+use Rattle.reg_json.specs.Fields.{text_at, text_or_empty, optional_text_at, known_keys, no_other, display_at, set_op_at, inherit_kind_at, scope_at, privilege_at, name_from, folder_from, extension_from, object_from, entity_from, moment_from}
 use Rattle.reg_json.specs.Ops.{form_at, all_stand, all_forms, fields_in, asked_in}
 use Rattle.reg_json.specs.Reading.{data_of, known_kind, reading_of}
 use Rattle.reg_json.specs.Forms.{IsFormed, ReadForm}
@@ -77,6 +77,10 @@ extension_form : (field text : List ℕ) → Keeps (λ extension. is_extension e
 unfolding extension_from
 extension_form field text = tested (is_extension text) (λ extension. is_extension extension ≡ true) text (BadName field) (λ e. e)
 
+object_form : (field text : List ℕ) → Keeps (λ object. is_object_text object ≡ true) (object_from field text)
+unfolding object_from
+object_form field text = tested (is_object_text text) (λ object. is_object_text object ≡ true) text (BadName field) (λ e. e)
+
 some_ok : {A : Type 0} (P : A → Type 0) (x : Option A) (e : Refusal) → IfSome x P → Keeps P (ok_or x e)
 some_ok P (Some x) e h = last h
 some_ok P None e h = record { kept = tt }
@@ -118,8 +122,12 @@ form_kept kind.Folder key d = pass_text key d (λ text. step (folder_form key te
 form_kept kind.Extension key d = pass_text key d (λ text. step (extension_form key text) (λ v e. last (record { is_kind = refl; fits = e })))
 form_kept kind.Display key d = step (display_form key d) (λ v e. last (record { is_kind = refl; fits = e }))
 form_kept kind.Entity key d = pass_text key d (λ text. step (entity_form key text) (λ v e. last (record { is_kind = refl; fits = e })))
+form_kept kind.Object key d = pass_text key d (λ text. step (object_form key text) (λ v e. last (record { is_kind = refl; fits = e })))
 form_kept kind.OptionalMoment key d = pass_optional key d (λ text. step (moment_form key text) (λ v e. last (record { is_kind = refl; fits = e })))
 form_kept kind.SetOp key d = pass (set_op_at key d) (λ v. last (record { is_kind = refl; fits = refl }))
+form_kept kind.InheritKind key d = pass (inherit_kind_at key d) (λ v. last (record { is_kind = refl; fits = refl }))
+form_kept kind.Scope key d = pass (scope_at key d) (λ v. last (record { is_kind = refl; fits = refl }))
+form_kept kind.Privilege key d = pass (privilege_at key d) (λ v. last (record { is_kind = refl; fits = refl }))
 
 record AreForms (ks : List FieldKind) (fs : List Field) : Type 0 where
   are_kinds : map field_kind fs ≡ ks

@@ -8,8 +8,14 @@ use Rattle.reg_base.specs.Names.{is_extension, name_of}
 use Rattle.reg_base.specs.Entities.{entity_of}
 use Rattle.reg_base.specs.MomentText.{moment_of}
 use Rattle.reg_base.specs.declared.entity.Entity.{Entity}
-use Rattle.reg_terms.specs.Forms.{is_display, is_folder_text}
+use Rattle.reg_base.specs.declared.privilege.Privilege.{Privilege}
+use Rattle.reg_terms.specs.Forms.{is_display, is_folder_text, is_object_text}
+use Rattle.reg_terms.specs.Privileges.{privilege_named}
 use Rattle.reg_terms.specs.declared.field.FieldKind.{FieldKind}
+use Rattle.reg_terms.specs.declared.kinds.InheritKind.{InheritKind}
+use Rattle.reg_terms.specs.declared.kinds.InheritKind.TheVariants.{Folder, Group, Definition}
+use Rattle.reg_terms.specs.declared.kinds.Scope.{Scope}
+use Rattle.reg_terms.specs.declared.kinds.Scope.TheVariants.{One, Sub}
 use Rattle.reg_terms.specs.declared.kinds.SetOp.{SetOp}
 use Rattle.reg_terms.specs.declared.kinds.SetOp.TheVariants.{Intersection, Complement}
 use Rattle.reg_terms.specs.declared.refusal.Refusal.{Refusal}
@@ -76,6 +82,37 @@ set_op_at key d = do
   word ← text_at key d
   ok_or (composite_kind word) (BadRequest key)
 
+-- the kind of objects that a word names
+abbrev pub inherit_kind : List ℕ → Option InheritKind
+inherit_kind word =
+    if bytes_eq word (codes "folder") then Some Folder else
+    (if bytes_eq word (codes "group") then Some Group else
+    (if bytes_eq word (codes "definition") then Some Definition else None))
+
+-- the kind of objects that an inherit is for
+unfoldable pub inherit_kind_at : List ℕ → Data → Result InheritKind Refusal
+inherit_kind_at key d = do
+  word ← text_at key d
+  ok_or (inherit_kind word) (BadRequest key)
+
+-- the scope that a word names
+abbrev pub scope : List ℕ → Option Scope
+scope word =
+    if bytes_eq word (codes "ONE") then Some One else
+    (if bytes_eq word (codes "SUB") then Some Sub else None)
+
+-- how far an inherit reaches
+unfoldable pub scope_at : List ℕ → Data → Result Scope Refusal
+scope_at key d = do
+  word ← text_at key d
+  ok_or (scope word) (BadRequest key)
+
+-- the privilege that a word names
+unfoldable pub privilege_at : List ℕ → Data → Result Privilege Refusal
+privilege_at key d = do
+  word ← text_at key d
+  ok_or (privilege_named word) (BadRequest key)
+
 -- the name that a field's text is
 unfoldable pub name_from : List ℕ → List ℕ → Result (List ℕ) Refusal
 name_from field text = ok_or (name_of text) (BadName field)
@@ -87,6 +124,10 @@ folder_from field text = if is_folder_text text then Ok text else Err (BadName f
 -- the extension that a field's text is
 unfoldable pub extension_from : List ℕ → List ℕ → Result (List ℕ) Refusal
 extension_from field text = if is_extension text then Ok text else Err (BadName field)
+
+-- the object that a field's text names
+unfoldable pub object_from : List ℕ → List ℕ → Result (List ℕ) Refusal
+object_from field text = if is_object_text text then Ok text else Err (BadName field)
 
 -- the entity that a field's text names
 unfoldable pub entity_from : List ℕ → List ℕ → Result Entity Refusal

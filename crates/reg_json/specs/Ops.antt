@@ -12,7 +12,7 @@ use Rattle.reg_terms.specs.declared.refusal.Refusal.{Refusal}
 use Rattle.reg_terms.specs.declared.refusal.Refusal.TheVariants.{BadRequest}
 use Rattle.reg_terms.specs.Table.{row_of, made}
 use Rattle.reg_json.specs.Steps.{◌>>=◌}
-use Rattle.reg_json.specs.Fields.{known_keys, no_other, text_at, optional_text_at, display_at, set_op_at, name_from, folder_from, extension_from, entity_from, moment_from}
+use Rattle.reg_json.specs.Fields.{known_keys, no_other, text_at, optional_text_at, display_at, set_op_at, inherit_kind_at, scope_at, privilege_at, name_from, folder_from, extension_from, entity_from, object_from, moment_from}
 
 -- ---- by the kinds of fields
 
@@ -33,11 +33,23 @@ stands_at kind.Display key d = do
 stands_at kind.Entity key d = do
   text ← text_at key d
   Ok true
+stands_at kind.Object key d = do
+  text ← text_at key d
+  Ok true
 stands_at kind.OptionalMoment key d = do
   text ← optional_text_at key d
   Ok true
 stands_at kind.SetOp key d = do
   word ← set_op_at key d
+  Ok true
+stands_at kind.InheritKind key d = do
+  word ← inherit_kind_at key d
+  Ok true
+stands_at kind.Scope key d = do
+  word ← scope_at key d
+  Ok true
+stands_at kind.Privilege key d = do
+  word ← privilege_at key d
   Ok true
 
 -- what stands there has its form
@@ -61,6 +73,10 @@ form_at kind.Entity key d = do
   text ← text_at key d
   entity ← entity_from key text
   Ok (field.Entity entity)
+form_at kind.Object key d = do
+  text ← text_at key d
+  object ← object_from key text
+  Ok (field.Object object)
 form_at kind.OptionalMoment key d = do
   text ← optional_text_at key d
   moment ← moment_from key text
@@ -68,6 +84,15 @@ form_at kind.OptionalMoment key d = do
 form_at kind.SetOp key d = do
   word ← set_op_at key d
   Ok (field.SetOp word)
+form_at kind.InheritKind key d = do
+  kind ← inherit_kind_at key d
+  Ok (field.InheritKind kind)
+form_at kind.Scope key d = do
+  scope ← scope_at key d
+  Ok (field.Scope scope)
+form_at kind.Privilege key d = do
+  privilege ← privilege_at key d
+  Ok (field.Privilege privilege)
 
 -- each field stands there
 abbrev pub all_stand : List (List ℕ × FieldKind) → Data → Result Bool Refusal

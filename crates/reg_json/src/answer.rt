@@ -74,8 +74,9 @@ fn put_listing(
     out.end_object()
 }
 
+/// Writes the members of a group. The only error is out of memory.
 #[tactic(auto, unfolding(crate::specs::Replies::answer_data))]
-fn put_members(out: &mut Writer, members: &Texts) -> Result<(), AllocError>
+pub fn put_members(out: &mut Writer, members: &Texts) -> Result<(), AllocError>
     ensures ok { OnOk result (out.new.tokens ≡ out.old.tokens ++ json_tokens (outline (answer_data (answer.Members members.now)))) }
     ensures before { out.new.before ≡ out.old.before }
 {

@@ -1,11 +1,11 @@
 // The forms of fields.
 ghost use Rattle.std.specs.Prelude.{◌≡◌, option_map};
 ghost use Rattle.reg_json.specs.Steps.{Gives};
-ghost use Rattle.reg_json.specs.Fields.{name_from, folder_from, extension_from, entity_from, moment_from};
+ghost use Rattle.reg_json.specs.Fields.{name_from, folder_from, extension_from, object_from, entity_from, moment_from};
 
 use crate::fault::{ReadFault, bad_moment, bad_name};
 use reg_base::{Entity, Moment, Name, Text, is_extension};
-use reg_terms::is_folder_text;
+use reg_terms::{is_folder_text, is_object_text};
 use std::alloc::Global;
 
 /// The name that a field's text is.
@@ -40,6 +40,19 @@ pub fn extension_from(alloc: Global, field: &str, text: &str) -> Result<Text, Re
     if is_extension(text.as_bytes()) {
         let extension = Text::new(alloc, text)?;
         Ok(extension)
+    } else {
+        Err(bad_name(alloc, field))
+    }
+}
+
+/// The object that a field's text names.
+#[tactic(auto, unfolding(crate::specs::Fields::object_from))]
+pub fn object_from(alloc: Global, field: &str, text: &str) -> Result<Text, ReadFault>
+    ensures { Gives (λ t. t) result (object_from field.now text.now) }
+{
+    if is_object_text(text.as_bytes()) {
+        let object = Text::new(alloc, text)?;
+        Ok(object)
     } else {
         Err(bad_name(alloc, field))
     }

@@ -2,6 +2,7 @@
 #![tactic(auto)]
 
 mod answer;
+mod array;
 mod fault;
 mod fields;
 mod flat;

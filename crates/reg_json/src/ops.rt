@@ -5,8 +5,11 @@ ghost use Rattle.reg_json.specs.Steps.{Gives};
 ghost use Rattle.reg_json.specs.Ops.{stands_at, form_at, all_stand, all_forms, fields_in, asked_in};
 
 use crate::fault::{ReadFault, bad};
-use crate::fields::{display_at, no_other, optional_text_at, set_op_at, text_at};
-use crate::forms::{entity_from, extension_from, folder_from, moment_from, name_from};
+use crate::fields::{
+    display_at, inherit_kind_at, no_other, optional_text_at, privilege_at, scope_at, set_op_at,
+    text_at,
+};
+use crate::forms::{entity_from, extension_from, folder_from, moment_from, name_from, object_from};
 use reg_base::Text;
 use reg_terms::{Field, FieldKind, Op, OpKind, made, row_of};
 use serde_json::Value;
@@ -17,7 +20,11 @@ fn stands_at(alloc: Global, value: &Value, key: &str, kind: FieldKind) -> Result
     ensures { Gives (λ b. b) result (stands_at kind key.now (view value.now)) }
 {
     match kind {
-        FieldKind::Name | FieldKind::Folder | FieldKind::Extension | FieldKind::Entity => {
+        FieldKind::Name
+        | FieldKind::Folder
+        | FieldKind::Extension
+        | FieldKind::Entity
+        | FieldKind::Object => {
             let _text = text_at(alloc, value, key)?;
             Ok(true)
         }
@@ -31,6 +38,18 @@ fn stands_at(alloc: Global, value: &Value, key: &str, kind: FieldKind) -> Result
         }
         FieldKind::SetOp => {
             let _kind = set_op_at(alloc, value, key)?;
+            Ok(true)
+        }
+        FieldKind::InheritKind => {
+            let _kind = inherit_kind_at(alloc, value, key)?;
+            Ok(true)
+        }
+        FieldKind::Scope => {
+            let _scope = scope_at(alloc, value, key)?;
+            Ok(true)
+        }
+        FieldKind::Privilege => {
+            let _privilege = privilege_at(alloc, value, key)?;
             Ok(true)
         }
     }
@@ -65,6 +84,11 @@ fn form_at(alloc: Global, value: &Value, key: &str, kind: FieldKind) -> Result<F
             let entity = entity_from(alloc, key, text)?;
             Ok(Field::Entity(entity))
         }
+        FieldKind::Object => {
+            let text = text_at(alloc, value, key)?;
+            let object = object_from(alloc, key, text)?;
+            Ok(Field::Object(object))
+        }
         FieldKind::OptionalMoment => {
             let text = optional_text_at(alloc, value, key)?;
             let moment = moment_from(alloc, key, text)?;
@@ -73,6 +97,18 @@ fn form_at(alloc: Global, value: &Value, key: &str, kind: FieldKind) -> Result<F
         FieldKind::SetOp => {
             let kind = set_op_at(alloc, value, key)?;
             Ok(Field::SetOp(kind))
+        }
+        FieldKind::InheritKind => {
+            let kind = inherit_kind_at(alloc, value, key)?;
+            Ok(Field::InheritKind(kind))
+        }
+        FieldKind::Scope => {
+            let scope = scope_at(alloc, value, key)?;
+            Ok(Field::Scope(scope))
+        }
+        FieldKind::Privilege => {
+            let privilege = privilege_at(alloc, value, key)?;
+            Ok(Field::Privilege(privilege))
         }
     }
 }

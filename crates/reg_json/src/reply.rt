@@ -1,14 +1,18 @@
 // Replies.
-ghost use Rattle.std.specs.Prelude.{◌≡◌, ◌++◌, ◌∷◌, [], IfOk, OnOk, string_bytes};
+ghost use Rattle.std.specs.Prelude.{◌≡◌, ◌++◌, ◌∷◌, [], true, IfOk, OnOk, string_bytes};
+ghost use Rattle.std.specs.List.{concat, list_all};
 ghost use Rattle.json.specs.Tree.{json_tokens};
-ghost use Rattle.serde_json.specs.Written.{outline};
-ghost use Rattle.reg_json.specs.Replies.{reply_data, text};
+ghost use Rattle.serde_json.specs.Written.{compact_text, outline};
+ghost use Rattle.reg_terms.specs.declared.query.Answer.TheVariants as answer;
+ghost use Rattle.reg_json.specs.Arrays.{is_plain};
+ghost use Rattle.reg_json.specs.Replies.{answer_data, reply_data, text};
 
-use crate::answer::put_answer;
+use crate::answer::{put_answer, put_members};
+use crate::array::{append_array, is_plain};
 use crate::flat::{Scalar, put_object};
 use crate::refusal::put_refusal;
 use json::Writer;
-use reg_terms::Reply;
+use reg_terms::{Answer, Reply, Texts};
 use std::alloc::{AllocError, Global};
 
 #[tactic(auto, unfolding(crate::specs::Replies::reply_data))]
@@ -28,15 +32,56 @@ fn put_reply(out: &mut Writer, reply: &Reply) -> Result<(), AllocError>
     }
 }
 
-/// The buffer, and behind what it held the text of a reply: compact JSON whose keys ascend, without
-/// an ending LF (`docs/REQUESTS.md`, "Replies"). The only error is out of memory.
-#[tactic(auto, using(crate::proofs::Printing::printed), unfolding(crate::specs::Replies::text))]
-pub fn append_reply(buffer: Vec<u8>, reply: &Reply) -> Result<Vec<u8>, AllocError>
-    ensures { IfOk result (λ bytes. bytes.items ≡ buffer.items ++ text reply.now) }
+#[tactic(auto, using(crate::proofs::Printing::printed))]
+fn append_written(buffer: Vec<u8>, reply: &Reply) -> Result<Vec<u8>, AllocError>
+    ensures { IfOk result (λ bytes. bytes.items ≡ buffer.items ++ compact_text (reply_data reply.now)) }
 {
     let mut out = Writer::new(buffer);
     put_reply(&mut out, reply)?;
     Ok(out.into_inner())
+}
+
+#[tactic(auto, using(crate::proofs::Printing::printed))]
+fn append_escaped(buffer: Vec<u8>, members: &Texts) -> Result<Vec<u8>, AllocError>
+    ensures { IfOk result (λ bytes. bytes.items ≡ buffer.items ++ compact_text (answer_data (answer.Members members.now))) }
+{
+    let mut out = Writer::new(buffer);
+    put_members(&mut out, members)?;
+    Ok(out.into_inner())
+}
+
+fn append_plain(buffer: Vec<u8>, members: &Texts) -> Result<Vec<u8>, AllocError>
+    requires { list_all is_plain (concat members.now) ≡ true }
+    ensures { IfOk result (λ bytes. bytes.items ≡ buffer.items ++ compact_text (answer_data (answer.Members members.now))) }
+{
+    let mut bytes = buffer;
+    bytes.extend_from_slice(b"{\"members\":")?;
+    bytes = append_array(bytes, members)?;
+    bytes.extend_from_slice(b",\"ok\":true}")?;
+    Ok(bytes)
+}
+
+/// The members of a group may be many: where no byte of them needs an escape, they are written at once.
+fn append_members(buffer: Vec<u8>, members: &Texts) -> Result<Vec<u8>, AllocError>
+    ensures { IfOk result (λ bytes. bytes.items ≡ buffer.items ++ compact_text (answer_data (answer.Members members.now))) }
+{
+    if is_plain(members.joined().as_bytes()) {
+        append_plain(buffer, members)
+    } else {
+        append_escaped(buffer, members)
+    }
+}
+
+/// The buffer, and behind what it held the text of a reply: compact JSON whose keys ascend, without
+/// an ending LF (`docs/REQUESTS.md`, "Replies"). The only error is out of memory.
+#[tactic(auto, unfolding(crate::specs::Replies::text, crate::specs::Replies::reply_data))]
+pub fn append_reply(buffer: Vec<u8>, reply: &Reply) -> Result<Vec<u8>, AllocError>
+    ensures { IfOk result (λ bytes. bytes.items ≡ buffer.items ++ text reply.now) }
+{
+    match reply {
+        Reply::Answer(Answer::Members { members }) => append_members(buffer, members),
+        _ => append_written(buffer, reply),
+    }
 }
 
 /// The buffer, and behind what it held the text of a reply and LF. It serves the next reply again,

@@ -1,6 +1,7 @@
 -- Texts one behind the other, with one more, and with the first taken off.
-use Rattle.std.proofs.Common.{◌≡◌, ◌++◌, ℕ, List, [], ◌∷◌, length, take, drop, ap, refl, arith}
+use Rattle.std.proofs.Common.{◌≡◌, ◌++◌, ℕ, List, [], ◌∷◌, length, suc, take, drop, ap, refl, sym, ◌∙◌, arith}
 use Rattle.std.specs.Prelude.{IsUtf8}
+use Rattle.std.specs.List.{concat}
 use Rattle.std.specs.Str.{IsCharBoundary}
 use Rattle.std.proofs.lemmas.List.{length-append, take_all, drop_all, take-append-le, drop-append-le, take-append-drop}
 use Rattle.std.proofs.lemmas.Str.{IsUtf8-nil, IsUtf8-append, IsCharBoundary-from_take}
@@ -25,3 +26,13 @@ whole (n ∷ ns) bytes cuts = rw (take-append-drop n bytes) at (IsUtf8-append (t
 -- the first text ends where a character does
 pub boundary : (n : ℕ) (ns bytes : List ℕ) → Cuts (n ∷ ns) bytes → IsCharBoundary bytes n
 boundary n ns bytes cuts = IsCharBoundary-from_take bytes n (whole (n ∷ ns) bytes cuts) cuts.0 cuts.1
+
+-- there are as many texts as lengths
+pub length_pieces : (ns bytes : List ℕ) → length (pieces ns bytes) ≡ length ns
+length_pieces [] bytes = refl
+length_pieces (n ∷ ns) bytes = ap suc (length_pieces ns (drop n bytes))
+
+-- the texts one behind the other are the whole
+pub joined_pieces : (ns bytes : List ℕ) → Cuts ns bytes → concat (pieces ns bytes) ≡ bytes
+joined_pieces [] bytes cuts = sym cuts
+joined_pieces (n ∷ ns) bytes cuts = ap (λ (l : List ℕ). take n bytes ++ l) (joined_pieces ns (drop n bytes) cuts.2) ∙ take-append-drop n bytes

@@ -1,6 +1,9 @@
 -- What fields make, by their kinds; and op by op in one line each, that a command or query of them has them again.
 use Rattle.std.proofs.Common.{◌≡◌, ℕ, List, [], ◌∷◌, map, Option, refl, ap, subst, ◌∙◌, lit≤}
 use Rattle.reg_base.specs.declared.entity.Entity.{Entity}
+use Rattle.reg_base.specs.declared.privilege.Privilege.{Privilege}
+use Rattle.reg_terms.specs.declared.kinds.InheritKind.{InheritKind}
+use Rattle.reg_terms.specs.declared.kinds.Scope.{Scope}
 use Rattle.reg_terms.specs.declared.kinds.SetOp.{SetOp}
 use Rattle.reg_terms.specs.declared.command.Command.{Command}
 use Rattle.reg_terms.specs.declared.command.Command.TheVariants.{FolderAdd, FolderRename, FolderMove, FolderDelete, SubjectAdd, GroupAdd, GroupRename, GroupMove, GroupDelete, MemberAdd, MemberRemove, MemberWindow, CompositeSet, CompositeClear}
@@ -28,8 +31,12 @@ Value kind.Folder = List ℕ
 Value kind.Extension = List ℕ
 Value kind.Display = List ℕ
 Value kind.Entity = Entity
+Value kind.Object = List ℕ
 Value kind.OptionalMoment = Option ℕ
 Value kind.SetOp = SetOp
+Value kind.InheritKind = InheritKind
+Value kind.Scope = Scope
+Value kind.Privilege = Privilege
 
 -- a value as a field
 abbrev as_field : (k : FieldKind) → Value k → Field
@@ -38,8 +45,12 @@ as_field kind.Folder v = field.Folder v
 as_field kind.Extension v = field.Extension v
 as_field kind.Display v = field.Display v
 as_field kind.Entity v = field.Entity v
+as_field kind.Object v = field.Object v
 as_field kind.OptionalMoment v = field.OptionalMoment v
 as_field kind.SetOp v = field.SetOp v
+as_field kind.InheritKind v = field.InheritKind v
+as_field kind.Scope v = field.Scope v
+as_field kind.Privilege v = field.Privilege v
 
 -- values of so many kinds
 abbrev Values : List FieldKind → Type 0
@@ -58,8 +69,12 @@ field_value (field.Folder v) = (v, refl)
 field_value (field.Extension v) = (v, refl)
 field_value (field.Display v) = (v, refl)
 field_value (field.Entity v) = (v, refl)
+field_value (field.Object v) = (v, refl)
 field_value (field.OptionalMoment v) = (v, refl)
 field_value (field.SetOp v) = (v, refl)
+field_value (field.InheritKind v) = (v, refl)
+field_value (field.Scope v) = (v, refl)
+field_value (field.Privilege v) = (v, refl)
 
 -- fields are values of these kinds
 record AreValues (ks : List FieldKind) (fields : List Field) : Type 0 where

@@ -1,8 +1,9 @@
 -- The form that each field has, and whether a command's or a query's fields have theirs.
-use Rattle.std.specs.Prelude.{ℕ, ◌&&◌, ◌||◌, List, Bool, true, Option, None, Some, length, codes, nat_le}
-use Rattle.std.specs.List.{list_all}
+use Rattle.std.specs.Prelude.{ℕ, ◌==◌, ◌&&◌, ◌||◌, List, Bool, true, Option, None, Some, length, codes, nat_le, is_some, if◌then◌else◌}
+use Rattle.std.specs.List.{list_all, list_any}
 use Rattle.std.specs.Str.{bytes_eq, is_utf8}
 use Rattle.reg_base.specs.Names.{is_extension, is_name, is_person}
+use Rattle.reg_base.specs.Entities.{entity_of}
 use Rattle.reg_base.specs.declared.entity.Entity.{Entity}
 use Rattle.reg_base.specs.declared.entity.Entity.TheVariants as entity
 use Rattle.reg_terms.specs.declared.command.Command.{Command}
@@ -29,6 +30,10 @@ is_entity (entity.Group name) = is_name name
 is_entity entity.System = true
 is_entity entity.Everyone = true
 
+-- the text of an object: an entity's where it has a `/`, else a name or `:`
+abbrev pub is_object_text : List ℕ → Bool
+is_object_text text = if list_any (λ b. b == 47) text then is_some (entity_of text) else is_folder_text text
+
 -- a moment up to the greatest
 abbrev pub is_moment : ℕ → Bool
 is_moment moment = nat_le moment max_moment
@@ -45,8 +50,12 @@ is_field (field.Folder text) = is_folder_text text
 is_field (field.Extension text) = is_extension text
 is_field (field.Display text) = is_display text
 is_field (field.Entity entity) = is_entity entity
+is_field (field.Object text) = is_object_text text
 is_field (field.OptionalMoment moment) = is_optional_moment moment
 is_field (field.SetOp kind) = true
+is_field (field.InheritKind kind) = true
+is_field (field.Scope scope) = true
+is_field (field.Privilege privilege) = true
 
 -- whether each field of a command has its form
 unfoldable pub has_form : Command → Bool

@@ -1,9 +1,11 @@
 -- What rows speak of: when two objects or members are one.
-use Rattle.std.specs.Prelude.{ℕ, ◌==◌, Bool, false, Option, Some, None}
+use Rattle.std.specs.Prelude.{ℕ, ◌==◌, Bool, true, false, Option, Some, None}
 use Rattle.reg_terms.specs.declared.kinds.Object.{Object}
 use Rattle.reg_terms.specs.declared.kinds.Object.TheVariants as object
 use Rattle.reg_terms.specs.declared.kinds.Member.{Member}
 use Rattle.reg_terms.specs.declared.kinds.Member.TheVariants as member
+use Rattle.reg_terms.specs.declared.kinds.Holder.{Holder}
+use Rattle.reg_terms.specs.declared.kinds.Holder.TheVariants as holder
 
 -- the two objects are one
 abbrev pub same_object : Object → Object → Bool
@@ -13,6 +15,13 @@ same_object (object.Def a) (object.Def b) = a == b
 same_object (object.Attr a) (object.Attr b) = a == b
 same_object (object.Subject a) (object.Subject b) = a == b
 same_object _ _ = false
+
+-- the two holders are one
+abbrev pub same_holder : Holder → Holder → Bool
+same_holder holder.Everyone holder.Everyone = true
+same_holder (holder.Person a) (holder.Person b) = a == b
+same_holder (holder.Group a) (holder.Group b) = a == b
+same_holder _ _ = false
 
 -- the two members are one
 abbrev pub same_member : Member → Member → Bool

@@ -4,3 +4,4 @@ pub mod Parts
 pub mod Table
 pub mod Forms
 pub mod Pieces
+pub mod Privileges

@@ -2,6 +2,9 @@
 use Rattle.std.specs.Prelude.{◌≡◌, ℕ, List, [], ◌∷◌, Option, Some, None, option_and_then}
 use Rattle.std.specs.List.{flat_map}
 use Rattle.reg_base.specs.declared.entity.Entity.{Entity}
+use Rattle.reg_base.specs.declared.privilege.Privilege.{Privilege}
+use Rattle.reg_terms.specs.declared.kinds.InheritKind.{InheritKind}
+use Rattle.reg_terms.specs.declared.kinds.Scope.{Scope}
 use Rattle.reg_terms.specs.declared.kinds.SetOp.{SetOp}
 use Rattle.reg_terms.specs.declared.field.FieldKind.{FieldKind}
 use Rattle.reg_terms.specs.declared.field.FieldKind.TheVariants as kind
@@ -22,8 +25,12 @@ field_kind (field.Folder v) = kind.Folder
 field_kind (field.Extension v) = kind.Extension
 field_kind (field.Display v) = kind.Display
 field_kind (field.Entity v) = kind.Entity
+field_kind (field.Object v) = kind.Object
 field_kind (field.OptionalMoment v) = kind.OptionalMoment
 field_kind (field.SetOp v) = kind.SetOp
+field_kind (field.InheritKind v) = kind.InheritKind
+field_kind (field.Scope v) = kind.Scope
+field_kind (field.Privilege v) = kind.Privilege
 
 -- the name, if the field is one
 abbrev pub as_name : Field → Option (List ℕ)
@@ -60,6 +67,26 @@ abbrev pub as_set_op : Field → Option SetOp
 as_set_op (field.SetOp v) = Some v
 as_set_op _ = None
 
+-- the text of an object, if the field is one
+abbrev pub as_object : Field → Option (List ℕ)
+as_object (field.Object v) = Some v
+as_object _ = None
+
+-- the kind of objects that an inherit is for, if the field is that
+abbrev pub as_inherit_kind : Field → Option InheritKind
+as_inherit_kind (field.InheritKind v) = Some v
+as_inherit_kind _ = None
+
+-- how far an inherit reaches, if the field is that
+abbrev pub as_scope : Field → Option Scope
+as_scope (field.Scope v) = Some v
+as_scope _ = None
+
+-- the privilege, if the field is one
+abbrev pub as_privilege : Field → Option Privilege
+as_privilege (field.Privilege v) = Some v
+as_privilege _ = None
+
 -- the field that is seen, if one is
 abbrev pub seen : FieldRef → List Field
 seen reference.Nothing = []
@@ -68,8 +95,12 @@ seen (reference.Folder v) = field.Folder v.now ∷ []
 seen (reference.Extension v) = field.Extension v.now ∷ []
 seen (reference.Display v) = field.Display v.now ∷ []
 seen (reference.Entity v) = field.Entity v.now ∷ []
+seen (reference.Object v) = field.Object v.now ∷ []
 seen (reference.OptionalMoment v) = field.OptionalMoment v ∷ []
 seen (reference.SetOp v) = field.SetOp v ∷ []
+seen (reference.InheritKind v) = field.InheritKind v ∷ []
+seen (reference.Scope v) = field.Scope v ∷ []
+seen (reference.Privilege v) = field.Privilege v ∷ []
 
 -- the fields that are seen
 abbrev pub seen_all : List FieldRef → List Field
@@ -114,6 +145,22 @@ moment_in fields = next_as as_moment fields
 -- a composite's kind from the front
 abbrev pub set_op_in : List Field → Option (SetOp × List Field)
 set_op_in fields = next_as as_set_op fields
+
+-- an object's text from the front
+abbrev pub object_in : List Field → Option (List ℕ × List Field)
+object_in fields = next_as as_object fields
+
+-- an inherit's kind from the front
+abbrev pub inherit_kind_in : List Field → Option (InheritKind × List Field)
+inherit_kind_in fields = next_as as_inherit_kind fields
+
+-- a scope from the front
+abbrev pub scope_in : List Field → Option (Scope × List Field)
+scope_in fields = next_as as_scope fields
+
+-- a privilege from the front
+abbrev pub privilege_in : List Field → Option (Privilege × List Field)
+privilege_in fields = next_as as_privilege fields
 
 -- what was made, where no field is left
 abbrev pub whole : {A : Type 0} → A → List Field → Option A

@@ -1,9 +1,9 @@
 // A field of a command or a query, and the kinds of fields.
 ghost use Rattle.std.specs.Prelude.{◌≡◌};
-ghost use Rattle.reg_terms.specs.Parts.{as_name, as_folder, as_extension, as_display, as_entity, as_moment, as_set_op};
+ghost use Rattle.reg_terms.specs.Parts.{as_name, as_folder, as_extension, as_display, as_entity, as_object, as_moment, as_set_op, as_inherit_kind, as_scope, as_privilege};
 
-use crate::SetOp;
-use reg_base::{Entity, Moment, Name, Text};
+use crate::{InheritKind, Scope, SetOp};
+use reg_base::{Entity, Moment, Name, Privilege, Text};
 
 /// A kind of field: which values may stand in it, and how they are written (`docs/REQUESTS.md`,
 /// `docs/JOURNAL.md`).
@@ -19,10 +19,18 @@ pub enum FieldKind {
     Display,
     /// A person, a group, or one of the registry's own entities.
     Entity,
+    /// An object: an entity's text where it has a `/`, else a name or `:`.
+    Object,
     /// A moment that may be left out.
     OptionalMoment,
     /// How a composite is made of its factors.
     SetOp,
+    /// The kind of objects that an inherit is for.
+    InheritKind,
+    /// How far an inherit reaches.
+    Scope,
+    /// A privilege by its name.
+    Privilege,
 }
 
 /// A field of a command or a query.
@@ -33,8 +41,12 @@ pub enum Field {
     Extension(Text),
     Display(Text),
     Entity(Entity),
+    Object(Text),
     OptionalMoment(Option<Moment>),
     SetOp(SetOp),
+    InheritKind(InheritKind),
+    Scope(Scope),
+    Privilege(Privilege),
 }
 
 impl Field {
@@ -104,6 +116,46 @@ impl Field {
     {
         match self {
             Field::SetOp(set_op) => Some(*set_op),
+            _ => None,
+        }
+    }
+
+    /// The text of an object, if it is one.
+    pub fn object(self) -> Option<Text>
+        ensures { result ≡ as_object self }
+    {
+        match self {
+            Field::Object(object) => Some(object),
+            _ => None,
+        }
+    }
+
+    /// The kind of objects that an inherit is for, if it is that.
+    pub fn inherit_kind(&self) -> Option<InheritKind>
+        ensures { result ≡ as_inherit_kind self.now }
+    {
+        match self {
+            Field::InheritKind(kind) => Some(*kind),
+            _ => None,
+        }
+    }
+
+    /// How far an inherit reaches, if it is that.
+    pub fn scope(&self) -> Option<Scope>
+        ensures { result ≡ as_scope self.now }
+    {
+        match self {
+            Field::Scope(scope) => Some(*scope),
+            _ => None,
+        }
+    }
+
+    /// The privilege, if it is one.
+    pub fn privilege(&self) -> Option<Privilege>
+        ensures { result ≡ as_privilege self.now }
+    {
+        match self {
+            Field::Privilege(privilege) => Some(*privilege),
             _ => None,
         }
     }

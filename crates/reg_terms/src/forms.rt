@@ -1,7 +1,8 @@
 // Whether fields have their forms.
-ghost use Rattle.std.specs.Prelude.{◌≡◌};
+ghost use Rattle.std.specs.Prelude.{◌≡◌, ◌≤◌, is_some, length};
 ghost use Rattle.std.specs.List.{list_all};
-ghost use Rattle.reg_terms.specs.Forms.{is_folder_text, is_display, is_entity, is_optional_moment, is_field, has_form};
+ghost use Rattle.reg_base.specs.Entities.{entity_of, group_entity, person_entity};
+ghost use Rattle.reg_terms.specs.Forms.{is_folder_text, is_display, is_entity, is_object_text, is_optional_moment, is_field, has_form};
 ghost use Rattle.reg_terms.specs.Parts.{seen, seen_all};
 
 use crate::Command;
@@ -34,6 +35,46 @@ fn is_entity(entity: &Entity) -> bool
     }
 }
 
+fn is_group_text(text: &[u8]) -> bool
+    requires { 6 ≤ length text.now }
+    ensures { result ≡ is_some (group_entity text.now) }
+{
+    let (_, name) = text.split_at(6);
+    is_name(name)
+}
+
+fn is_person_text(text: &[u8]) -> bool
+    ensures { result ≡ is_some (person_entity text.now) }
+{
+    is_person(text)
+}
+
+/// Whether the text names an entity: a person, a group, or one of the registry's own.
+#[tactic(auto, unfolding(reg_base::specs::Entities::entity_of))]
+fn is_entity_text(text: &[u8]) -> bool
+    ensures { result ≡ is_some (entity_of text.now) }
+{
+    if text == b"g:isa/GrouperSystem".as_slice() || text == b"g:isa/GrouperAll".as_slice() {
+        return true;
+    }
+    if text.starts_with(b"g:gsa/") {
+        is_group_text(text)
+    } else {
+        is_person_text(text)
+    }
+}
+
+/// Whether the text is that of an object: an entity's where it has a `/`, else a name or `:`.
+pub fn is_object_text(text: &[u8]) -> bool
+    ensures { result ≡ is_object_text text.now }
+{
+    if text.contains(&b'/') {
+        is_entity_text(text)
+    } else {
+        is_folder_text(text)
+    }
+}
+
 fn is_optional_moment(moment: Option<Moment>) -> bool
     ensures { result ≡ is_optional_moment moment }
 {
@@ -44,12 +85,17 @@ fn is_field(field: &FieldRef<'_>) -> bool
     ensures { result ≡ list_all is_field (seen field.now) }
 {
     match field {
-        FieldRef::Nothing | FieldRef::SetOp(_) => true,
+        FieldRef::Nothing
+        | FieldRef::SetOp(_)
+        | FieldRef::InheritKind(_)
+        | FieldRef::Scope(_)
+        | FieldRef::Privilege(_) => true,
         FieldRef::Name(name) => is_name(name.bytes()),
         FieldRef::Folder(text) => is_folder_text(text.bytes()),
         FieldRef::Extension(text) => is_extension(text.bytes()),
         FieldRef::Display(text) => is_display(text),
         FieldRef::Entity(entity) => is_entity(entity),
+        FieldRef::Object(text) => is_object_text(text.bytes()),
         FieldRef::OptionalMoment(moment) => is_optional_moment(*moment),
     }
 }

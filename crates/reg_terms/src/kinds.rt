@@ -1,6 +1,6 @@
 // What rows speak of.
 ghost use Rattle.std.specs.Prelude.{◌≡◌};
-ghost use Rattle.reg_terms.specs.Kinds.{same_member, same_object, as_folder, as_group};
+ghost use Rattle.reg_terms.specs.Kinds.{same_member, same_object, same_holder, as_folder, as_group};
 
 use reg_base::{AttrDefId, AttrId, FolderId, GroupId, Moment, SubjectId, Text};
 
@@ -76,6 +76,19 @@ pub enum Holder {
     Group(GroupId),
 }
 
+impl Holder {
+    /// Whether the two are one.
+    pub fn is(&self, other: &Holder) -> bool
+        ensures { result ≡ same_holder self.now other.now }
+    {
+        match self {
+            Holder::Everyone => matches!(other, Holder::Everyone),
+            Holder::Person(a) => matches!(other, Holder::Person(b) if a.number() == b.number()),
+            Holder::Group(a) => matches!(other, Holder::Group(b) if a.number() == b.number()),
+        }
+    }
+}
+
 /// How a composite group is made of its two factors.
 #[derive(Clone, Copy, Debug, PartialEq, Eq)]
 pub enum SetOp {
@@ -86,14 +99,14 @@ pub enum SetOp {
 }
 
 /// How far an inherit reaches: objects directly in its folder, or at any depth below it.
-#[derive(Clone, Copy, Debug, PartialEq, Eq)]
+#[derive(Clone, Copy, Debug, PartialEq, Eq, PartialOrd, Ord)]
 pub enum Scope {
     One,
     Sub,
 }
 
 /// The kind of objects for which an inherit gives its privilege.
-#[derive(Clone, Copy, Debug, PartialEq, Eq)]
+#[derive(Clone, Copy, Debug, PartialEq, Eq, PartialOrd, Ord)]
 pub enum InheritKind {
     Folder,
     Group,

@@ -13,6 +13,7 @@ mod laws;
 mod limits;
 mod making;
 mod parts;
+mod privileges;
 mod query;
 mod refusal;
 mod reply;
@@ -26,16 +27,21 @@ pub use attr_values::AttrValues;
 pub use command::{Command, Stamped};
 pub use event::Event;
 pub use field::{Field, FieldKind};
-pub use forms::{has_form, is_folder_text};
+pub use forms::{has_form, is_folder_text, is_object_text};
 pub use kinds::{
     AttrValue, DefKind, Holder, InheritKind, Member, Object, Owners, RuleForm, Scope, SetOp,
 };
 pub use laws::{law_commands, law_ops};
 pub use limits::{
-    MAX_DISPLAY, MAX_FOLDERS, MAX_GROUPS, MAX_HISTORY, MAX_LINE, MAX_NAME, MAX_ROWS, MAX_SUBJECTS,
+    MAX_DISPLAY, MAX_FOLDERS, MAX_GRANTS, MAX_GROUPS, MAX_HISTORY, MAX_INHERITS, MAX_LINE,
+    MAX_NAME, MAX_ROWS, MAX_SUBJECTS,
 };
 pub use making::{made, made_command};
 pub use parts::{FieldRef, fields_of, kind_of};
+pub use privileges::{
+    all_privileges, gives, privilege_code, privilege_coded, privilege_kind, privilege_name,
+    privilege_named, same_privilege,
+};
 pub use query::{Answer, Query};
 pub use refusal::Refusal;
 pub use reply::Reply;
@@ -44,7 +50,7 @@ pub use rows::{
     AssignRow, AttributeRow, CompositeRow, ConsumerRow, DefinitionRow, FolderRow, GrantRow,
     GroupRow, InheritRow, JobRow, Made, MemberRow, RuleRow, SubjectRow,
 };
-pub use shown::{FactorsShown, RowShown, RowsShown};
+pub use shown::{FactorsShown, GrantShown, GrantsShown, Privileges, RowShown, RowsShown};
 pub use table::{
     CommandKind, CommandRow, OpKind, QueryKind, Row, command_coded, command_row, kind_named,
     query_row, row_of,

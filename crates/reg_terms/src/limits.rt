@@ -12,6 +12,12 @@ pub const MAX_SUBJECTS: u32 = 500_000;
 /// Immediate memberships that may stand.
 pub const MAX_ROWS: usize = 2_000_000;
 
+/// Grants that may stand.
+pub const MAX_GRANTS: usize = 500_000;
+
+/// Inherits that may stand.
+pub const MAX_INHERITS: usize = 500_000;
+
 /// Commands that a history may have.
 pub const MAX_HISTORY: usize = 4_000_000;
 

@@ -4,8 +4,8 @@ ghost use Rattle.reg_terms.specs.Parts.{seen_all};
 ghost use Rattle.reg_terms.specs.Table.{kind_of, fields_of};
 
 use crate::table::CommandKind;
-use crate::{Command, SetOp};
-use reg_base::{Entity, Moment, Name, Text};
+use crate::{Command, InheritKind, Scope, SetOp};
+use reg_base::{Entity, Moment, Name, Privilege, Text};
 
 /// A field that stands in a command, or none.
 #[derive(Clone, Copy)]
@@ -16,8 +16,12 @@ pub enum FieldRef<'a> {
     Extension(&'a Text),
     Display(&'a Text),
     Entity(&'a Entity),
+    Object(&'a Text),
     OptionalMoment(Option<Moment>),
     SetOp(SetOp),
+    InheritKind(InheritKind),
+    Scope(Scope),
+    Privilege(Privilege),
 }
 
 /// Which command it is.

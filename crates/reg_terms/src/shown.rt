@@ -1,9 +1,11 @@
 // What the query of memberships shows.
 ghost use Rattle.std.specs.Prelude.{◌≡◌, [], ◌∷◌, ◌++◌, OnOk, OnErr};
 ghost use Rattle.reg_terms.specs.declared.shown.RowShown.{RowShown};
+ghost use Rattle.reg_terms.specs.declared.shown.GrantShown.{GrantShown};
+ghost use Rattle.reg_base.specs.declared.privilege.Privilege.{Privilege};
 
 use crate::SetOp;
-use reg_base::{Moment, Text};
+use reg_base::{Moment, Privilege, Text};
 use std::alloc::{AllocError, Global};
 use std::marker::Model;
 
@@ -61,6 +63,97 @@ impl RowsShown {
 
     /// The memberships.
     pub fn list(&self) -> &[RowShown]
+        ensures { result.now ≡ self.now }
+    {
+        &self.items
+    }
+}
+
+/// A privilege that is granted, with the text of its holder.
+#[derive(Debug, Drop)]
+pub struct GrantShown {
+    pub holder: Text,
+    pub privilege: Privilege,
+}
+
+/// A list of grants. Contracts see the list.
+#[derive(Debug, Drop)]
+pub struct GrantsShown {
+    items: Vec<GrantShown>,
+}
+
+impl Model for GrantsShown {
+    ghost use Rattle.std.specs.Prelude.{List};
+    ghost use Rattle.reg_terms.specs.declared.shown.GrantShown.{GrantShown};
+
+    ghost Value = { List GrantShown };
+
+    ghost view = { λ g. g.items.items };
+}
+
+impl GrantsShown {
+    /// The empty list.
+    pub fn new(alloc: Global) -> GrantsShown
+        ensures { result ≡ [] }
+    {
+        GrantsShown {
+            items: Vec::new(alloc),
+        }
+    }
+
+    /// Adds a grant at the end. Where there is no memory the list stays as it was.
+    pub fn push(&mut self, item: GrantShown) -> Result<(), AllocError>
+        ensures ok { OnOk result (self.new ≡ self.old ++ item ∷ []) }
+        ensures err { OnErr result (self.new ≡ self.old) }
+    {
+        self.items.push(item)?;
+        Ok(())
+    }
+
+    /// The grants.
+    pub fn list(&self) -> &[GrantShown]
+        ensures { result.now ≡ self.now }
+    {
+        &self.items
+    }
+}
+
+/// A list of privileges. Contracts see the list.
+#[derive(Debug, Drop)]
+pub struct Privileges {
+    items: Vec<Privilege>,
+}
+
+impl Model for Privileges {
+    ghost use Rattle.std.specs.Prelude.{List};
+    ghost use Rattle.reg_base.specs.declared.privilege.Privilege.{Privilege};
+
+    ghost Value = { List Privilege };
+
+    ghost view = { λ p. p.items.items };
+}
+
+impl Privileges {
+    /// The empty list.
+    pub fn new(alloc: Global) -> Privileges
+        ensures { result ≡ [] }
+    {
+        Privileges {
+            items: Vec::new(alloc),
+        }
+    }
+
+    /// Adds a privilege at the end. Where there is no memory the list stays as it was.
+    pub fn push(&mut self, item: Privilege) -> Result<(), AllocError>
+        ensures ok { OnOk result (self.new ≡ self.old ++ item ∷ []) }
+        ensures err { OnErr result (self.new ≡ self.old) }
+    {
+        self.items.push(item)?;
+        Ok(())
+    }
+
+    /// The privileges.
+    pub fn list(&self) -> &[Privilege]
         ensures { result.now ≡ self.now }
     {
         &self.items

@@ -1,10 +1,13 @@
 -- Commands are read exactly as they are written, by the kinds of their fields.
-use Rattle.std.proofs.Common.{◌≡◌, ℕ, Bool, true, eqb, List, [], ◌∷◌, ◌++◌, map, Option, Some, refl, sym, ap, subst, ◌∙◌, append_assoc, inl, inr}
+use Rattle.std.proofs.Common.{◌≡◌, ℕ, Bool, true, eqb, List, [], ◌∷◌, ◌++◌, map, Option, Some, refl, sym, ap, subst, ◌∙◌, append_assoc, inl, inr, arith}
 use Rattle.std.specs.List.{list_all, flat_map}
 use Rattle.std.proofs.lemmas.Bool.{and_parts, and_from, eqb-true}
 use Rattle.std.proofs.lemmas.Option.{same_Some}
 use Rattle.reg_base.specs.Names.{is_extension, is_name}
 use Rattle.reg_base.specs.declared.entity.Entity.{Entity}
+use Rattle.reg_base.specs.declared.privilege.Privilege.{Privilege}
+use Rattle.reg_terms.specs.declared.kinds.InheritKind.{InheritKind}
+use Rattle.reg_terms.specs.declared.kinds.Scope.{Scope}
 use Rattle.reg_terms.specs.declared.kinds.SetOp.{SetOp}
 use Rattle.reg_terms.specs.declared.command.Command.{Command}
 use Rattle.reg_terms.specs.declared.table.CommandKind.{CommandKind}
@@ -12,15 +15,17 @@ use Rattle.reg_terms.specs.declared.field.FieldKind.{FieldKind}
 use Rattle.reg_terms.specs.declared.field.FieldKind.TheVariants as kind
 use Rattle.reg_terms.specs.declared.field.Field.{Field}
 use Rattle.reg_terms.specs.declared.field.Field.TheVariants as field
-use Rattle.reg_terms.specs.Forms.{is_folder_text, is_display, is_field, has_form}
+use Rattle.reg_terms.specs.Forms.{is_folder_text, is_display, is_object_text, is_field, has_form}
 use Rattle.reg_terms.specs.Parts.{◌>>=◌, field_kind}
 use Rattle.reg_terms.specs.Table.{command_row, field_kinds, commands, coded, kind_of, fields_of, code_of, made_command, IsMadeCommand, IsApart}
 use Rattle.reg_wire.specs.Fields.{field_bytes}
 use Rattle.reg_wire.specs.Payload.{fields_bytes, command_bytes}
-use Rattle.reg_wire.specs.Reading.{byte_at, name_at, folder_at, extension_at, display_at, entity_at, optional_moment_at, set_op_at, stands, field_at, fields_at, command_at, command_of}
+use Rattle.reg_wire.specs.Reading.{byte_at, name_at, folder_at, extension_at, display_at, entity_at, object_at, optional_moment_at, set_op_at, inherit_kind_at, scope_at, privilege_at, stands, field_at, fields_at, command_at, command_of}
 use Rattle.reg_wire.proofs.Texts.{name_short, folder_short, extension_short, display_short}
 use Rattle.reg_wire.proofs.Exact.{IsExact, bind_some, tested_exact, optional_exact, set_op_exact}
 use Rattle.reg_wire.proofs.Entities.{chosen, entity_exact}
+use Rattle.reg_wire.proofs.Objects.{object_short}
+use Rattle.reg_wire.proofs.Grants.{inherit_kind_exact, scope_exact, privilege_exact, byte_takes}
 
 -- what the table of ops says of commands that are made of fields, and of those that are taken apart
 abbrev pub TableMakes : Type 0
@@ -33,16 +38,19 @@ TableParts = (c : Command) → IsApart c
 
 -- each kind of field that is a text
 name_exact : IsExact (λ (v : List ℕ). field_bytes (field.Name v)) (λ (v : List ℕ). is_field (field.Name v)) name_at
-name_exact = tested_exact is_name name_short
+name_exact = tested_exact is_name (λ text h. omega (arith, name_short text h))
 
 folder_exact : IsExact (λ (v : List ℕ). field_bytes (field.Folder v)) (λ (v : List ℕ). is_field (field.Folder v)) folder_at
-folder_exact = tested_exact is_folder_text folder_short
+folder_exact = tested_exact is_folder_text (λ text h. omega (arith, folder_short text h))
 
 extension_exact : IsExact (λ (v : List ℕ). field_bytes (field.Extension v)) (λ (v : List ℕ). is_field (field.Extension v)) extension_at
-extension_exact = tested_exact is_extension extension_short
+extension_exact = tested_exact is_extension (λ text h. omega (arith, extension_short text h))
 
 display_exact : IsExact (λ (v : List ℕ). field_bytes (field.Display v)) (λ (v : List ℕ). is_field (field.Display v)) display_at
-display_exact = tested_exact is_display display_short
+display_exact = tested_exact is_display (λ text h. omega (arith, display_short text h))
+
+object_exact : IsExact (λ (v : List ℕ). field_bytes (field.Object v)) (λ (v : List ℕ). is_field (field.Object v)) object_at
+object_exact = tested_exact is_object_text object_short
 
 -- a field that was read is of its kind, and as it is written
 record IsTaken (k : FieldKind) (bytes : List ℕ) (x : Field × List ℕ) : Type 0 where
@@ -62,8 +70,12 @@ field_takes kind.Folder bytes x e = taken kind.Folder (λ (v : List ℕ). field.
 field_takes kind.Extension bytes x e = taken kind.Extension (λ (v : List ℕ). field.Extension v) extension_at (λ v. refl) extension_exact bytes x e
 field_takes kind.Display bytes x e = taken kind.Display (λ (v : List ℕ). field.Display v) display_at (λ v. refl) display_exact bytes x e
 field_takes kind.Entity bytes x e = taken kind.Entity (λ (v : Entity). field.Entity v) entity_at (λ v. refl) entity_exact bytes x e
+field_takes kind.Object bytes x e = taken kind.Object (λ (v : List ℕ). field.Object v) object_at (λ v. refl) object_exact bytes x e
 field_takes kind.OptionalMoment bytes x e = taken kind.OptionalMoment (λ (v : Option ℕ). field.OptionalMoment v) optional_moment_at (λ v. refl) optional_exact bytes x e
 field_takes kind.SetOp bytes x e = taken kind.SetOp (λ (v : SetOp). field.SetOp v) set_op_at (λ v. refl) set_op_exact bytes x e
+field_takes kind.InheritKind bytes x e = taken kind.InheritKind (λ (v : InheritKind). field.InheritKind v) inherit_kind_at (λ v. refl) inherit_kind_exact bytes x e
+field_takes kind.Scope bytes x e = taken kind.Scope (λ (v : Scope). field.Scope v) scope_at (λ v. refl) scope_exact bytes x e
+field_takes kind.Privilege bytes x e = taken kind.Privilege (λ (v : Privilege). field.Privilege v) privilege_at (λ v. refl) privilege_exact bytes x e
 
 -- and a field is read again
 field_again : (f : Field) (rest : List ℕ) → is_field f ≡ true → field_at (field_kind f) (field_bytes f ++ rest) ≡ Some (f, rest)
@@ -72,8 +84,12 @@ field_again (field.Folder v) rest h = rw (folder_exact.again v rest h) refl
 field_again (field.Extension v) rest h = rw (extension_exact.again v rest h) refl
 field_again (field.Display v) rest h = rw (display_exact.again v rest h) refl
 field_again (field.Entity v) rest h = rw (entity_exact.again v rest h) refl
+field_again (field.Object v) rest h = rw (object_exact.again v rest h) refl
 field_again (field.OptionalMoment v) rest h = rw (optional_exact.again v rest h) refl
 field_again (field.SetOp v) rest h = rw (set_op_exact.again v rest h) refl
+field_again (field.InheritKind v) rest h = rw (inherit_kind_exact.again v rest h) refl
+field_again (field.Scope v) rest h = rw (scope_exact.again v rest h) refl
+field_again (field.Privilege v) rest h = rw (privilege_exact.again v rest h) refl
 
 -- ---- fields one behind the other
 
@@ -139,10 +155,6 @@ at_again parts c rest fits =
     rw (read, p.again) refl
 
 -- ---- with the code in front
-
-byte_takes : (bytes : List ℕ) (x : ℕ × List ℕ) → byte_at bytes ≡ Some x → bytes ≡ x.0 ∷ x.1
-byte_takes [] x e = absurd cc
-byte_takes (b ∷ rest) x e = ap (λ (y : ℕ × List ℕ). y.0 ∷ y.1) (same_Some (b, rest) x e)
 
 coded_takes : (ks : List CommandKind) (code : ℕ) (k : CommandKind) → coded ks code ≡ Some k → code ≡ (command_row k).code
 coded_takes [] code k e = absurd cc

@@ -49,7 +49,7 @@ person_takes text entity e =
     let g = cond_some (is_person text) (Person text) entity e in
     subst (Names text) g.1 (refl, g.0)
 
-entity_takes : (text : List ℕ) (entity : Entity) → entity_of text ≡ Some entity → Names text entity
+pub entity_takes : (text : List ℕ) (entity : Entity) → entity_of text ≡ Some entity → Names text entity
 unfolding entity_of
 entity_takes text entity e =
     let other = cond (starts_with nat_eq text group_front) (group_entity text) (person_entity text) in

@@ -112,7 +112,7 @@ text_exact = record {
 }
 
 -- a text that passes a test, which only short ones do
-pub tested_exact : (test : List ℕ → Bool) → ((text : List ℕ) → test text ≡ true → length text ≤ 1000) → IsExact text_bytes test (tested_at test)
+pub tested_exact : (test : List ℕ → Bool) → ((text : List ℕ) → test text ≡ true → length text ≤ 1006) → IsExact text_bytes test (tested_at test)
 unfolding tested_at
 tested_exact test short = record {
   takes = λ bytes x e.

@@ -5,6 +5,10 @@ use Rattle.std.proofs.lemmas.Bool.{and_parts, eqb-true}
 use Rattle.std.proofs.lemmas.List.{nil_from_length, length-append}
 use Rattle.std.proofs.lemmas.Option.{cond_some}
 use Rattle.reg_terms.specs.declared.command.Stamped.{Stamped}
+use Rattle.reg_terms.specs.declared.kinds.InheritKind.{InheritKind}
+use Rattle.reg_terms.specs.declared.kinds.InheritKind.TheVariants.{Folder, Group, Definition}
+use Rattle.reg_terms.specs.declared.kinds.Scope.{Scope}
+use Rattle.reg_terms.specs.declared.kinds.Scope.TheVariants.{One, Sub}
 use Rattle.reg_terms.specs.declared.kinds.SetOp.{SetOp}
 use Rattle.reg_terms.specs.declared.kinds.SetOp.TheVariants.{Intersection, Complement}
 use Rattle.reg_terms.specs.declared.field.Field.{Field}
@@ -18,6 +22,7 @@ use Rattle.reg_wire.specs.Payload.{fields_bytes, command_bytes, IsWritable, payl
 use Rattle.reg_wire.proofs.Texts.{name_short, folder_short, extension_short, display_short}
 use Rattle.reg_wire.proofs.Exact.{bind_some, moment_exact}
 use Rattle.reg_wire.proofs.Entities.{entity_short, entity_bytes, entity_exact}
+use Rattle.reg_wire.proofs.Objects.{object_short}
 use Rattle.reg_wire.proofs.Commands.{TableMakes, TableParts, command_takes, command_again}
 
 -- ---- a payload is read again
@@ -91,14 +96,27 @@ set_op_short : (kind : SetOp) → length (field_bytes (field.SetOp kind)) ≤ 10
 set_op_short Intersection = lit≤ tt
 set_op_short Complement = lit≤ tt
 
+inherit_kind_short : (kind : InheritKind) → length (field_bytes (field.InheritKind kind)) ≤ 1008
+inherit_kind_short Folder = lit≤ tt
+inherit_kind_short Group = lit≤ tt
+inherit_kind_short Definition = lit≤ tt
+
+scope_short : (scope : Scope) → length (field_bytes (field.Scope scope)) ≤ 1008
+scope_short One = lit≤ tt
+scope_short Sub = lit≤ tt
+
 field_short : (f : Field) → is_field f ≡ true → length (field_bytes f) ≤ 1008
 field_short (field.Name text) h = omega (arith, name_short text h)
 field_short (field.Folder text) h = omega (arith, folder_short text h)
 field_short (field.Extension text) h = omega (arith, extension_short text h)
 field_short (field.Display text) h = omega (arith, display_short text h)
 field_short (field.Entity entity) h = omega (arith, entity_short entity h)
+field_short (field.Object text) h = omega (arith, object_short text h)
 field_short (field.OptionalMoment moment) h = moment_short moment
 field_short (field.SetOp kind) h = set_op_short kind
+field_short (field.InheritKind kind) h = inherit_kind_short kind
+field_short (field.Scope scope) h = scope_short scope
+field_short (field.Privilege privilege) h = lit≤ tt
 
 fields_short : (fs : List Field) → list_all is_field fs ≡ true → length (flat_map field_bytes fs) ≤ 1008 * length fs
 fields_short [] h = lit≤ tt

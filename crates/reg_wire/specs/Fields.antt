@@ -3,10 +3,16 @@ use Rattle.std.specs.Prelude.{ℕ, List, [], ◌∷◌, ◌++◌, length, codes,
 use Rattle.std.specs.Int.{w16, w64, to_le_bytes}
 use Rattle.reg_base.specs.declared.entity.Entity.{Entity}
 use Rattle.reg_base.specs.declared.entity.Entity.TheVariants as entity
+use Rattle.reg_base.specs.declared.privilege.Privilege.{Privilege}
+use Rattle.reg_terms.specs.declared.kinds.InheritKind.{InheritKind}
+use Rattle.reg_terms.specs.declared.kinds.InheritKind.TheVariants.{Folder, Group, Definition}
+use Rattle.reg_terms.specs.declared.kinds.Scope.{Scope}
+use Rattle.reg_terms.specs.declared.kinds.Scope.TheVariants.{One, Sub}
 use Rattle.reg_terms.specs.declared.kinds.SetOp.{SetOp}
 use Rattle.reg_terms.specs.declared.kinds.SetOp.TheVariants.{Intersection, Complement}
 use Rattle.reg_terms.specs.declared.field.Field.{Field}
 use Rattle.reg_terms.specs.declared.field.Field.TheVariants as field
+use Rattle.reg_terms.specs.Privileges.{code}
 
 -- the text that names an entity
 abbrev pub entity_text : Entity → List ℕ
@@ -33,6 +39,21 @@ abbrev pub set_op_bytes : SetOp → List ℕ
 set_op_bytes Intersection = 1 ∷ []
 set_op_bytes Complement = 2 ∷ []
 
+-- 1 for folders, 2 for groups, 3 for definitions
+abbrev pub inherit_kind_bytes : InheritKind → List ℕ
+inherit_kind_bytes Folder = 1 ∷ []
+inherit_kind_bytes Group = 2 ∷ []
+inherit_kind_bytes Definition = 3 ∷ []
+
+-- 1 for what is directly in a folder, 2 for what is at any depth below it
+abbrev pub scope_bytes : Scope → List ℕ
+scope_bytes One = 1 ∷ []
+scope_bytes Sub = 2 ∷ []
+
+-- the privilege's code
+abbrev pub privilege_bytes : Privilege → List ℕ
+privilege_bytes privilege = code privilege ∷ []
+
 -- the bytes of a field
 abbrev pub field_bytes : Field → List ℕ
 field_bytes (field.Name text) = text_bytes text
@@ -40,5 +61,9 @@ field_bytes (field.Folder text) = text_bytes text
 field_bytes (field.Extension text) = text_bytes text
 field_bytes (field.Display text) = text_bytes text
 field_bytes (field.Entity entity) = text_bytes (entity_text entity)
+field_bytes (field.Object text) = text_bytes text
 field_bytes (field.OptionalMoment moment) = optional_moment_bytes moment
 field_bytes (field.SetOp kind) = set_op_bytes kind
+field_bytes (field.InheritKind kind) = inherit_kind_bytes kind
+field_bytes (field.Scope scope) = scope_bytes scope
+field_bytes (field.Privilege privilege) = privilege_bytes privilege

@@ -5,6 +5,11 @@ use Rattle.std.specs.Int.{Width, w16, w64, byte_len, from_le_bytes}
 use Rattle.reg_base.specs.Names.{is_extension, is_name}
 use Rattle.reg_base.specs.Entities.{entity_of}
 use Rattle.reg_base.specs.declared.entity.Entity.{Entity}
+use Rattle.reg_base.specs.declared.privilege.Privilege.{Privilege}
+use Rattle.reg_terms.specs.declared.kinds.InheritKind.{InheritKind}
+use Rattle.reg_terms.specs.declared.kinds.InheritKind.TheVariants.{Folder, Group, Definition}
+use Rattle.reg_terms.specs.declared.kinds.Scope.{Scope}
+use Rattle.reg_terms.specs.declared.kinds.Scope.TheVariants.{One, Sub}
 use Rattle.reg_terms.specs.declared.kinds.SetOp.{SetOp}
 use Rattle.reg_terms.specs.declared.kinds.SetOp.TheVariants.{Intersection, Complement}
 use Rattle.reg_terms.specs.declared.command.Command.{Command}
@@ -13,8 +18,9 @@ use Rattle.reg_terms.specs.declared.field.FieldKind.{FieldKind}
 use Rattle.reg_terms.specs.declared.field.FieldKind.TheVariants as kind
 use Rattle.reg_terms.specs.declared.field.Field.{Field}
 use Rattle.reg_terms.specs.declared.field.Field.TheVariants as field
-use Rattle.reg_terms.specs.Forms.{is_folder_text, is_display, is_moment}
+use Rattle.reg_terms.specs.Forms.{is_folder_text, is_display, is_object_text, is_moment}
 use Rattle.reg_terms.specs.Parts.{◌>>=◌}
+use Rattle.reg_terms.specs.Privileges.{privilege_coded}
 use Rattle.reg_terms.specs.Table.{command_row, field_kinds, commands, coded, made_command}
 
 -- a byte is a number below 256
@@ -60,6 +66,10 @@ extension_at bytes = tested_at is_extension bytes
 abbrev pub display_at : List ℕ → Option (List ℕ × List ℕ)
 display_at bytes = tested_at is_display bytes
 
+-- an object's text
+abbrev pub object_at : List ℕ → Option (List ℕ × List ℕ)
+object_at bytes = tested_at is_object_text bytes
+
 -- an entity, by its text
 unfoldable pub entity_at : List ℕ → Option (Entity × List ℕ)
 entity_at bytes = do
@@ -90,6 +100,30 @@ set_op_at (suc zero ∷ rest) = Some (Intersection, rest)
 set_op_at (suc (suc zero) ∷ rest) = Some (Complement, rest)
 set_op_at (suc (suc (suc b)) ∷ rest) = None
 
+-- the kind of objects that an inherit is for: 1 for folders, 2 for groups, 3 for definitions
+unfoldable pub inherit_kind_at : List ℕ → Option (InheritKind × List ℕ)
+inherit_kind_at [] = None
+inherit_kind_at (zero ∷ rest) = None
+inherit_kind_at (suc zero ∷ rest) = Some (Folder, rest)
+inherit_kind_at (suc (suc zero) ∷ rest) = Some (Group, rest)
+inherit_kind_at (suc (suc (suc zero)) ∷ rest) = Some (Definition, rest)
+inherit_kind_at (suc (suc (suc (suc b))) ∷ rest) = None
+
+-- how far an inherit reaches: 1 for what is directly in a folder, 2 for what is at any depth below it
+unfoldable pub scope_at : List ℕ → Option (Scope × List ℕ)
+scope_at [] = None
+scope_at (zero ∷ rest) = None
+scope_at (suc zero ∷ rest) = Some (One, rest)
+scope_at (suc (suc zero) ∷ rest) = Some (Sub, rest)
+scope_at (suc (suc (suc b)) ∷ rest) = None
+
+-- a privilege, by its code
+unfoldable pub privilege_at : List ℕ → Option (Privilege × List ℕ)
+privilege_at bytes = do
+  code ← byte_at bytes
+  privilege ← privilege_coded code.0
+  Some (privilege, code.1)
+
 -- ---- by the kinds of fields
 
 -- a value that was read, as a field
@@ -105,8 +139,12 @@ field_at kind.Folder bytes = stands (λ v. field.Folder v) (folder_at bytes)
 field_at kind.Extension bytes = stands (λ v. field.Extension v) (extension_at bytes)
 field_at kind.Display bytes = stands (λ v. field.Display v) (display_at bytes)
 field_at kind.Entity bytes = stands (λ v. field.Entity v) (entity_at bytes)
+field_at kind.Object bytes = stands (λ v. field.Object v) (object_at bytes)
 field_at kind.OptionalMoment bytes = stands (λ v. field.OptionalMoment v) (optional_moment_at bytes)
 field_at kind.SetOp bytes = stands (λ v. field.SetOp v) (set_op_at bytes)
+field_at kind.InheritKind bytes = stands (λ v. field.InheritKind v) (inherit_kind_at bytes)
+field_at kind.Scope bytes = stands (λ v. field.Scope v) (scope_at bytes)
+field_at kind.Privilege bytes = stands (λ v. field.Privilege v) (privilege_at bytes)
 
 -- fields of so many kinds
 abbrev pub fields_at : List FieldKind → List ℕ → Option (List Field × List ℕ)

@@ -4,12 +4,15 @@ ghost use Rattle.std.specs.List.{flat_map, list_all};
 ghost use Rattle.reg_terms.specs.Forms.{is_entity, is_field, has_form};
 ghost use Rattle.reg_terms.specs.Parts.{seen, seen_all};
 ghost use Rattle.reg_terms.specs.Table.{code_of};
-ghost use Rattle.reg_wire.specs.Fields.{entity_text, field_bytes, text_bytes, moment_bytes, optional_moment_bytes, set_op_bytes};
+ghost use Rattle.reg_wire.specs.Fields.{entity_text, field_bytes, text_bytes, moment_bytes, optional_moment_bytes, set_op_bytes, inherit_kind_bytes, scope_bytes, privilege_bytes};
 ghost use Rattle.reg_wire.specs.Payload.{fields_bytes, command_bytes, payload, IsWritable};
 
-use crate::fields::{COMPLEMENT, INTERSECTION};
-use reg_base::{Entity, Moment, Name};
-use reg_terms::{Command, FieldRef, SetOp, Stamped, command_row, fields_of, kind_of, law_commands};
+use crate::fields::{COMPLEMENT, DEFINITION, FOLDER, GROUP, INTERSECTION, ONE, SUB};
+use reg_base::{Entity, Moment, Name, Privilege};
+use reg_terms::{
+    Command, FieldRef, InheritKind, Scope, SetOp, Stamped, command_row, fields_of, kind_of,
+    law_commands, privilege_code,
+};
 use std::alloc::{AllocError, Global};
 
 fn put_text(out: &mut Vec<u8>, text: &[u8]) -> Result<(), AllocError>
@@ -74,7 +77,35 @@ fn put_set_op(out: &mut Vec<u8>, kind: SetOp) -> Result<(), AllocError>
     Ok(())
 }
 
-#[tactic(auto, using(crate::proofs::Texts::name_short, crate::proofs::Texts::folder_short, crate::proofs::Texts::extension_short, crate::proofs::Texts::display_short))]
+fn put_inherit_kind(out: &mut Vec<u8>, kind: InheritKind) -> Result<(), AllocError>
+    ensures { OnOk result (out.new.items ≡ out.old.items ++ inherit_kind_bytes kind) }
+{
+    out.push(match kind {
+        InheritKind::Folder => FOLDER,
+        InheritKind::Group => GROUP,
+        InheritKind::Definition => DEFINITION,
+    })?;
+    Ok(())
+}
+
+fn put_scope(out: &mut Vec<u8>, scope: Scope) -> Result<(), AllocError>
+    ensures { OnOk result (out.new.items ≡ out.old.items ++ scope_bytes scope) }
+{
+    out.push(match scope {
+        Scope::One => ONE,
+        Scope::Sub => SUB,
+    })?;
+    Ok(())
+}
+
+fn put_privilege(out: &mut Vec<u8>, privilege: Privilege) -> Result<(), AllocError>
+    ensures { OnOk result (out.new.items ≡ out.old.items ++ privilege_bytes privilege) }
+{
+    out.push(privilege_code(privilege))?;
+    Ok(())
+}
+
+#[tactic(auto, using(crate::proofs::Texts::name_short, crate::proofs::Texts::folder_short, crate::proofs::Texts::extension_short, crate::proofs::Texts::display_short, crate::proofs::Objects::object_short))]
 fn put_field(out: &mut Vec<u8>, field: &FieldRef<'_>) -> Result<(), AllocError>
     requires { list_all is_field (seen field.now) ≡ true }
     ensures { OnOk result (out.new.items ≡ out.old.items ++ flat_map field_bytes (seen field.now)) }
@@ -87,8 +118,12 @@ fn put_field(out: &mut Vec<u8>, field: &FieldRef<'_>) -> Result<(), AllocError>
             text.bytes(),
         ),
         FieldRef::Entity(entity) => put_entity(out, entity),
+        FieldRef::Object(text) => put_text(out, text.bytes()),
         FieldRef::OptionalMoment(moment) => put_optional_moment(out, *moment),
         FieldRef::SetOp(kind) => put_set_op(out, *kind),
+        FieldRef::InheritKind(kind) => put_inherit_kind(out, *kind),
+        FieldRef::Scope(scope) => put_scope(out, *scope),
+        FieldRef::Privilege(privilege) => put_privilege(out, *privilege),
     }
 }
 

@@ -2,11 +2,13 @@
 ghost use Rattle.std.specs.Prelude.{◌≡◌};
 ghost use Rattle.std.specs.Int.{w16, w64};
 ghost use Rattle.reg_wire.specs.Steps.{Gives};
-ghost use Rattle.reg_wire.specs.Reading.{byte_at, number_at, text_at, name_at, folder_at, extension_at, display_at, entity_at, moment_at, optional_moment_at, set_op_at};
+ghost use Rattle.reg_wire.specs.Reading.{byte_at, number_at, text_at, name_at, folder_at, extension_at, display_at, entity_at, moment_at, object_at, optional_moment_at, set_op_at, inherit_kind_at, scope_at, privilege_at};
 
 use crate::fault::ReadFault;
-use reg_base::{Entity, Moment, Name, Text, is_extension};
-use reg_terms::{MAX_DISPLAY, SetOp, is_folder_text};
+use reg_base::{Entity, Moment, Name, Privilege, Text, is_extension};
+use reg_terms::{
+    InheritKind, MAX_DISPLAY, Scope, SetOp, is_folder_text, is_object_text, privilege_coded,
+};
 use std::alloc::Global;
 
 // how composites are made, one byte each
@@ -14,6 +16,20 @@ use std::alloc::Global;
 pub const INTERSECTION: u8 = 1;
 
 pub const COMPLEMENT: u8 = 2;
+
+// the kinds of objects that inherits are for, one byte each
+
+pub const FOLDER: u8 = 1;
+
+pub const GROUP: u8 = 2;
+
+pub const DEFINITION: u8 = 3;
+
+// how far inherits reach, one byte each
+
+pub const ONE: u8 = 1;
+
+pub const SUB: u8 = 2;
 
 /// One byte.
 pub fn byte_at(bytes: &[u8]) -> Result<(u8, &[u8]), ReadFault>
@@ -122,6 +138,22 @@ pub fn display_at(alloc: Global, bytes: &[u8]) -> Result<(Text, &[u8]), ReadFaul
     }
 }
 
+/// The text of an object.
+#[tactic(auto, using(crate::proofs::Objects::object_utf8), unfolding(crate::specs::Reading::tested_at))]
+pub fn object_at(alloc: Global, bytes: &[u8]) -> Result<(Text, &[u8]), ReadFault>
+    ensures { Gives (λ x. (x.0, x.1.now)) result (object_at bytes.now) }
+{
+    let (text, rest) = text_at(bytes)?;
+    if !is_object_text(text) {
+        return Err(ReadFault::Malformed);
+    }
+    match Text::of(alloc, text)? {
+        Some(object) => Ok((object, rest)),
+        // no object comes here, since its bytes are ASCII
+        None => Err(ReadFault::Malformed),
+    }
+}
+
 /// An entity, by its text.
 #[tactic(auto, unfolding(crate::specs::Reading::entity_at))]
 pub fn entity_at(alloc: Global, bytes: &[u8]) -> Result<(Entity, &[u8]), ReadFault>
@@ -171,5 +203,42 @@ pub fn set_op_at(bytes: &[u8]) -> Result<(SetOp, &[u8]), ReadFault>
         [INTERSECTION, rest @ ..] => Ok((SetOp::Intersection, rest)),
         [COMPLEMENT, rest @ ..] => Ok((SetOp::Complement, rest)),
         _ => Err(ReadFault::Malformed),
+    }
+}
+
+/// The kind of objects that an inherit is for.
+#[tactic(auto, unfolding(crate::specs::Reading::inherit_kind_at))]
+pub fn inherit_kind_at(bytes: &[u8]) -> Result<(InheritKind, &[u8]), ReadFault>
+    ensures { Gives (λ x. (x.0, x.1.now)) result (inherit_kind_at bytes.now) }
+{
+    match bytes {
+        [FOLDER, rest @ ..] => Ok((InheritKind::Folder, rest)),
+        [GROUP, rest @ ..] => Ok((InheritKind::Group, rest)),
+        [DEFINITION, rest @ ..] => Ok((InheritKind::Definition, rest)),
+        _ => Err(ReadFault::Malformed),
+    }
+}
+
+/// How far an inherit reaches.
+#[tactic(auto, unfolding(crate::specs::Reading::scope_at))]
+pub fn scope_at(bytes: &[u8]) -> Result<(Scope, &[u8]), ReadFault>
+    ensures { Gives (λ x. (x.0, x.1.now)) result (scope_at bytes.now) }
+{
+    match bytes {
+        [ONE, rest @ ..] => Ok((Scope::One, rest)),
+        [SUB, rest @ ..] => Ok((Scope::Sub, rest)),
+        _ => Err(ReadFault::Malformed),
+    }
+}
+
+/// A privilege, by its code.
+#[tactic(auto, unfolding(crate::specs::Reading::privilege_at))]
+pub fn privilege_at(bytes: &[u8]) -> Result<(Privilege, &[u8]), ReadFault>
+    ensures { Gives (λ x. (x.0, x.1.now)) result (privilege_at bytes.now) }
+{
+    let (code, rest) = byte_at(bytes)?;
+    match privilege_coded(code) {
+        Some(privilege) => Ok((privilege, rest)),
+        None => Err(ReadFault::Malformed),
     }
 }

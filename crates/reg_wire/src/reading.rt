@@ -5,7 +5,8 @@ ghost use Rattle.reg_wire.specs.Reading.{field_at, fields_at, command_at, comman
 
 use crate::fault::ReadFault;
 use crate::fields::{
-    byte_at, display_at, entity_at, extension_at, folder_at, name_at, optional_moment_at, set_op_at,
+    byte_at, display_at, entity_at, extension_at, folder_at, inherit_kind_at, name_at, object_at,
+    optional_moment_at, privilege_at, scope_at, set_op_at,
 };
 use reg_terms::{Command, CommandKind, Field, FieldKind, command_coded, command_row, made_command};
 use std::alloc::Global;
@@ -35,6 +36,10 @@ fn field_at(alloc: Global, kind: FieldKind, bytes: &[u8]) -> Result<(Field, &[u8
             let (entity, rest) = entity_at(alloc, bytes)?;
             Ok((Field::Entity(entity), rest))
         }
+        FieldKind::Object => {
+            let (object, rest) = object_at(alloc, bytes)?;
+            Ok((Field::Object(object), rest))
+        }
         FieldKind::OptionalMoment => match optional_moment_at(bytes) {
             Ok((moment, rest)) => Ok((Field::OptionalMoment(moment), rest)),
             Err(fault) => Err(fault),
@@ -42,6 +47,18 @@ fn field_at(alloc: Global, kind: FieldKind, bytes: &[u8]) -> Result<(Field, &[u8
         FieldKind::SetOp => {
             let (kind, rest) = set_op_at(bytes)?;
             Ok((Field::SetOp(kind), rest))
+        }
+        FieldKind::InheritKind => {
+            let (kind, rest) = inherit_kind_at(bytes)?;
+            Ok((Field::InheritKind(kind), rest))
+        }
+        FieldKind::Scope => {
+            let (scope, rest) = scope_at(bytes)?;
+            Ok((Field::Scope(scope), rest))
+        }
+        FieldKind::Privilege => {
+            let (privilege, rest) = privilege_at(bytes)?;
+            Ok((Field::Privilege(privilege), rest))
         }
     }
 }
