@@ -21,7 +21,7 @@ use Rattle.reg_terms.specs.declared.kinds.Object.TheVariants.{Folder, Group, Def
 use Rattle.reg_terms.specs.declared.rows.FolderRow.{FolderRow}
 use Rattle.reg_table.specs.Keyed.{put_into}
 use Rattle.reg_facts.specs.declared.child_names.ChildNames.{ChildNames}
-use Rattle.reg_facts.specs.Children.{by_bytes, child_names, extensions_in, no_names, with_name, with_names}
+use Rattle.reg_facts.specs.Children.{by_bytes, is_among, child_names, extensions_in, no_names, with_name, with_names}
 use Rattle.reg_facts.specs.Lists.{Lists}
 use Rattle.reg_facts.specs.Naming.{Placed, placed, placed_folders, placed_group, placed_definition, placed_attribute, found_in, name_in}
 use Rattle.reg_facts.specs.Sound.{AreApart}
@@ -112,6 +112,17 @@ into_sorted found (x ∷ xs) up = into_sorted (insert_key text_cmp found x) xs (
 none_sorted : IsStrictlySortedBy text_cmp []
 unfolding IsStrictlySortedBy
 none_sorted = tt
+
+-- texts put in order are sorted, and the same texts
+pub by_bytes_sorted : (texts : List (List ℕ)) → IsStrictlySortedBy text_cmp (by_bytes texts)
+by_bytes_sorted texts = into_sorted [] texts none_sorted
+
+among_has : (k : List ℕ) (xs : List (List ℕ)) → is_among k xs ≡ has k xs
+among_has k [] = refl
+among_has k (x ∷ xs) = rw (text_there k x, among_has k xs) refl
+
+pub by_bytes_same : (text : List ℕ) (texts : List (List ℕ)) → is_among text (by_bytes texts) ≡ is_among text texts
+by_bytes_same text texts = among_has text (by_bytes texts) ∙ into_has text [] texts ∙ sym (among_has text texts)
 
 -- texts in order are told by which they are
 texts_are : (xs ys : List (List ℕ)) → IsStrictlySortedBy text_cmp xs → ((k : List ℕ) → has k xs ≡ has k ys) → xs ≡ by_bytes ys

@@ -1,5 +1,7 @@
 -- The names of what stands directly in a folder, kind by kind.
-use Rattle.std.specs.Prelude.{ℕ, ◌==◌, List, [], ◌∷◌, ◌++◌, map, if◌then◌else◌}
+use Rattle.std.specs.Prelude.{ℕ, ◌==◌, List, [], ◌∷◌, ◌++◌, Bool, map, if◌then◌else◌}
+use Rattle.std.specs.List.{list_any}
+use Rattle.std.specs.Str.{bytes_eq}
 use Rattle.std.specs.Cmp.Lexicographic.{slice_cmp}
 use Rattle.std.specs.Ordering.{nat_cmp}
 use Rattle.reg_table.specs.Keyed.{in_order}
@@ -17,6 +19,10 @@ extensions_in d (p ∷ ps) = if p.folder == d then p.extension ∷ extensions_in
 -- texts in the order of their bytes, each once
 abbrev pub by_bytes : List (List ℕ) → List (List ℕ)
 by_bytes texts = in_order (slice_cmp nat_cmp) texts
+
+-- a text is among some
+abbrev pub is_among : List ℕ → List (List ℕ) → Bool
+is_among text texts = list_any (λ t. bytes_eq t text) texts
 
 -- the names of those that stand directly in the folder of this name, in the order of their bytes
 abbrev pub names_in : ℕ → List ℕ → List Placed → List (List ℕ)

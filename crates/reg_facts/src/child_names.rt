@@ -1,7 +1,10 @@
 // The names of what stands directly in a folder.
-ghost use Rattle.std.specs.Prelude.{◌≡◌, IfOk, OnOk, string_bytes, string_cmp};
+ghost use Rattle.std.specs.Prelude.{◌≡◌, ℕ, List, IfOk, OnOk, string_bytes, string_cmp};
+ghost use Rattle.std.specs.List.Sorted.{IsStrictlySortedBy};
+ghost use Rattle.std.specs.Cmp.Lexicographic.{slice_cmp};
+ghost use Rattle.std.specs.Ordering.{nat_cmp};
 ghost use Rattle.std.specs.BTreeMap.{IsOrdered};
-ghost use Rattle.reg_facts.specs.Children.{child_names, no_names, with_name, with_names};
+ghost use Rattle.reg_facts.specs.Children.{by_bytes, is_among, child_names, no_names, with_name, with_names};
 
 use crate::{Facts, Object, Texts, name_in};
 use reg_base::{FolderId, Text};
@@ -78,3 +81,10 @@ impl Facts {
         }
     }
 }
+
+/// What it means that the names of a folder are in order: they ascend by their bytes, each once, and
+/// are the same texts.
+pub fn law_by_bytes()
+    ensures sorted { (texts : List (List ℕ)) → IsStrictlySortedBy (slice_cmp nat_cmp) (by_bytes texts) }
+    ensures same { (text : List ℕ) (texts : List (List ℕ)) → is_among text (by_bytes texts) ≡ is_among text texts }
+{}

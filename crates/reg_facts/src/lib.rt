@@ -21,7 +21,7 @@ mod taking;
 mod text_index;
 
 pub use by_id::Place;
-pub use child_names::ChildNames;
+pub use child_names::{ChildNames, law_by_bytes};
 pub use children::Children;
 pub use facts::Facts;
 pub use naming::{extension_of, home_of, name_in, name_length};

@@ -17,10 +17,9 @@ use Rattle.reg_terms.specs.declared.rows.GroupRow.{GroupRow}
 use Rattle.reg_terms.specs.declared.rows.DefinitionRow.{DefinitionRow}
 use Rattle.reg_terms.specs.declared.rows.AttributeRow.{AttributeRow}
 use Rattle.reg_facts.specs.declared.child_names.ChildNames.{ChildNames}
-use Rattle.reg_facts.specs.Children.{child_names, extensions_in, names_in}
+use Rattle.reg_facts.specs.Children.{by_bytes, child_names, extensions_in, names_in}
 use Rattle.reg_facts.specs.Lists.{Lists}
 use Rattle.reg_facts.specs.Naming.{Placed, placed_folders, placed_group, placed_definition, placed_attribute, name_in}
-use Rattle.reg_view.specs.Ordered.{ordered, ordered_into}
 use Rattle.reg_view.specs.Answers.{attribute_names, definition_names, folder_names, group_names, listing}
 
 abbrev text_cmp : List ℕ → List ℕ → Ordering
@@ -52,9 +51,9 @@ name_put home (y ∷ xs) x = rw (names_order home x y) (by_order (text_cmp x y) 
     by_order Equal rest = refl
     by_order Greater rest = ap (λ more. name_in home y ∷ more) rest
 
-names_into : (home : List ℕ) (found xs : List (List ℕ)) → map (name_in home) (put_into text_cmp found xs) ≡ ordered_into (map (name_in home) found) (map (name_in home) xs)
+names_into : (home : List ℕ) (found xs : List (List ℕ)) → map (name_in home) (put_into text_cmp found xs) ≡ put_into text_cmp (map (name_in home) found) (map (name_in home) xs)
 names_into home found [] = refl
-names_into home found (x ∷ xs) = names_into home (insert_key text_cmp found x) xs ∙ ap (λ texts. ordered_into texts (map (name_in home) xs)) (name_put home found x)
+names_into home found (x ∷ xs) = names_into home (insert_key text_cmp found x) xs ∙ ap (λ texts. put_into text_cmp texts (map (name_in home) xs)) (name_put home found x)
 
 -- the names of each kind
 group_extensions : (d : ℕ) (home : List ℕ) (rows : List GroupRow) → map (name_in home) (extensions_in d (map placed_group rows)) ≡ group_names d home rows
@@ -88,8 +87,8 @@ folder_extensions d home (row ∷ rows) = elim row.parent as (λ parent. row.par
   ]
 ] refl
 
-in_order : (d : ℕ) (home : List ℕ) (ps : List Placed) (names : List (List ℕ)) → map (name_in home) (extensions_in d ps) ≡ names → names_in d home ps ≡ ordered names
-in_order d home ps names is = names_into home [] (extensions_in d ps) ∙ ap ordered is
+in_order : (d : ℕ) (home : List ℕ) (ps : List Placed) (names : List (List ℕ)) → map (name_in home) (extensions_in d ps) ≡ names → names_in d home ps ≡ by_bytes names
+in_order d home ps names is = names_into home [] (extensions_in d ps) ∙ ap by_bytes is
 
 -- what the facts tell of a folder is its listing
 pub listed : (d : ℕ) (home : List ℕ) (f : Lists) (names : ChildNames) → names ≡ child_names d home f → answer.FolderList names.attributes names.definitions names.folders names.groups ≡ listing d home f

@@ -1,6 +1,7 @@
 -- What a query is answered over the facts and a moment.
 use Rattle.std.specs.Prelude.{ℕ, ◌==◌, ◌++◌, List, [], ◌∷◌, Option, None, Some, Result, Ok, Err, map, option_map, codes, if◌then◌else◌}
 use Rattle.std.specs.List.{find}
+use Rattle.reg_facts.specs.Children.{by_bytes}
 use Rattle.reg_facts.specs.Climbing.{is_parent}
 use Rattle.reg_facts.specs.Lists.{Lists}
 use Rattle.reg_facts.specs.Members.{subject_row, texts_where}
@@ -26,7 +27,6 @@ use Rattle.reg_terms.specs.declared.query.Answer.{Answer}
 use Rattle.reg_terms.specs.declared.query.Answer.TheVariants as answer
 use Rattle.reg_terms.specs.declared.shown.FactorsShown.{FactorsShown}
 use Rattle.reg_terms.specs.declared.shown.RowShown.{RowShown}
-use Rattle.reg_view.specs.Ordered.{ordered}
 
 -- the display text of the group of this id
 abbrev pub display_of : ℕ → List GroupRow → List ℕ
@@ -88,10 +88,10 @@ attribute_names d home (row ∷ rows) = if row.folder == d then name_in home row
 -- what stands directly in a folder, kind by kind, in the order of their bytes
 abbrev pub listing : ℕ → List ℕ → Lists → Answer
 listing d home f = answer.FolderList
-    (ordered (attribute_names d home f.attributes))
-    (ordered (definition_names d home f.definitions))
-    (ordered (folder_names d home f.folders))
-    (ordered (group_names d home f.groups))
+    (by_bytes (attribute_names d home f.attributes))
+    (by_bytes (definition_names d home f.definitions))
+    (by_bytes (folder_names d home f.folders))
+    (by_bytes (group_names d home f.groups))
 
 -- what stands directly in the folder of this name
 abbrev pub listing_of : List ℕ → Lists → Result Answer Refusal
