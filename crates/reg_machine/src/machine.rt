@@ -18,8 +18,9 @@ ghost use Rattle.reg_machine.specs.Live.{live};
 ghost use Rattle.reg_machine.specs.Steps.{events_steps};
 
 use crate::current::Current;
+use crate::heap::{carried, dated, started};
 use reg_base::{Entity, GroupId, Moment, Steps};
-use reg_effect::{Kept, Turned};
+use reg_effect::Kept;
 use reg_facts::{Command, Event, Facts, Refusal, Stamped};
 use reg_names::Names;
 use std::alloc::{AllocError, AllocFailed, Global};
@@ -64,7 +65,7 @@ fn push_stamped(
 #[derive(Drop)]
 pub struct Machine<K: Kept> {
     stamped: Vec<Stamped>,
-    current: Current<K>,
+    current: Box<Current<K>>,
 }
 
 impl<K: Kept> Model for Machine<K> {
@@ -73,9 +74,9 @@ impl<K: Kept> Model for Machine<K> {
 
     ghost Value = { State };
 
-    ghost view = { λ m. record { history = m.stamped.items; clock = m.current.clock } };
+    ghost view = { λ m. record { history = m.stamped.items; clock = m.current.value.clock } };
 
-    ghost invariant = { λ m. IsInStep m.stamped.items m.current };
+    ghost invariant = { λ m. IsInStep m.stamped.items m.current.value };
 }
 
 impl<K: Kept> Machine<K> {
@@ -86,7 +87,7 @@ impl<K: Kept> Machine<K> {
     pub fn start(alloc: Global) -> Result<Machine<K>, Spent>
         ensures { IfOk result (λ m. m ≡ start) }
     {
-        let current = Current::start(alloc)?;
+        let current = started(alloc)?;
         Ok(Machine {
             stamped: Vec::new(alloc),
             current,
@@ -189,8 +190,7 @@ impl<K: Kept> Machine<K> {
         ensures cost { OnOk result ((u : ℕ) → due self.clock u (facts self.history self.clock).rows ≡ Some date → steps.new + pass_steps date u (facts self.history date) ≤ steps.old + pass_steps self.clock u (facts self.history self.clock)) }
     {
         let Machine { stamped, current } = self;
-        let mut turned = Turned::new(alloc);
-        let current = current.pass_date(alloc, date, &mut turned, steps)?;
+        let current = dated(alloc, current, date, steps)?;
         Ok(Machine { stamped, current })
     }
 
@@ -303,8 +303,7 @@ impl<K: Kept> Machine<K> {
         let events = self.events_of(alloc, by, &command)?;
         let Machine { stamped, current } = self;
         let stamped = push_stamped(alloc, stamped, current.clock(), by, command)?;
-        let mut turned = Turned::new(alloc);
-        let current = current.carry_all(alloc, events, &mut turned, steps)?;
+        let current = carried(alloc, current, events, steps)?;
         Ok(Machine { stamped, current })
     }
 }
