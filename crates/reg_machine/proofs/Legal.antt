@@ -1,5 +1,5 @@
 -- A legal history stays legal with a command more that isn't refused.
-use Rattle.std.proofs.Common.{◌≡◌, ◌∙◌, List, [], ◌∷◌, ◌++◌, None, ℕ, ap, inl, inr, refl, sym}
+use Rattle.std.proofs.Common.{◌≡◌, ◌∙◌, List, [], ◌∷◌, ◌++◌, None, ap, inl, inr, refl, sym}
 use Rattle.std.specs.Prelude.{◌⊎◌}
 use Rattle.std.specs.List.{AllByRecursion}
 use Rattle.reg_terms.specs.declared.command.Stamped.{Stamped}

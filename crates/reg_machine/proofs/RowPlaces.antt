@@ -9,7 +9,7 @@ use Rattle.std.specs.declared.cmp.Ordering.{Ordering}
 use Rattle.std.specs.declared.cmp.Ordering.TheVariants.{Less, Equal, Greater}
 use Rattle.reg_terms.specs.declared.kinds.Member.{Member}
 use Rattle.reg_terms.specs.declared.kinds.Member.TheVariants.{Person, Group}
-use Rattle.reg_facts.specs.RowOrder.{member_cmp, place_of, place_cmp}
+use Rattle.reg_facts.specs.RowOrder.{place_of, place_cmp}
 use Rattle.reg_effect.specs.Order.{row_cmp, is_live_row}
 use Rattle.reg_machine.specs.RowPlaces.{row_at}
 
