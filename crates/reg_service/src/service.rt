@@ -1,4 +1,5 @@
-// One request after another, over a keeper.
+// One request after another, over a keeper. A command is dropped by a call of `drop`, as in
+// `opening`: else each exit takes it apart by its kinds.
 ghost use Rattle.std.specs.Prelude.{◌≡◌, ℕ, List, Result, true, false, Ok, Err, None, IfOk, IfErr, IfSome};
 ghost use Rattle.reg_machine.specs.History.{start, refusal};
 ghost use Rattle.reg_keep.specs.Frames.{payloads_of_records};
@@ -108,6 +109,7 @@ fn keep<K: Keeper>(
 {
     let mut keeper = keeper;
     let Ok(payload) = encode(alloc, &stamped) else {
+        drop(stamped);
         return (Reply::NoMemory, Next::Go(Service { machine, keeper }));
     };
     payload_reads_back();
@@ -145,11 +147,17 @@ fn carried_out<K: Keeper>(
 {
     let at = machine.clock();
     match machine.decide(alloc, &by, &command) {
-        Err(AllocError) => (Reply::NoMemory, Next::Go(Service { machine, keeper })),
-        Ok(Some(refusal)) => (
-            Reply::Refused(refusal),
-            Next::Go(Service { machine, keeper }),
-        ),
+        Err(AllocError) => {
+            drop(command);
+            (Reply::NoMemory, Next::Go(Service { machine, keeper }))
+        }
+        Ok(Some(refusal)) => {
+            drop(command);
+            (
+                Reply::Refused(refusal),
+                Next::Go(Service { machine, keeper }),
+            )
+        }
         Ok(None) => keep(alloc, machine, keeper, Stamped { at, by, command }),
     }
 }
@@ -225,6 +233,7 @@ impl<K: Keeper> Service<K> {
         let Service { machine, keeper } = self;
         let now = machine.clock().later_of(at);
         let Ok(machine) = advance(alloc, machine, now) else {
+            drop(request);
             return (Reply::NoMemory, Next::Stop(Cause::Memory, keeper));
         };
         let Request { by, op } = request;
@@ -249,7 +258,10 @@ impl<K: Keeper> Service<K> {
                 Reply::Refused(refusal),
                 Next::Go(Service { machine, keeper }),
             ),
-            Err(_) => (Reply::NoMemory, Next::Stop(Cause::Memory, keeper)),
+            Err(_) => {
+                drop(refusal);
+                (Reply::NoMemory, Next::Stop(Cause::Memory, keeper))
+            }
         }
     }
 }
