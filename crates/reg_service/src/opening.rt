@@ -1,5 +1,5 @@
 // The machine of a journal's records. A command is dropped by a call of `drop`: dropped in place,
-// it is taken apart by its kinds at each exit, and such a function takes ten times as long to prove.
+// it is taken apart by its kinds at each exit, and its proof is then ten times as large.
 ghost use Rattle.std.specs.Prelude.{◌≡◌, ◌≤◌, is_some, true, ℕ, Ok, Err, Some, None, IfOk, IfErr, IsErrOf};
 ghost use Rattle.reg_machine.specs.History.{start, refusal, appended};
 ghost use Rattle.reg_keep.specs.declared.open.OpenFault.TheVariants.{Damaged};

@@ -74,20 +74,21 @@ fn asked<K: Keeper>(
     alloc: Global,
     machine: Machine<Incremental>,
     keeper: K,
-    by: &Entity,
-    query: &Query,
+    by: Entity,
+    query: Query,
 ) -> (Reply, Next<K>)
     requires { IsServed machine (K.payloads keeper) (K.has_failed keeper) }
-    ensures turn { Carries machine (requested machine by.now (Op.Query query.now)) result }
+    ensures turn { Carries machine (requested machine by (Op.Query query)) result }
     ensures kept { (expected : List Stamped) → KeepsNext ⟦<K as Keeper>⟧ machine.history expected keeper result.1 }
     ensures same { LeavesKeeper keeper result.1 }
     ensures unnumbered { (n : ℕ) → result.0 ≡ Reply.Number n → ⊥ }
 {
-    let reply = match ask(alloc, &machine, by, query) {
+    let reply = match ask(alloc, &machine, &by, &query) {
         Ok(Ok(answer)) => Reply::Answer(answer),
         Ok(Err(refusal)) => Reply::Refused(refusal),
         Err(AllocError) => Reply::NoMemory,
     };
+    drop(query);
     (reply, Next::Go(Service { machine, keeper }))
 }
 
@@ -115,7 +116,9 @@ fn keep<K: Keeper>(
     payload_reads_back();
     payload_is_short();
     let Stamped { by, command, .. } = stamped;
-    let Ok(machine) = apply(alloc, machine, &by, command) else {
+    let applied = apply(alloc, machine, &by, command);
+    drop(by);
+    let Ok(machine) = applied else {
         return (Reply::NoMemory, Next::Stop(Cause::Memory, keeper));
     };
     match keeper.append(&payload) {
@@ -146,19 +149,20 @@ fn carried_out<K: Keeper>(
     ensures acknowledged { (n : ℕ) → result.0 ≡ Reply.Number n → IsAcknowledged ⟦<K as Keeper>⟧ machine.history n result.1 }
 {
     let at = machine.clock();
-    match machine.decide(alloc, &by, &command) {
+    let stamped = Stamped { at, by, command };
+    match machine.decide(alloc, &stamped.by, &stamped.command) {
         Err(AllocError) => {
-            drop(command);
+            drop(stamped);
             (Reply::NoMemory, Next::Go(Service { machine, keeper }))
         }
         Ok(Some(refusal)) => {
-            drop(command);
+            drop(stamped);
             (
                 Reply::Refused(refusal),
                 Next::Go(Service { machine, keeper }),
             )
         }
-        Ok(None) => keep(alloc, machine, keeper, Stamped { at, by, command }),
+        Ok(None) => keep(alloc, machine, keeper, stamped),
     }
 }
 
@@ -238,7 +242,7 @@ impl<K: Keeper> Service<K> {
         };
         let Request { by, op } = request;
         match op {
-            Op::Query(query) => asked(alloc, machine, keeper, &by, &query),
+            Op::Query(query) => asked(alloc, machine, keeper, by, query),
             Op::Command(command) => carried_out(alloc, machine, keeper, by, command),
         }
     }
