@@ -1,5 +1,5 @@
 // The input, read to its end.
-ghost use Rattle.std.specs.Prelude.{◌≡◌, ◌≤◌, ◌<◌, ◌^◌, ◌∷◌, [], List, take, ℕ, length, option_map, Result, Ok, IfOk, IfErr, OnOk};
+ghost use Rattle.std.specs.Prelude.{◌≡◌, ◌≤◌, ◌<◌, ◌^◌, ◌+◌, ◌∷◌, [], List, take, ℕ, length, option_map, Result, Ok, IfOk, IfErr, OnOk};
 ghost use Rattle.std.specs.Io.KnownBytes.{IsAtEnd, prepend_known};
 ghost use Rattle.reg_outside.specs.Faults.{Rose};
 ghost use Rattle.reg_service.specs.Kept.{KeptOn};
@@ -23,10 +23,11 @@ const LIMIT: u64 = 1 << 32;
 /// How many bytes are read at a time.
 const PIECE: usize = 4096;
 
-fn read_some<S: Source>(input: &mut S, buf: &mut [u8], room: usize) -> Result<usize, Stop>
-    requires fits { room ≤ length buf.old }
-    requires some { 0 < room }
-    ensures within { IfOk result (λ n. n ≤ room) }
+/// Reads a piece of input, once so many bytes are taken: as many more as a session takes, at most.
+fn read_some<S: Source>(input: &mut S, buf: &mut [u8], taken: u64) -> Result<usize, Stop>
+    requires fits { PIECE ≤ length buf.old }
+    requires some { taken < LIMIT }
+    ensures within { IfOk result (λ n. taken + n ≤ LIMIT) }
     ensures filled { IfOk result (λ n. n ≤ length buf.new) }
     ensures bytes { IfOk result (λ n. S.left input.old ≡ prepend_known (take n buf.new) (S.left input.new)) }
     ensures end { IfOk result (λ n. n ≡ 0 → IsAtEnd (S.left input.new)) }
@@ -34,6 +35,7 @@ fn read_some<S: Source>(input: &mut S, buf: &mut [u8], room: usize) -> Result<us
     ensures input { IfErr result (λ e. (e ≡ Stop.Input) × Rose (S.read_faults input.old) (S.read_faults input.new)) }
     ensures same { IfErr result (λ e. S.left input.new ≡ S.left input.old) }
 {
+    let room = (LIMIT - taken).min(PIECE as u64) as usize;
     match input.read(&mut buf[..room]) {
         Ok(count) => Ok(count),
         Err(Failed) => Err(Stop::Input),
@@ -130,8 +132,7 @@ pub fn answer_input<S: Source, J: Keeper, K: Sink, C: Clock>(
     let mut buf = [0u8; PIECE];
     let mut taken: u64 = 0;
     while taken < LIMIT {
-        let room = (LIMIT - taken).min(PIECE as u64) as usize;
-        let count = match read_some(input, &mut buf, room) {
+        let count = match read_some(input, &mut buf, taken) {
             Ok(count) => count,
             Err(stop) => {
                 drop(line);
