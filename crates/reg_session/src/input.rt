@@ -142,8 +142,7 @@ pub fn answer_input<S: Source, J: Keeper, K: Sink, C: Clock>(
         if count == 0 {
             let last = finish(alloc, service, &line, out, clock);
             drop(line);
-            let last = last?;
-            return Ok(last);
+            return last;
         }
         (service, line) = feed(alloc, service, line, &buf[..count], out, clock)?;
         taken += count as u64;
