@@ -1,5 +1,5 @@
 -- How a session goes on or stops, from line to line.
-use Rattle.std.proofs.Common.{◌≡◌, ◌≤◌, ◌++◌, ◌∷◌, [], List, ℕ, Option, Some, None, Result, Ok, Err, true, refl, ap, sym, ◌∙◌, append_assoc, subst, arith, length, length-append, take, ◌⊎◌, inl, inr}
+use Rattle.std.proofs.Common.{◌≡◌, ◌≤◌, ◌++◌, List, ℕ, Option, Some, None, Result, Ok, Err, true, refl, ap, sym, ◌∙◌, append_assoc, subst, arith, length, length-append, take, ◌⊎◌, inl, inr}
 use Rattle.std.specs.Prelude.{IfSome, IfOk, IfErr, is_some}
 use Rattle.std.specs.Result.{IsErrAnd}
 use Rattle.std.proofs.lemmas.List.{take_all, take-append-le}
