@@ -67,8 +67,8 @@ fn stop_flushed<K: Sink>(out: &mut K, why: Stop) -> Stop
     }
 }
 
-/// Ends a session that its input stops, and no line: it flushes, and gives the keeper back, of which
-/// each stop leaves the history that was answered.
+/// Ends a session that its input stops, and no line: it flushes, and gives the keeper back, of
+/// which each stop leaves the history that was answered.
 fn stop_at_input<J: Keeper, K: Sink>(service: Service<J>, out: &mut K, why: Stop) -> (Stop, J)
     ensures same { K.written out.new ≡ K.written out.old }
     ensures why { FlushesFor why result.0 (K.written out.new) (K.flushed out.new) (K.write_faults out.old) (K.write_faults out.new) }
