@@ -229,6 +229,8 @@ fn members<J: Keeper, K: Sink, C: Clock>(
     let reading = name_reading(alloc, name);
     let (reply, next) = turn(alloc, service, at, reading);
     let end = print_reply(alloc, &reply, out);
+    // By a call: dropped in place it would be taken apart by its kinds.
+    drop(reply);
     (end, next.into_keeper())
 }
 

@@ -1,5 +1,5 @@
 -- What a keeper has after a request.
-use Rattle.std.proofs.Common.{◌≡◌, ◌≤◌, ◌<◌, ◌^◌, ◌++◌, ◌∷◌, [], List, ℕ, Bool, Option, Some, None, Result, Ok, Err, true, false, refl, ap, sym, ◌∙◌, append-nil, subst, arith, option_map, length, length-append, ◌⊎◌, inl, inr}
+use Rattle.std.proofs.Common.{◌≡◌, ◌≤◌, ◌<◌, ◌^◌, ◌++◌, ◌∷◌, [], List, ℕ, Bool, Option, Some, None, Result, Ok, true, false, refl, ap, sym, ◌∙◌, append-nil, subst, arith, option_map, length, length-append, ◌⊎◌, inl, inr}
 use Rattle.std.specs.Prelude.{IfSome, is_some}
 use Rattle.std.proofs.lemmas.List.{take_all, take_at}
 use Rattle.reg_outside.specs.Disk.{Leaves}
@@ -10,7 +10,7 @@ use Rattle.reg_machine.specs.History.{State, appended, refusal}
 use Rattle.reg_wire.specs.Payload.{payload, stamped_of}
 use Rattle.reg_keep.specs.declared.keeper.Keeper.{Ghosts}
 use Rattle.reg_keep.specs.Keeping.{IsOneOf, AreOneOf}
-use Rattle.reg_service.specs.Opening.{payloads_of, IsServed, Served, Reopens, FrontsReopen}
+use Rattle.reg_service.specs.Opening.{payloads_of, IsServed, Reopens}
 use Rattle.reg_service.specs.Kept.{KeptOn, IsBetween, Stopped, IsAcknowledged}
 use Rattle.reg_service.specs.Turn.{requested}
 use Rattle.reg_service.specs.declared.service.Next.TheVariants as next

@@ -1,5 +1,5 @@
 -- One request: the reply, and the registry after it.
-use Rattle.std.specs.Prelude.{◌≡◌, ◌⊎◌, ◌≤◌, ℕ, [], ◌∷◌, ◌++◌, Option, Some, None, Result, Ok, Err, length, max, true}
+use Rattle.std.specs.Prelude.{◌≡◌, ◌⊎◌, ℕ, [], ◌∷◌, ◌++◌, Option, Some, None, Result, Ok, Err, length, max, true}
 use Rattle.reg_base.specs.declared.entity.Entity.{Entity}
 use Rattle.reg_terms.specs.declared.command.Command.{Command}
 use Rattle.reg_terms.specs.declared.command.Stamped.{Stamped}

@@ -1,4 +1,5 @@
-// The machine of a journal's records.
+// The machine of a journal's records. A command is dropped by a call of `drop`: dropped in place,
+// it is taken apart by its kinds at each exit, and its proof is then ten times as large.
 ghost use Rattle.std.specs.Prelude.{◌≡◌, ◌≤◌, is_some, true, ℕ, Ok, Err, Some, None, IfOk, IfErr, IsErrOf};
 ghost use Rattle.reg_machine.specs.History.{start, refusal, appended};
 ghost use Rattle.reg_keep.specs.declared.open.OpenFault.TheVariants.{Damaged};
@@ -69,10 +70,17 @@ fn decided(
     requires { has_form command ≡ true }
     ensures { IfOk result (λ found. found ≡ accepted machine (record { at = machine.clock; by = by.now; command = command }) (refusal machine.history machine.clock command)) }
 {
-    if is_refused(alloc, &machine, by, &command)? {
-        return Ok(None);
+    match is_refused(alloc, &machine, by, &command) {
+        Ok(false) => taken(alloc, machine, by, command),
+        Ok(true) => {
+            drop(command);
+            Ok(None)
+        }
+        Err(AllocError) => {
+            drop(command);
+            Err(AllocError)
+        }
     }
-    taken(alloc, machine, by, command)
 }
 
 /// The machine after a command that acts at a moment. None where it is refused.
@@ -87,8 +95,13 @@ fn act(
     requires later { machine.clock ≤ at }
     ensures { IfOk result (λ found. found ≡ accepted machine (record { at = at; by = by.now; command = command }) (refusal machine.history at command)) }
 {
-    let machine = moved(alloc, machine, at)?;
-    decided(alloc, machine, by, command)
+    match moved(alloc, machine, at) {
+        Ok(machine) => decided(alloc, machine, by, command),
+        Err(AllocError) => {
+            drop(command);
+            Err(AllocError)
+        }
+    }
 }
 
 /// The machine after a stamped command. None where its moment is less than the clock, or it is
@@ -103,6 +116,7 @@ fn accept(
 {
     let Stamped { at, by, command } = stamped;
     if at.micros() < machine.clock().micros() {
+        drop(command);
         return Ok(None);
     }
     act(alloc, machine, at, &by, command)

@@ -1,4 +1,5 @@
-// One request after another, over a keeper.
+// One request after another, over a keeper. A command is dropped by a call of `drop`, as in
+// `opening`: else each exit takes it apart by its kinds.
 ghost use Rattle.std.specs.Prelude.{◌≡◌, ℕ, List, Result, true, false, Ok, Err, None, IfOk, IfErr, IfSome};
 ghost use Rattle.reg_machine.specs.History.{start, refusal};
 ghost use Rattle.reg_keep.specs.Frames.{payloads_of_records};
@@ -73,20 +74,21 @@ fn asked<K: Keeper>(
     alloc: Global,
     machine: Machine<Incremental>,
     keeper: K,
-    by: &Entity,
-    query: &Query,
+    by: Entity,
+    query: Query,
 ) -> (Reply, Next<K>)
     requires { IsServed machine (K.payloads keeper) (K.has_failed keeper) }
-    ensures turn { Carries machine (requested machine by.now (Op.Query query.now)) result }
+    ensures turn { Carries machine (requested machine by (Op.Query query)) result }
     ensures kept { (expected : List Stamped) → KeepsNext ⟦<K as Keeper>⟧ machine.history expected keeper result.1 }
     ensures same { LeavesKeeper keeper result.1 }
     ensures unnumbered { (n : ℕ) → result.0 ≡ Reply.Number n → ⊥ }
 {
-    let reply = match ask(alloc, &machine, by, query) {
+    let reply = match ask(alloc, &machine, &by, &query) {
         Ok(Ok(answer)) => Reply::Answer(answer),
         Ok(Err(refusal)) => Reply::Refused(refusal),
         Err(AllocError) => Reply::NoMemory,
     };
+    drop(query);
     (reply, Next::Go(Service { machine, keeper }))
 }
 
@@ -108,12 +110,15 @@ fn keep<K: Keeper>(
 {
     let mut keeper = keeper;
     let Ok(payload) = encode(alloc, &stamped) else {
+        drop(stamped);
         return (Reply::NoMemory, Next::Go(Service { machine, keeper }));
     };
     payload_reads_back();
     payload_is_short();
     let Stamped { by, command, .. } = stamped;
-    let Ok(machine) = apply(alloc, machine, &by, command) else {
+    let applied = apply(alloc, machine, &by, command);
+    drop(by);
+    let Ok(machine) = applied else {
         return (Reply::NoMemory, Next::Stop(Cause::Memory, keeper));
     };
     match keeper.append(&payload) {
@@ -144,13 +149,20 @@ fn carried_out<K: Keeper>(
     ensures acknowledged { (n : ℕ) → result.0 ≡ Reply.Number n → IsAcknowledged ⟦<K as Keeper>⟧ machine.history n result.1 }
 {
     let at = machine.clock();
-    match machine.decide(alloc, &by, &command) {
-        Err(AllocError) => (Reply::NoMemory, Next::Go(Service { machine, keeper })),
-        Ok(Some(refusal)) => (
-            Reply::Refused(refusal),
-            Next::Go(Service { machine, keeper }),
-        ),
-        Ok(None) => keep(alloc, machine, keeper, Stamped { at, by, command }),
+    let stamped = Stamped { at, by, command };
+    match machine.decide(alloc, &stamped.by, &stamped.command) {
+        Err(AllocError) => {
+            drop(stamped);
+            (Reply::NoMemory, Next::Go(Service { machine, keeper }))
+        }
+        Ok(Some(refusal)) => {
+            drop(stamped);
+            (
+                Reply::Refused(refusal),
+                Next::Go(Service { machine, keeper }),
+            )
+        }
+        Ok(None) => keep(alloc, machine, keeper, stamped),
     }
 }
 
@@ -225,11 +237,12 @@ impl<K: Keeper> Service<K> {
         let Service { machine, keeper } = self;
         let now = machine.clock().later_of(at);
         let Ok(machine) = advance(alloc, machine, now) else {
+            drop(request);
             return (Reply::NoMemory, Next::Stop(Cause::Memory, keeper));
         };
         let Request { by, op } = request;
         match op {
-            Op::Query(query) => asked(alloc, machine, keeper, &by, &query),
+            Op::Query(query) => asked(alloc, machine, keeper, by, query),
             Op::Command(command) => carried_out(alloc, machine, keeper, by, command),
         }
     }
@@ -249,7 +262,10 @@ impl<K: Keeper> Service<K> {
                 Reply::Refused(refusal),
                 Next::Go(Service { machine, keeper }),
             ),
-            Err(_) => (Reply::NoMemory, Next::Stop(Cause::Memory, keeper)),
+            Err(_) => {
+                drop(refusal);
+                (Reply::NoMemory, Next::Stop(Cause::Memory, keeper))
+            }
         }
     }
 }

@@ -1,5 +1,5 @@
 -- From line to line of a session.
-use Rattle.std.proofs.Common.{◌≡◌, ◌≢◌, ◌++◌, ◌∷◌, [], List, ℕ, Option, Some, None, true, false, refl, ap, sym, append_assoc, append-nil, map, option_map, Result, Ok, Err, ◌∙◌, ◌⊎◌, inl, inr}
+use Rattle.std.proofs.Common.{◌≡◌, ◌≢◌, ◌++◌, ◌∷◌, [], List, ℕ, Option, Some, None, true, false, refl, ap, sym, append_assoc, append-nil, option_map, Result, Ok, Err, ◌∙◌, inl, inr}
 use Rattle.std.specs.Prelude.{IfSome, All}
 use Rattle.std.specs.Io.KnownBytes.{append_known}
 use Rattle.std.proofs.lemmas.List.{map-append}
@@ -8,7 +8,6 @@ use Rattle.reg_outside.specs.Streams.{first_moment, later_moments}
 use Rattle.reg_terms.specs.declared.refusal.Refusal.{Refusal}
 use Rattle.reg_base.specs.declared.entity.Entity.{Entity}
 use Rattle.reg_terms.specs.declared.command.Command.{Command}
-use Rattle.reg_terms.specs.declared.command.Stamped.{Stamped}
 use Rattle.reg_machine.specs.History.{State, refusal}
 use Rattle.reg_terms.specs.declared.request.Request.{Request}
 use Rattle.reg_terms.specs.declared.request.Op.{Op}
@@ -21,7 +20,7 @@ use Rattle.reg_service.specs.Opening.{Served}
 use Rattle.reg_service.specs.declared.service.Cause.{Cause}
 use Rattle.reg_service.specs.declared.service.Next.{Next}
 use Rattle.reg_service.specs.declared.service.Next.TheVariants as next
-use Rattle.reg_session.specs.Lines.{is_skipped, readings}
+use Rattle.reg_session.specs.Lines.{is_skipped}
 use Rattle.reg_session.specs.Replies.{line_of, lines_of, is_accepted, IsShown}
 use Rattle.reg_session.specs.Answered.{Answer, Point, MayAnswer, AreNext, coming_after, Gives, Answered, moments_of, readings_of, replies_of, answers, last_state}
 use Rattle.reg_session.proofs.Cutting.{readings_more}

@@ -1,5 +1,5 @@
 -- From byte to byte of a session.
-use Rattle.std.proofs.Common.{◌≡◌, ◌≢◌, ◌++◌, ◌∷◌, [], List, ℕ, Option, Some, None, refl, ap, sym, append_assoc, ◌∙◌, ◌+◌, ◌<◌, ◌≤◌, ◌^◌, subst, take, length, length-append, drop, take-append-drop, arith, inl, inr}
+use Rattle.std.proofs.Common.{◌≡◌, ◌≢◌, ◌++◌, ◌∷◌, [], List, ℕ, Option, Some, None, refl, ap, sym, append_assoc, ◌∙◌, ◌+◌, ◌<◌, ◌^◌, take, length, length-append, drop, take-append-drop, arith}
 use Rattle.std.specs.Prelude.{All, slice_index}
 use Rattle.std.proofs.lemmas.List.{take_more}
 use Rattle.std.proofs.Math.Seq.{take-add}

@@ -1,6 +1,6 @@
 -- How a session goes on or stops, from line to line.
-use Rattle.std.proofs.Common.{◌≡◌, ◌≤◌, ◌++◌, ◌∷◌, [], List, ℕ, Option, Some, None, Result, Ok, Err, true, refl, ap, sym, ◌∙◌, append_assoc, subst, arith, length, length-append, take, ◌⊎◌, inl, inr}
-use Rattle.std.specs.Prelude.{IfSome, IfErr, is_some}
+use Rattle.std.proofs.Common.{◌≡◌, ◌≤◌, ◌++◌, List, ℕ, Option, Some, None, Result, Ok, Err, true, refl, ap, sym, ◌∙◌, append_assoc, subst, arith, length, length-append, take, ◌⊎◌, inl, inr}
+use Rattle.std.specs.Prelude.{IfSome, IfOk, IfErr, is_some}
 use Rattle.std.specs.Result.{IsErrAnd}
 use Rattle.std.proofs.lemmas.List.{take_all, take-append-le}
 use Rattle.reg_outside.specs.Disk.{Leaves}
@@ -149,6 +149,15 @@ go_halted g before old s k kept is fronts left = record {
 pub err_by : {T E : Type 0} (P : E → Type 0) (r : Result T E) (e : E) → IsErrAnd r (λ y. y ≡ e) → P e → IfErr r P
 err_by P (Ok x) e is p = tt
 err_by P (Err y) e is p = subst P (sym is) p
+
+-- what follows of a value, and of an error by two of its clauses
+pub ok_so : {T E : Type 0} (P Q : T → Type 0) (r : Result T E) → IfOk r P → ((x : T) → P x → Q x) → IfOk r Q
+ok_so P Q (Ok x) p h = h x p
+ok_so P Q (Err e) p h = tt
+
+pub err_so : {T E : Type 0} (P Q R : E → Type 0) (r : Result T E) → IfErr r P → IfErr r Q → ((e : E) → P e → Q e → R e) → IfErr r R
+err_so P Q R (Ok x) p q h = tt
+err_so P Q R (Err e) p q h = h e p q
 
 decided_one : (s : State) (by : Entity) (command : Command) (r : Option Refusal) → IsOneMore s.history (decided s by command r).1.history
 decided_one s by command None = inr (record { at = s.clock; by = by; command = command }, refl)

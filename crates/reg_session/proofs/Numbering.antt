@@ -17,7 +17,7 @@ use Rattle.reg_terms.specs.declared.reply.Reply.TheVariants as reply
 use Rattle.reg_service.specs.Turn.{turn, requested, decided, answered, at_moment, Turns}
 use Rattle.reg_session.specs.Lines.{readings}
 use Rattle.reg_session.specs.Replies.{numbers, places}
-use Rattle.reg_session.specs.Answered.{Answer, Point, MayAnswer, AreNext, Answered, Accepted, moments_of, readings_of, replies_of, answers, last_state}
+use Rattle.reg_session.specs.Answered.{Answer, Point, MayAnswer, AreNext, Answered, Accepted, moments_of, replies_of, answers, last_state}
 use Rattle.reg_session.proofs.Answering.{answers_exact}
 
 -- a reply numbers the places of what was appended

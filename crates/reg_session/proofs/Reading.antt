@@ -1,16 +1,15 @@
 -- How a session over an input ends.
-use Rattle.std.proofs.Common.{◌≡◌, ◌++◌, ◌∷◌, ◌≤◌, ◌<◌, ◌^◌, ◌+◌, [], List, ℕ, Option, refl, ap, sym, subst, ◌∙◌, arith, length, length-append, take, inl, inr, ◌⊎◌}
-use Rattle.std.specs.Prelude.{IfSome}
+use Rattle.std.proofs.Common.{◌≡◌, ◌++◌, ◌∷◌, ◌≤◌, ◌^◌, ◌+◌, [], List, ℕ, Option, ap, sym, subst, ◌∙◌, arith, length, length-append, take, inl, inr, ◌⊎◌}
 use Rattle.reg_outside.specs.Faults.{Rose}
 use Rattle.std.specs.Io.KnownBytes.{prepend_known, IsAtEnd}
 use Rattle.reg_terms.specs.declared.command.Stamped.{Stamped}
 use Rattle.reg_keep.specs.declared.keeper.Keeper.{Ghosts}
 use Rattle.reg_service.specs.Kept.{KeptOn, Halted}
-use Rattle.reg_session.specs.Answered.{Point, Answered, Feeds}
+use Rattle.reg_session.specs.Answered.{Point, Answered}
 use Rattle.reg_session.specs.Lines.{lines, ended_lines, lines_from, pending_from}
 use Rattle.reg_session.specs.Pending.{Holds}
 use Rattle.reg_session.specs.Stops.{StopsIn, HaltsIn, IsAtLine}
-use Rattle.reg_session.specs.Input.{Takes, HasTaken, EndsInput, FlushesFor, StopsInput, StopsBehind, StopsLast}
+use Rattle.reg_session.specs.Input.{HasTaken, EndsInput, FlushesFor, StopsInput, StopsBehind, StopsLast}
 use Rattle.reg_session.specs.declared.pending.PendingLine.{PendingLine}
 use Rattle.reg_session.specs.declared.stop.Stop.{Stop}
 use Rattle.reg_session.specs.declared.stop.Stop.TheVariants as stop

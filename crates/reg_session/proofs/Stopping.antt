@@ -1,6 +1,6 @@
 -- Where a session stops, from line to line.
 use Rattle.std.proofs.Common.{◌≡◌, ◌++◌, ◌∷◌, [], List, ℕ, Option, Result, Ok, Err, refl, ap, sym, ◌∙◌, append_assoc, arith, length, inl, inr}
-use Rattle.std.specs.Prelude.{IfSome, false, true}
+use Rattle.std.specs.Prelude.{IfSome, false}
 use Rattle.std.specs.Io.KnownBytes.{append_known}
 use Rattle.std.proofs.lemmas.List.{take_all}
 use Rattle.reg_outside.specs.Streams.{first_moment, WritesFront}
@@ -8,15 +8,14 @@ use Rattle.reg_terms.specs.declared.command.Stamped.{Stamped}
 use Rattle.reg_terms.specs.declared.refusal.Refusal.{Refusal}
 use Rattle.reg_terms.specs.declared.request.Request.{Request}
 use Rattle.reg_terms.specs.declared.reply.Reply.{Reply}
-use Rattle.reg_terms.specs.declared.reply.Reply.TheVariants as reply
 use Rattle.reg_machine.specs.History.{State}
 use Rattle.reg_json.specs.Reading.{reading_of}
 use Rattle.reg_service.specs.Kept.{Began}
 use Rattle.reg_service.specs.Turn.{turn, Turns, last_reply}
 use Rattle.reg_service.specs.declared.service.Cause.{Cause}
 use Rattle.reg_service.specs.declared.service.Cause.TheVariants as cause
-use Rattle.reg_session.specs.Lines.{is_skipped, ended_from, lines_from, pending_from}
-use Rattle.reg_session.specs.Replies.{line_of, is_accepted, IsShown, WritesReply}
+use Rattle.reg_session.specs.Lines.{is_skipped}
+use Rattle.reg_session.specs.Replies.{line_of, IsShown, WritesReply}
 use Rattle.reg_session.specs.Answered.{Point, Answered}
 use Rattle.reg_session.specs.Stops.{stop_of, EndsTurn, LastTurn, StopsIn}
 use Rattle.reg_session.specs.declared.stop.Stop.{Stop}

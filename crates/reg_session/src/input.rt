@@ -1,8 +1,9 @@
 // The input, read to its end.
-ghost use Rattle.std.specs.Prelude.{◌≡◌, ◌≤◌, ◌<◌, ◌^◌, ◌∷◌, [], List, take, ℕ, length, option_map, IfOk, IfErr, OnOk};
+ghost use Rattle.std.specs.Prelude.{◌≡◌, ◌≤◌, ◌<◌, ◌^◌, ◌+◌, ◌∷◌, [], List, take, ℕ, length, option_map, Result, Ok, IfOk, IfErr, OnOk};
 ghost use Rattle.std.specs.Io.KnownBytes.{IsAtEnd, prepend_known};
 ghost use Rattle.reg_outside.specs.Faults.{Rose};
 ghost use Rattle.reg_service.specs.Kept.{KeptOn};
+ghost use Rattle.reg_service.specs.Opening.{payloads_of, FrontsReopen};
 ghost use Rattle.reg_session.specs.Answered.{Answered, point};
 ghost use Rattle.reg_session.specs.Input.{AnswersInput, FlushesFor, StopsInput, StopsLast};
 ghost use Rattle.reg_session.specs.Pending.{Holds};
@@ -22,10 +23,11 @@ const LIMIT: u64 = 1 << 32;
 /// How many bytes are read at a time.
 const PIECE: usize = 4096;
 
-fn read_some<S: Source>(input: &mut S, buf: &mut [u8], room: usize) -> Result<usize, Stop>
-    requires fits { room ≤ length buf.old }
-    requires some { 0 < room }
-    ensures within { IfOk result (λ n. n ≤ room) }
+/// Reads a piece of input, once so many bytes are taken: as many more as a session takes, at most.
+fn read_some<S: Source>(input: &mut S, buf: &mut [u8], taken: u64) -> Result<usize, Stop>
+    requires fits { PIECE ≤ length buf.old }
+    requires some { taken < LIMIT }
+    ensures within { IfOk result (λ n. taken + n ≤ LIMIT) }
     ensures filled { IfOk result (λ n. n ≤ length buf.new) }
     ensures bytes { IfOk result (λ n. S.left input.old ≡ prepend_known (take n buf.new) (S.left input.new)) }
     ensures end { IfOk result (λ n. n ≡ 0 → IsAtEnd (S.left input.new)) }
@@ -33,6 +35,7 @@ fn read_some<S: Source>(input: &mut S, buf: &mut [u8], room: usize) -> Result<us
     ensures input { IfErr result (λ e. (e ≡ Stop.Input) × Rose (S.read_faults input.old) (S.read_faults input.new)) }
     ensures same { IfErr result (λ e. S.left input.new ≡ S.left input.old) }
 {
+    let room = (LIMIT - taken).min(PIECE as u64) as usize;
     match input.read(&mut buf[..room]) {
         Ok(count) => Ok(count),
         Err(Failed) => Err(Stop::Input),
@@ -62,6 +65,19 @@ fn stop_flushed<K: Sink>(out: &mut K, why: Stop) -> Stop
         Ok(()) => why,
         Err(stop) => stop,
     }
+}
+
+/// Ends a session that its input stops, and no line: it flushes, and gives the keeper back, of
+/// which each stop leaves the history that was answered.
+fn stop_at_input<J: Keeper, K: Sink>(service: Service<J>, out: &mut K, why: Stop) -> (Stop, J)
+    ensures same { K.written out.new ≡ K.written out.old }
+    ensures why { FlushesFor why result.0 (K.written out.new) (K.flushed out.new) (K.write_faults out.old) (K.write_faults out.new) }
+    ensures count { K.write_faults out.old ≤ K.write_faults out.new }
+    ensures keeper { result.1 ≡ service.keeper }
+    ensures leaves { (r : Result (List (List ℕ)) ℕ) → J.stop_leaves result.1 r → r ≡ Ok (payloads_of service.state.history) }
+    ensures fronts { FrontsReopen service.state.history }
+{
+    (stop_flushed(out, why), service.into_keeper())
 }
 
 /// Answers the last line, which no LF ends, and flushes.
@@ -116,17 +132,21 @@ pub fn answer_input<S: Source, J: Keeper, K: Sink, C: Clock>(
     let mut buf = [0u8; PIECE];
     let mut taken: u64 = 0;
     while taken < LIMIT {
-        let room = (LIMIT - taken).min(PIECE as u64) as usize;
-        let count = match read_some(input, &mut buf, room) {
+        let count = match read_some(input, &mut buf, taken) {
             Ok(count) => count,
-            Err(stop) => return Err((stop_flushed(out, stop), service.into_keeper())),
+            Err(stop) => {
+                drop(line);
+                return Err(stop_at_input(service, out, stop));
+            }
         };
         if count == 0 {
-            let last = finish(alloc, service, &line, out, clock)?;
-            return Ok(last);
+            let last = finish(alloc, service, &line, out, clock);
+            drop(line);
+            return last;
         }
         (service, line) = feed(alloc, service, line, &buf[..count], out, clock)?;
         taken += count as u64;
     }
-    Err((stop_flushed(out, Stop::TooMuch), service.into_keeper()))
+    drop(line);
+    Err(stop_at_input(service, out, Stop::TooMuch))
 }

@@ -118,6 +118,8 @@ pub fn answer_line<J: Keeper, K: Sink, C: Clock>(
     let reading = line.reading(alloc);
     let (reply, next) = turn(alloc, service, moment, reading);
     let written = write_line(alloc, &reply, out);
+    // By a call, and not at each exit below: there it would be taken apart by its kinds.
+    drop(reply);
     match next {
         Next::Stop(cause, keeper) => Err((stop_of(cause), keeper)),
         Next::Go(service) => match written {

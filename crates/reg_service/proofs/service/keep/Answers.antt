@@ -6,8 +6,8 @@ use Rattle.reg_service.proofs.service.keep.Goals as goal
 pub returns-in_default-clause-kept : goal.returns-in_default-clause-kept
 returns-in_default-clause-kept g c = kept_same g.K.Keeper c.args.machine c.args.keeper c.requires.served (g.met.K.Keeper.stop_now c.args.keeper) (g.met.K.Keeper.stop_only_now c.args.keeper)
 
-pub returns-in_default-apply-clause-kept : goal.returns-in_default-apply-clause-kept
-returns-in_default-apply-clause-kept g c = stopped_at g.K.Keeper c.args.machine c.args.keeper _ _ c.requires.served (g.met.K.Keeper.stop_now c.args.keeper) (g.met.K.Keeper.stop_only_now c.args.keeper) refl refl
+pub returns-in_default-applied-clause-kept : goal.returns-in_default-applied-clause-kept
+returns-in_default-applied-clause-kept g c = stopped_at g.K.Keeper c.args.machine c.args.keeper _ _ c.requires.served (g.met.K.Keeper.stop_now c.args.keeper) (g.met.K.Keeper.stop_only_now c.args.keeper) refl refl
 
 -- its payload fits a frame
 pub append-requires-clause-size : goal.append-requires-clause-size
@@ -16,13 +16,13 @@ append-requires-clause-size g c = size_one c.deref.result.now c.args.stamped (c.
 -- it was kept
 pub invariant_of-result-in-Ok-append : goal.invariant_of-result-in-Ok-append
 invariant_of-result-in-Ok-append g c =
-    served_one c.args.machine c.in-Ok-apply.machine c.args.stamped c.deref.result.now (g.K.Keeper.payloads c.args.keeper) _ _ _ c.requires.served c.requires.now c.requires.accepted (c.payload_reads_back.ensures c.args.stamped c.requires.writable)
-    c.in-Ok-apply.ensures (c.deref.ensures.value ∙ c.in-Ok.ensures.value) c.in-Ok-append.ensures.kept c.in-Ok-append.ensures.going
+    served_one c.args.machine c.in-Ok-applied.machine c.args.stamped c.deref.result.now (g.K.Keeper.payloads c.args.keeper) _ _ _ c.requires.served c.requires.now c.requires.accepted (c.payload_reads_back.ensures c.args.stamped c.requires.writable)
+    c.in-Ok-applied.ensures (c.deref.ensures.value ∙ c.in-Ok.ensures.value) c.in-Ok-append.ensures.kept c.in-Ok-append.ensures.going
 
 pub returns-in-Ok-append-clause-kept : goal.returns-in-Ok-append-clause-kept
 returns-in-Ok-append-clause-kept g c =
-    kept_ok g.K.Keeper c.args.machine c.in-Ok-apply.machine c.args.stamped c.deref.result.now c.args.keeper c.append.new.self c.requires.served c.requires.now
-    c.in-Ok-apply.ensures (c.deref.ensures.value ∙ c.in-Ok.ensures.value) c.append.ensures.object c.append.ensures.cause.later c.in-Ok-append.ensures.kept c.append.ensures.any_moment
+    kept_ok g.K.Keeper c.args.machine c.in-Ok-applied.machine c.args.stamped c.deref.result.now c.args.keeper c.append.new.self c.requires.served c.requires.now
+    c.in-Ok-applied.ensures (c.deref.ensures.value ∙ c.in-Ok.ensures.value) c.append.ensures.object c.append.ensures.cause.later c.in-Ok-append.ensures.kept c.append.ensures.any_moment
 
 -- keeping it failed
 pub returns-clause-kept : goal.returns-clause-kept
@@ -33,7 +33,7 @@ returns-clause-kept g c =
 -- and is acknowledged
 pub returns-in-Ok-append-clause-acknowledged : goal.returns-in-Ok-append-clause-acknowledged
 returns-in-Ok-append-clause-acknowledged g c n is =
-    acknowledged_one g.K.Keeper c.args.machine c.in-Ok-apply.machine c.args.stamped c.append.new.self n
-    (served_one c.args.machine c.in-Ok-apply.machine c.args.stamped c.deref.result.now (g.K.Keeper.payloads c.args.keeper) _ _ _ c.requires.served c.requires.now c.requires.accepted (c.payload_reads_back.ensures c.args.stamped c.requires.writable)
-    c.in-Ok-apply.ensures (c.deref.ensures.value ∙ c.in-Ok.ensures.value) c.in-Ok-append.ensures.kept c.in-Ok-append.ensures.going)
-    (g.met.K.Keeper.stop_now c.append.new.self) c.in-Ok-apply.ensures (cc)
+    acknowledged_one g.K.Keeper c.args.machine c.in-Ok-applied.machine c.args.stamped c.append.new.self n
+    (served_one c.args.machine c.in-Ok-applied.machine c.args.stamped c.deref.result.now (g.K.Keeper.payloads c.args.keeper) _ _ _ c.requires.served c.requires.now c.requires.accepted (c.payload_reads_back.ensures c.args.stamped c.requires.writable)
+    c.in-Ok-applied.ensures (c.deref.ensures.value ∙ c.in-Ok.ensures.value) c.in-Ok-append.ensures.kept c.in-Ok-append.ensures.going)
+    (g.met.K.Keeper.stop_now c.append.new.self) c.in-Ok-applied.ensures (cc)

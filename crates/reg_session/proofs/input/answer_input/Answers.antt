@@ -3,7 +3,7 @@ use Rattle.std.proofs.lemmas.List.{length-take-le}
 use Rattle.reg_session.specs.Answered.{Point}
 use Rattle.reg_session.specs.Input.{StopsInput}
 use Rattle.reg_session.proofs.Feeding.{taken_none, taken_more, answers_all}
-use Rattle.reg_session.proofs.Halting.{kept_then, go_halted, err_by}
+use Rattle.reg_session.proofs.Halting.{kept_then, go_halted, err_by, err_so, ok_so}
 use Rattle.reg_session.proofs.Reading.{stops_piece, stops_last, stops_early, early_input, early_output, early_disk}
 use Rattle.reg_session.proofs.input.answer_input.Goals as goal
 
@@ -31,57 +31,56 @@ loop-taken-preserved g c = record {
 
 -- the input has ended, and all its lines are answered
 pub returns-then-count-eq0-clause-answered : goal.returns-then-count-eq0-clause-answered
-returns-then-count-eq0-clause-answered g c =
-    answers_all _ _ _ _ _ _ _ _ _ _ _ c.loop-taken.invariant.done c.loop-taken.invariant.held c.loop-taken-test.true c.in-Ok.ensures.bytes c.if-count-eq0.true (c.in-Ok.ensures.end c.if-count-eq0.true)
-    c.in_ok-last.ensures.answered
+returns-then-count-eq0-clause-answered g c = ok_so _ _ c.finish-last.result c.finish-last.ensures.answered
+    (λ to answered. answers_all _ _ _ _ _ _ _ _ _ _ _ c.loop-taken.invariant.done c.loop-taken.invariant.held c.loop-taken-test.true c.in-Ok.ensures.bytes c.if-count-eq0.true (c.in-Ok.ensures.end c.if-count-eq0.true) answered)
 
 pub returns-then-count-eq0-clause-kept : goal.returns-then-count-eq0-clause-kept
-returns-then-count-eq0-clause-kept g c = kept_then g.J.Keeper _ _ _ _ _ _ c.loop-taken.invariant.kept c.in_ok-last.ensures.kept
+returns-then-count-eq0-clause-kept g c = ok_so _ _ c.finish-last.result c.finish-last.ensures.kept (λ to kept. kept_then g.J.Keeper _ _ _ _ _ _ c.loop-taken.invariant.kept kept)
 
 -- the last line stopped the session
-pub returns-in_err-last-clause-halted : goal.returns-in_err-last-clause-halted
-returns-in_err-last-clause-halted g c =
+pub returns-then-count-eq0-clause-halted : goal.returns-then-count-eq0-clause-halted
+returns-then-count-eq0-clause-halted g c =
     let here : Point = record { written = g.K.Sink.written c.args.out.now; moments = g.C.Clock.moments c.args.clock.now; state = c.args.service.state } in
-    err_by (λ e. StopsInput g.J.Keeper here c.args.service.keeper (g.S.Source.left c.args.input.now) (g.S.Source.left c.read_some.new.input) (g.K.Sink.written c.finish.new.out) (g.K.Sink.flushed c.finish.new.out) e.0 e.1) c.from_residual.result c.in_err-last.field-0.0 c.from_residual.ensures.1
-    (stops_last g.J.Keeper here _ _ _ _ _ _ _ _ _ _ _ _ _ _ _ c.loop-taken.invariant.done c.loop-taken.invariant.held c.loop-taken.invariant.few c.in-Ok.ensures.bytes c.if-count-eq0.true (c.in-Ok.ensures.end c.if-count-eq0.true)
-    c.loop-taken.invariant.kept c.in_err-last.ensures.others c.in_err-last.ensures.halted)
+    err_so _ _ _ c.finish-last.result c.finish-last.ensures.halted c.finish-last.ensures.others
+    (λ e halted others. stops_last g.J.Keeper here _ _ _ _ _ _ _ _ _ _ _ _ _ _ _ c.loop-taken.invariant.done c.loop-taken.invariant.held c.loop-taken.invariant.few c.in-Ok.ensures.bytes c.if-count-eq0.true (c.in-Ok.ensures.end c.if-count-eq0.true)
+    c.loop-taken.invariant.kept others halted)
 
 -- a line of a piece did
 pub returns-in_err-service-clause-halted : goal.returns-in_err-service-clause-halted
 returns-in_err-service-clause-halted g c =
     let here : Point = record { written = g.K.Sink.written c.args.out.now; moments = g.C.Clock.moments c.args.clock.now; state = c.args.service.state } in
-    err_by (λ e. StopsInput g.J.Keeper here c.args.service.keeper (g.S.Source.left c.args.input.now) (g.S.Source.left c.read_some.new.input) (g.K.Sink.written c.feed.new.out) (g.K.Sink.flushed c.feed.new.out) e.0 e.1) c.from_residual-in_err-service.result c.in_err-service.field-0.0 c.from_residual-in_err-service.ensures.1
+    err_by (λ e. StopsInput g.J.Keeper here c.args.service.keeper (g.S.Source.left c.args.input.now) (g.S.Source.left c.read_some.new.input) (g.K.Sink.written c.feed.new.out) (g.K.Sink.flushed c.feed.new.out) e.0 e.1) c.from_residual.result c.in_err-service.field-0.0 c.from_residual.ensures.1
     (stops_piece g.J.Keeper here _ _ _ _ _ _ _ _ _ _ _ _ _ _ c.loop-taken.invariant.done c.loop-taken.invariant.held (omega (arith, c.in-Ok.ensures.within, length-take-le _ _ c.in-Ok.ensures.filled)) c.in-Ok.ensures.bytes
     c.loop-taken.invariant.kept c.in_err-service.ensures.others c.in_err-service.ensures.halted)
 
 -- the input failed
 pub returns-in-Err-clause-halted : goal.returns-in-Err-clause-halted
 returns-in-Err-clause-halted g c =
-    stops_early g.J.Keeper _ _ _ _ _ _ _ _ _ _ _ _ _ _ _ _ c.loop-taken.invariant.done c.loop-taken.invariant.held c.loop-taken.invariant.few c.in-Err.ensures.same c.stop_flushed.ensures.same
-    (go_halted g.J.Keeper c.args.service.state.history c.args.service.keeper c.loop-taken.service c.into_keeper.result c.loop-taken.invariant.kept c.into_keeper.ensures.keeper c.into_keeper.ensures.fronts c.into_keeper.ensures.leaves) refl refl
-    (inl c.in-Err.ensures.input.0) c.stop_flushed.ensures.why
+    stops_early g.J.Keeper _ _ _ _ _ _ _ _ _ _ _ _ _ _ _ _ c.loop-taken.invariant.done c.loop-taken.invariant.held c.loop-taken.invariant.few c.in-Err.ensures.same c.stop_at_input.ensures.same
+    (go_halted g.J.Keeper c.args.service.state.history c.args.service.keeper c.loop-taken.service c.stop_at_input.result.1 c.loop-taken.invariant.kept c.stop_at_input.ensures.keeper c.stop_at_input.ensures.fronts c.stop_at_input.ensures.leaves) refl refl
+    (inl c.in-Err.ensures.input.0) c.stop_at_input.ensures.why
 
 pub returns-in-Err-clause-input : goal.returns-in-Err-clause-input
-returns-in-Err-clause-input g c = early_input _ _ _ _ _ _ _ _ c.stop_flushed.ensures.why (λ is. omega (arith, c.in-Err.ensures.input.1, c.loop-taken.invariant.reads))
+returns-in-Err-clause-input g c = early_input _ _ _ _ _ _ _ _ c.stop_at_input.ensures.why (λ is. omega (arith, c.in-Err.ensures.input.1, c.loop-taken.invariant.reads))
 
 pub returns-in-Err-clause-output : goal.returns-in-Err-clause-output
-returns-in-Err-clause-output g c = early_output _ _ _ _ _ _ _ c.stop_flushed.ensures.why (λ is. let input = c.in-Err.ensures.input.0 in absurd (cc)) c.loop-taken.invariant.writes
+returns-in-Err-clause-output g c = early_output _ _ _ _ _ _ _ c.stop_at_input.ensures.why (λ is. let input = c.in-Err.ensures.input.0 in absurd (cc)) c.loop-taken.invariant.writes
 
 pub returns-in-Err-clause-disk : goal.returns-in-Err-clause-disk
-returns-in-Err-clause-disk g c is = absurd (early_disk _ _ _ _ _ _ c.stop_flushed.ensures.why (λ d. let input = c.in-Err.ensures.input.0 in absurd (cc)) is)
+returns-in-Err-clause-disk g c is = absurd (early_disk _ _ _ _ _ _ c.stop_at_input.ensures.why (λ d. let input = c.in-Err.ensures.input.0 in absurd (cc)) is)
 
 -- there was too much of it
 pub returns-clause-halted : goal.returns-clause-halted
 returns-clause-halted g c =
-    stops_early g.J.Keeper _ _ _ _ _ _ _ _ _ _ _ _ _ _ _ _ c.loop-taken.invariant.done c.loop-taken.invariant.held c.loop-taken.invariant.few refl c.stop_flushed-2.ensures.same
-    (go_halted g.J.Keeper c.args.service.state.history c.args.service.keeper c.loop-taken.service c.into_keeper-2.result c.loop-taken.invariant.kept c.into_keeper-2.ensures.keeper c.into_keeper-2.ensures.fronts c.into_keeper-2.ensures.leaves) refl refl
-    (inr (refl, c.loop-taken-test.false)) c.stop_flushed-2.ensures.why
+    stops_early g.J.Keeper _ _ _ _ _ _ _ _ _ _ _ _ _ _ _ _ c.loop-taken.invariant.done c.loop-taken.invariant.held c.loop-taken.invariant.few refl c.stop_at_input-2.ensures.same
+    (go_halted g.J.Keeper c.args.service.state.history c.args.service.keeper c.loop-taken.service c.stop_at_input-2.result.1 c.loop-taken.invariant.kept c.stop_at_input-2.ensures.keeper c.stop_at_input-2.ensures.fronts c.stop_at_input-2.ensures.leaves) refl refl
+    (inr (refl, c.loop-taken-test.false)) c.stop_at_input-2.ensures.why
 
 pub returns-clause-input : goal.returns-clause-input
-returns-clause-input g c = early_input _ _ _ _ _ _ _ _ c.stop_flushed-2.ensures.why (λ is. absurd (cc))
+returns-clause-input g c = early_input _ _ _ _ _ _ _ _ c.stop_at_input-2.ensures.why (λ is. absurd (cc))
 
 pub returns-clause-output : goal.returns-clause-output
-returns-clause-output g c = early_output _ _ _ _ _ _ _ c.stop_flushed-2.ensures.why (λ is. absurd (cc)) c.loop-taken.invariant.writes
+returns-clause-output g c = early_output _ _ _ _ _ _ _ c.stop_at_input-2.ensures.why (λ is. absurd (cc)) c.loop-taken.invariant.writes
 
 pub returns-clause-disk : goal.returns-clause-disk
-returns-clause-disk g c is = absurd (early_disk _ _ _ _ _ _ c.stop_flushed-2.ensures.why (λ d. absurd (cc)) is)
+returns-clause-disk g c is = absurd (early_disk _ _ _ _ _ _ c.stop_at_input-2.ensures.why (λ d. absurd (cc)) is)

@@ -47,8 +47,8 @@ returns-in-Stop-clause-disk g c disk =
     next_rose g.J.Keeper c.args.service.state.history _ c.args.service.keeper c.turn-reply.result.1 c.in-Stop.cause c.in-Stop.keeper _ (c.turn-reply.ensures.kept t.0 t.1) c.in-Stop.is c.stop_of.ensures disk
 
 -- the reply wasn't written
-pub returns-clause-halted : goal.returns-clause-halted
-returns-clause-halted g c bytes held =
+pub returns-in-Err-clause-halted : goal.returns-in-Err-clause-halted
+returns-in-Err-clause-halted g c bytes held =
     let here : Point = record { written = g.K.Sink.written c.args.out.now; moments = g.C.Clock.moments c.args.clock.now; state = c.args.service.state } in
     let told = reading_of bytes in
     let says = c.reading-reading.ensures.says bytes held in (
