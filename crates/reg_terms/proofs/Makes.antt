@@ -6,8 +6,8 @@ use Rattle.reg_terms.specs.declared.kinds.InheritKind.{InheritKind}
 use Rattle.reg_terms.specs.declared.kinds.Scope.{Scope}
 use Rattle.reg_terms.specs.declared.kinds.SetOp.{SetOp}
 use Rattle.reg_terms.specs.declared.command.Command.{Command}
-use Rattle.reg_terms.specs.declared.command.Command.TheVariants.{FolderAdd, FolderRename, FolderMove, FolderDelete, SubjectAdd, GroupAdd, GroupRename, GroupMove, GroupDelete, MemberAdd, MemberRemove, MemberWindow, CompositeSet, CompositeClear}
-use Rattle.reg_terms.specs.declared.query.Query.TheVariants.{GroupGet, FolderList, Members, Rows}
+use Rattle.reg_terms.specs.declared.command.Command.TheVariants.{FolderAdd, FolderRename, FolderMove, FolderDelete, SubjectAdd, GroupAdd, GroupRename, GroupMove, GroupDelete, MemberAdd, MemberRemove, MemberWindow, CompositeSet, CompositeClear, GrantAdd, GrantRemove, InheritAdd, InheritRemove}
+use Rattle.reg_terms.specs.declared.query.Query.TheVariants.{GroupGet, FolderList, Members, Rows, Groups, Grants, May}
 use Rattle.reg_terms.specs.declared.request.Op.TheVariants as asked
 use Rattle.reg_terms.specs.declared.table.CommandKind.{CommandKind}
 use Rattle.reg_terms.specs.declared.table.CommandKind.TheVariants as command
@@ -112,6 +112,10 @@ makes command.MemberRemove v = record { command = MemberRemove _ _; made_so = re
 makes command.MemberWindow v = record { command = MemberWindow _ _ _ _; made_so = refl; is_kind = refl; has_these = refl }
 makes command.CompositeSet v = record { command = CompositeSet _ _ _ _; made_so = refl; is_kind = refl; has_these = refl }
 makes command.CompositeClear v = record { command = CompositeClear _; made_so = refl; is_kind = refl; has_these = refl }
+makes command.GrantAdd v = record { command = GrantAdd _ _ _; made_so = refl; is_kind = refl; has_these = refl }
+makes command.GrantRemove v = record { command = GrantRemove _ _ _; made_so = refl; is_kind = refl; has_these = refl }
+makes command.InheritAdd v = record { command = InheritAdd _ _ _ _ _; made_so = refl; is_kind = refl; has_these = refl }
+makes command.InheritRemove v = record { command = InheritRemove _ _ _ _ _; made_so = refl; is_kind = refl; has_these = refl }
 
 query_makes : (k : QueryKind) (v : Values (field_kinds (query_row k))) → IsMade (op.Query k) (as_fields (field_kinds (query_row k)) v)
 unfolding next_as
@@ -119,6 +123,9 @@ query_makes query.GroupGet v = record { op = asked.Query (GroupGet _); made_so =
 query_makes query.FolderList v = record { op = asked.Query (FolderList _); made_so = refl; is_kind = refl; has_these = refl }
 query_makes query.Members v = record { op = asked.Query (Members _); made_so = refl; is_kind = refl; has_these = refl }
 query_makes query.Rows v = record { op = asked.Query (Rows _); made_so = refl; is_kind = refl; has_these = refl }
+query_makes query.Groups v = record { op = asked.Query (Groups _); made_so = refl; is_kind = refl; has_these = refl }
+query_makes query.Grants v = record { op = asked.Query (Grants _); made_so = refl; is_kind = refl; has_these = refl }
+query_makes query.May v = record { op = asked.Query (May _ _); made_so = refl; is_kind = refl; has_these = refl }
 
 pub command_apart : (c : Command) → IsApart c
 unfolding next_as
@@ -136,6 +143,10 @@ command_apart (MemberRemove a b) = record { few = lit≤ tt; kinds = refl; again
 command_apart (MemberWindow a b c d) = record { few = lit≤ tt; kinds = refl; again = refl; coded_so = refl }
 command_apart (CompositeSet a b c d) = record { few = lit≤ tt; kinds = refl; again = refl; coded_so = refl }
 command_apart (CompositeClear a) = record { few = lit≤ tt; kinds = refl; again = refl; coded_so = refl }
+command_apart (GrantAdd a b c) = record { few = lit≤ tt; kinds = refl; again = refl; coded_so = refl }
+command_apart (GrantRemove a b c) = record { few = lit≤ tt; kinds = refl; again = refl; coded_so = refl }
+command_apart (InheritAdd a b c d e) = record { few = lit≤ tt; kinds = refl; again = refl; coded_so = refl }
+command_apart (InheritRemove a b c d e) = record { few = lit≤ tt; kinds = refl; again = refl; coded_so = refl }
 
 -- ---- all ops
 

@@ -1,4 +1,4 @@
--- What rows speak of: when two objects or members are one.
+-- What rows speak of: when two of them are one, and of which kind an object is.
 use Rattle.std.specs.Prelude.{ℕ, ◌==◌, Bool, true, false, Option, Some, None}
 use Rattle.reg_terms.specs.declared.kinds.Object.{Object}
 use Rattle.reg_terms.specs.declared.kinds.Object.TheVariants as object
@@ -6,6 +6,10 @@ use Rattle.reg_terms.specs.declared.kinds.Member.{Member}
 use Rattle.reg_terms.specs.declared.kinds.Member.TheVariants as member
 use Rattle.reg_terms.specs.declared.kinds.Holder.{Holder}
 use Rattle.reg_terms.specs.declared.kinds.Holder.TheVariants as holder
+use Rattle.reg_terms.specs.declared.kinds.Scope.{Scope}
+use Rattle.reg_terms.specs.declared.kinds.Scope.TheVariants.{One, Sub}
+use Rattle.reg_terms.specs.declared.kinds.InheritKind.{InheritKind}
+use Rattle.reg_terms.specs.declared.kinds.InheritKind.TheVariants as kind
 
 -- the two objects are one
 abbrev pub same_object : Object → Object → Bool
@@ -29,6 +33,26 @@ same_member (member.Person a) (member.Person b) = a == b
 same_member (member.Person a) (member.Group b) = false
 same_member (member.Group a) (member.Person b) = false
 same_member (member.Group a) (member.Group b) = a == b
+
+-- the two scopes are one
+abbrev pub same_scope : Scope → Scope → Bool
+same_scope One One = true
+same_scope Sub Sub = true
+same_scope _ _ = false
+
+-- the two kinds are one
+abbrev pub same_kind : InheritKind → InheritKind → Bool
+same_kind kind.Folder kind.Folder = true
+same_kind kind.Group kind.Group = true
+same_kind kind.Definition kind.Definition = true
+same_kind _ _ = false
+
+-- an object is of the kind that has privileges of its own
+abbrev pub is_of_kind : InheritKind → Object → Bool
+is_of_kind kind.Folder (object.Folder d) = true
+is_of_kind kind.Group (object.Group g) = true
+is_of_kind kind.Definition (object.Def a) = true
+is_of_kind _ _ = false
 
 -- a folder's id, if the object is one
 abbrev pub as_folder : Option Object → Option ℕ

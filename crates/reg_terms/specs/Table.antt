@@ -2,9 +2,9 @@
 use Rattle.std.specs.Prelude.{◌≡◌, ◌≤◌, ℕ, List, [], ◌∷◌, ◌==◌, if◌then◌else◌, Option, Some, None, option_map, codes, map, length}
 use Rattle.std.specs.Str.{bytes_eq}
 use Rattle.reg_terms.specs.declared.command.Command.{Command}
-use Rattle.reg_terms.specs.declared.command.Command.TheVariants.{FolderAdd, FolderRename, FolderMove, FolderDelete, SubjectAdd, GroupAdd, GroupRename, GroupMove, GroupDelete, MemberAdd, MemberRemove, MemberWindow, CompositeSet, CompositeClear}
+use Rattle.reg_terms.specs.declared.command.Command.TheVariants.{FolderAdd, FolderRename, FolderMove, FolderDelete, SubjectAdd, GroupAdd, GroupRename, GroupMove, GroupDelete, MemberAdd, MemberRemove, MemberWindow, CompositeSet, CompositeClear, GrantAdd, GrantRemove, InheritAdd, InheritRemove}
 use Rattle.reg_terms.specs.declared.query.Query.{Query}
-use Rattle.reg_terms.specs.declared.query.Query.TheVariants.{GroupGet, FolderList, Members, Rows}
+use Rattle.reg_terms.specs.declared.query.Query.TheVariants.{GroupGet, FolderList, Members, Rows, Groups, Grants, May}
 use Rattle.reg_terms.specs.declared.request.Op.{Op}
 use Rattle.reg_terms.specs.declared.request.Op.TheVariants as asked
 use Rattle.reg_terms.specs.declared.table.CommandKind.{CommandKind}
@@ -17,7 +17,7 @@ use Rattle.reg_terms.specs.declared.field.FieldKind.{FieldKind}
 use Rattle.reg_terms.specs.declared.field.FieldKind.TheVariants as kind
 use Rattle.reg_terms.specs.declared.field.Field.{Field}
 use Rattle.reg_terms.specs.declared.field.Field.TheVariants as field
-use Rattle.reg_terms.specs.Parts.{◌>>=◌, field_kind, name_in, folder_in, extension_in, display_in, entity_in, moment_in, set_op_in, whole}
+use Rattle.reg_terms.specs.Parts.{◌>>=◌, field_kind, name_in, folder_in, extension_in, display_in, entity_in, object_in, moment_in, set_op_in, inherit_kind_in, scope_in, privilege_in, whole}
 
 -- ---- the table
 
@@ -47,6 +47,10 @@ command_row command.MemberRemove = record { code = 11; op = record { word = code
 command_row command.MemberWindow = record { code = 12; op = record { word = codes "member.window"; fields = (codes "group", kind.Name) ∷ (codes "member", kind.Entity) ∷ (codes "from", kind.OptionalMoment) ∷ (codes "until", kind.OptionalMoment) ∷ [] } }
 command_row command.CompositeSet = record { code = 13; op = record { word = codes "composite.set"; fields = (codes "group", kind.Name) ∷ (codes "kind", kind.SetOp) ∷ (codes "left", kind.Name) ∷ (codes "right", kind.Name) ∷ [] } }
 command_row command.CompositeClear = record { code = 14; op = record { word = codes "composite.clear"; fields = (codes "group", kind.Name) ∷ [] } }
+command_row command.GrantAdd = record { code = 15; op = record { word = codes "grant.add"; fields = (codes "object", kind.Object) ∷ (codes "privilege", kind.Privilege) ∷ (codes "holder", kind.Entity) ∷ [] } }
+command_row command.GrantRemove = record { code = 16; op = record { word = codes "grant.remove"; fields = (codes "object", kind.Object) ∷ (codes "privilege", kind.Privilege) ∷ (codes "holder", kind.Entity) ∷ [] } }
+command_row command.InheritAdd = record { code = 17; op = record { word = codes "inherit.add"; fields = (codes "folder", kind.Folder) ∷ (codes "kind", kind.InheritKind) ∷ (codes "scope", kind.Scope) ∷ (codes "privilege", kind.Privilege) ∷ (codes "holder", kind.Entity) ∷ [] } }
+command_row command.InheritRemove = record { code = 18; op = record { word = codes "inherit.remove"; fields = (codes "folder", kind.Folder) ∷ (codes "kind", kind.InheritKind) ∷ (codes "scope", kind.Scope) ∷ (codes "privilege", kind.Privilege) ∷ (codes "holder", kind.Entity) ∷ [] } }
 
 -- the row of a query
 abbrev pub query_row : QueryKind → Row
@@ -54,6 +58,9 @@ query_row query.GroupGet = record { word = codes "group.get"; fields = (codes "g
 query_row query.FolderList = record { word = codes "folder.list"; fields = (codes "folder", kind.Folder) ∷ [] }
 query_row query.Members = record { word = codes "members"; fields = (codes "group", kind.Name) ∷ [] }
 query_row query.Rows = record { word = codes "rows"; fields = (codes "group", kind.Name) ∷ [] }
+query_row query.Groups = record { word = codes "groups"; fields = (codes "subject", kind.Entity) ∷ [] }
+query_row query.Grants = record { word = codes "grants"; fields = (codes "object", kind.Object) ∷ [] }
+query_row query.May = record { word = codes "may"; fields = (codes "object", kind.Object) ∷ (codes "entity", kind.Entity) ∷ [] }
 
 -- the row of an op
 abbrev pub row_of : OpKind → Row
@@ -62,11 +69,11 @@ row_of (op.Query k) = query_row k
 
 -- every command
 abbrev pub commands : List CommandKind
-commands = command.FolderAdd ∷ command.FolderRename ∷ command.FolderMove ∷ command.FolderDelete ∷ command.SubjectAdd ∷ command.GroupAdd ∷ command.GroupRename ∷ command.GroupMove ∷ command.GroupDelete ∷ command.MemberAdd ∷ command.MemberRemove ∷ command.MemberWindow ∷ command.CompositeSet ∷ command.CompositeClear ∷ []
+commands = command.FolderAdd ∷ command.FolderRename ∷ command.FolderMove ∷ command.FolderDelete ∷ command.SubjectAdd ∷ command.GroupAdd ∷ command.GroupRename ∷ command.GroupMove ∷ command.GroupDelete ∷ command.MemberAdd ∷ command.MemberRemove ∷ command.MemberWindow ∷ command.CompositeSet ∷ command.CompositeClear ∷ command.GrantAdd ∷ command.GrantRemove ∷ command.InheritAdd ∷ command.InheritRemove ∷ []
 
 -- every query
 abbrev pub queries : List QueryKind
-queries = query.GroupGet ∷ query.FolderList ∷ query.Members ∷ query.Rows ∷ []
+queries = query.GroupGet ∷ query.FolderList ∷ query.Members ∷ query.Rows ∷ query.Groups ∷ query.Grants ∷ query.May ∷ []
 
 -- the kinds of a row's fields
 abbrev pub field_kinds : Row → List FieldKind
@@ -112,6 +119,10 @@ apart (MemberRemove group member) = (command.MemberRemove, field.Name group ∷ 
 apart (MemberWindow group member from until) = (command.MemberWindow, field.Name group ∷ field.Entity member ∷ field.OptionalMoment from ∷ field.OptionalMoment until ∷ [])
 apart (CompositeSet group kind left right) = (command.CompositeSet, field.Name group ∷ field.SetOp kind ∷ field.Name left ∷ field.Name right ∷ [])
 apart (CompositeClear group) = (command.CompositeClear, field.Name group ∷ [])
+apart (GrantAdd object privilege holder) = (command.GrantAdd, field.Object object ∷ field.Privilege privilege ∷ field.Entity holder ∷ [])
+apart (GrantRemove object privilege holder) = (command.GrantRemove, field.Object object ∷ field.Privilege privilege ∷ field.Entity holder ∷ [])
+apart (InheritAdd folder kind scope privilege holder) = (command.InheritAdd, field.Folder folder ∷ field.InheritKind kind ∷ field.Scope scope ∷ field.Privilege privilege ∷ field.Entity holder ∷ [])
+apart (InheritRemove folder kind scope privilege holder) = (command.InheritRemove, field.Folder folder ∷ field.InheritKind kind ∷ field.Scope scope ∷ field.Privilege privilege ∷ field.Entity holder ∷ [])
 
 -- a query: which one, and its fields in order
 abbrev pub query_apart : Query → QueryKind × List Field
@@ -119,6 +130,9 @@ query_apart (GroupGet group) = (query.GroupGet, field.Name group ∷ [])
 query_apart (FolderList folder) = (query.FolderList, field.Folder folder ∷ [])
 query_apart (Members group) = (query.Members, field.Name group ∷ [])
 query_apart (Rows group) = (query.Rows, field.Name group ∷ [])
+query_apart (Groups subject) = (query.Groups, field.Entity subject ∷ [])
+query_apart (Grants object) = (query.Grants, field.Object object ∷ [])
+query_apart (May object entity) = (query.May, field.Object object ∷ field.Entity entity ∷ [])
 
 -- which command it is
 abbrev pub kind_of : Command → CommandKind
@@ -205,6 +219,30 @@ made_command command.CompositeSet fields = do
 made_command command.CompositeClear fields = do
   group ← name_in fields
   whole (CompositeClear group.0) group.1
+made_command command.GrantAdd fields = do
+  object ← object_in fields
+  privilege ← privilege_in object.1
+  holder ← entity_in privilege.1
+  whole (GrantAdd object.0 privilege.0 holder.0) holder.1
+made_command command.GrantRemove fields = do
+  object ← object_in fields
+  privilege ← privilege_in object.1
+  holder ← entity_in privilege.1
+  whole (GrantRemove object.0 privilege.0 holder.0) holder.1
+made_command command.InheritAdd fields = do
+  folder ← folder_in fields
+  kind ← inherit_kind_in folder.1
+  scope ← scope_in kind.1
+  privilege ← privilege_in scope.1
+  holder ← entity_in privilege.1
+  whole (InheritAdd folder.0 kind.0 scope.0 privilege.0 holder.0) holder.1
+made_command command.InheritRemove fields = do
+  folder ← folder_in fields
+  kind ← inherit_kind_in folder.1
+  scope ← scope_in kind.1
+  privilege ← privilege_in scope.1
+  holder ← entity_in privilege.1
+  whole (InheritRemove folder.0 kind.0 scope.0 privilege.0 holder.0) holder.1
 
 -- the query that fields make
 abbrev pub made_query : QueryKind → List Field → Option Query
@@ -220,6 +258,16 @@ made_query query.Members fields = do
 made_query query.Rows fields = do
   group ← name_in fields
   whole (Rows group.0) group.1
+made_query query.Groups fields = do
+  subject ← entity_in fields
+  whole (Groups subject.0) subject.1
+made_query query.Grants fields = do
+  object ← object_in fields
+  whole (Grants object.0) object.1
+made_query query.May fields = do
+  object ← object_in fields
+  entity ← entity_in object.1
+  whole (May object.0 entity.0) entity.1
 
 -- the op that fields make
 abbrev pub made : OpKind → List Field → Option Op

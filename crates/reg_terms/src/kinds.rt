@@ -1,6 +1,6 @@
 // What rows speak of.
 ghost use Rattle.std.specs.Prelude.{◌≡◌};
-ghost use Rattle.reg_terms.specs.Kinds.{same_member, same_object, same_holder, as_folder, as_group};
+ghost use Rattle.reg_terms.specs.Kinds.{same_member, same_object, same_holder, same_scope, same_kind, is_of_kind, as_folder, as_group};
 
 use reg_base::{AttrDefId, AttrId, FolderId, GroupId, Moment, SubjectId, Text};
 
@@ -45,6 +45,17 @@ impl Object {
             Object::Def(a) => matches!(other, Object::Def(b) if a.number() == b.number()),
             Object::Attr(a) => matches!(other, Object::Attr(b) if a.number() == b.number()),
             Object::Subject(a) => matches!(other, Object::Subject(b) if a.number() == b.number()),
+        }
+    }
+
+    /// Whether it is of a kind that has privileges of its own.
+    pub fn is_of(&self, kind: InheritKind) -> bool
+        ensures { result ≡ is_of_kind kind self.now }
+    {
+        match kind {
+            InheritKind::Folder => matches!(self, Object::Folder(_)),
+            InheritKind::Group => matches!(self, Object::Group(_)),
+            InheritKind::Definition => matches!(self, Object::Def(_)),
         }
     }
 }
@@ -105,12 +116,37 @@ pub enum Scope {
     Sub,
 }
 
+impl Scope {
+    /// Whether the two are one.
+    pub fn is(&self, other: &Scope) -> bool
+        ensures { result ≡ same_scope self.now other.now }
+    {
+        match self {
+            Scope::One => matches!(other, Scope::One),
+            Scope::Sub => matches!(other, Scope::Sub),
+        }
+    }
+}
+
 /// The kind of objects for which an inherit gives its privilege.
 #[derive(Clone, Copy, Debug, PartialEq, Eq, PartialOrd, Ord)]
 pub enum InheritKind {
     Folder,
     Group,
     Definition,
+}
+
+impl InheritKind {
+    /// Whether the two are one.
+    pub fn is(&self, other: &InheritKind) -> bool
+        ensures { result ≡ same_kind self.now other.now }
+    {
+        match self {
+            InheritKind::Folder => matches!(other, InheritKind::Folder),
+            InheritKind::Group => matches!(other, InheritKind::Group),
+            InheritKind::Definition => matches!(other, InheritKind::Definition),
+        }
+    }
 }
 
 /// The kind of values that attributes of a definition take.

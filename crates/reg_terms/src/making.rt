@@ -1,14 +1,14 @@
 // Commands and queries made of fields.
 ghost use Rattle.std.specs.Prelude.{◌≡◌};
-ghost use Rattle.reg_terms.specs.Parts.{Took, name_in, folder_in, extension_in, display_in, entity_in, moment_in, set_op_in, whole};
+ghost use Rattle.reg_terms.specs.Parts.{Took, name_in, folder_in, extension_in, display_in, entity_in, object_in, moment_in, set_op_in, inherit_kind_in, scope_in, privilege_in, whole};
 ghost use Rattle.reg_terms.specs.Table.{made_command, made_query, made};
 ghost use Rattle.reg_terms.specs.declared.table.CommandKind.TheVariants as command;
 ghost use Rattle.reg_terms.specs.declared.table.QueryKind.TheVariants as query;
 
 use crate::field::Field;
 use crate::table::{CommandKind, OpKind, QueryKind};
-use crate::{Command, Op, Query, SetOp};
-use reg_base::{Entity, Moment, Name, Text};
+use crate::{Command, InheritKind, Op, Query, Scope, SetOp};
+use reg_base::{Entity, Moment, Name, Privilege, Text};
 use std::collections::VecDeque;
 
 #[tactic(auto, unfolding(crate::specs::Parts::next_as))]
@@ -60,6 +60,37 @@ fn set_op(fields: &mut VecDeque<Field>) -> Option<SetOp>
 {
     let field = fields.pop_front()?;
     field.set_op()
+}
+
+#[tactic(auto, unfolding(crate::specs::Parts::next_as))]
+fn object(fields: &mut VecDeque<Field>) -> Option<Text>
+    ensures { Took result fields.new.items (object_in fields.old.items) }
+{
+    fields.pop_front()?.object()
+}
+
+#[tactic(auto, unfolding(crate::specs::Parts::next_as))]
+fn inherit_kind(fields: &mut VecDeque<Field>) -> Option<InheritKind>
+    ensures { Took result fields.new.items (inherit_kind_in fields.old.items) }
+{
+    let field = fields.pop_front()?;
+    field.inherit_kind()
+}
+
+#[tactic(auto, unfolding(crate::specs::Parts::next_as))]
+fn scope(fields: &mut VecDeque<Field>) -> Option<Scope>
+    ensures { Took result fields.new.items (scope_in fields.old.items) }
+{
+    let field = fields.pop_front()?;
+    field.scope()
+}
+
+#[tactic(auto, unfolding(crate::specs::Parts::next_as))]
+fn privilege(fields: &mut VecDeque<Field>) -> Option<Privilege>
+    ensures { Took result fields.new.items (privilege_in fields.old.items) }
+{
+    let field = fields.pop_front()?;
+    field.privilege()
 }
 
 fn whole<T: Drop>(op: T, fields: VecDeque<Field>) -> Option<T>
@@ -211,6 +242,54 @@ fn composite_clear(mut fields: VecDeque<Field>) -> Option<Command>
     whole(command, fields)
 }
 
+fn grant_add(mut fields: VecDeque<Field>) -> Option<Command>
+    ensures { result ≡ made_command command.GrantAdd fields.items }
+{
+    let command = Command::GrantAdd {
+        object: object(&mut fields)?,
+        privilege: privilege(&mut fields)?,
+        holder: entity(&mut fields)?,
+    };
+    whole(command, fields)
+}
+
+fn grant_remove(mut fields: VecDeque<Field>) -> Option<Command>
+    ensures { result ≡ made_command command.GrantRemove fields.items }
+{
+    let command = Command::GrantRemove {
+        object: object(&mut fields)?,
+        privilege: privilege(&mut fields)?,
+        holder: entity(&mut fields)?,
+    };
+    whole(command, fields)
+}
+
+fn inherit_add(mut fields: VecDeque<Field>) -> Option<Command>
+    ensures { result ≡ made_command command.InheritAdd fields.items }
+{
+    let command = Command::InheritAdd {
+        folder: folder(&mut fields)?,
+        kind: inherit_kind(&mut fields)?,
+        scope: scope(&mut fields)?,
+        privilege: privilege(&mut fields)?,
+        holder: entity(&mut fields)?,
+    };
+    whole(command, fields)
+}
+
+fn inherit_remove(mut fields: VecDeque<Field>) -> Option<Command>
+    ensures { result ≡ made_command command.InheritRemove fields.items }
+{
+    let command = Command::InheritRemove {
+        folder: folder(&mut fields)?,
+        kind: inherit_kind(&mut fields)?,
+        scope: scope(&mut fields)?,
+        privilege: privilege(&mut fields)?,
+        holder: entity(&mut fields)?,
+    };
+    whole(command, fields)
+}
+
 fn group_get(mut fields: VecDeque<Field>) -> Option<Query>
     ensures { result ≡ made_query query.GroupGet fields.items }
 {
@@ -247,6 +326,34 @@ fn rows(mut fields: VecDeque<Field>) -> Option<Query>
     whole(query, fields)
 }
 
+fn groups(mut fields: VecDeque<Field>) -> Option<Query>
+    ensures { result ≡ made_query query.Groups fields.items }
+{
+    let query = Query::Groups {
+        subject: entity(&mut fields)?,
+    };
+    whole(query, fields)
+}
+
+fn grants(mut fields: VecDeque<Field>) -> Option<Query>
+    ensures { result ≡ made_query query.Grants fields.items }
+{
+    let query = Query::Grants {
+        object: object(&mut fields)?,
+    };
+    whole(query, fields)
+}
+
+fn may(mut fields: VecDeque<Field>) -> Option<Query>
+    ensures { result ≡ made_query query.May fields.items }
+{
+    let query = Query::May {
+        object: object(&mut fields)?,
+        entity: entity(&mut fields)?,
+    };
+    whole(query, fields)
+}
+
 /// The command that these fields make, if they do.
 pub fn made_command(kind: CommandKind, fields: VecDeque<Field>) -> Option<Command>
     ensures { result ≡ made_command kind fields.items }
@@ -266,6 +373,10 @@ pub fn made_command(kind: CommandKind, fields: VecDeque<Field>) -> Option<Comman
         CommandKind::MemberWindow => member_window(fields),
         CommandKind::CompositeSet => composite_set(fields),
         CommandKind::CompositeClear => composite_clear(fields),
+        CommandKind::GrantAdd => grant_add(fields),
+        CommandKind::GrantRemove => grant_remove(fields),
+        CommandKind::InheritAdd => inherit_add(fields),
+        CommandKind::InheritRemove => inherit_remove(fields),
     }
 }
 
@@ -277,6 +388,9 @@ fn made_query(kind: QueryKind, fields: VecDeque<Field>) -> Option<Query>
         QueryKind::FolderList => folder_list(fields),
         QueryKind::Members => members(fields),
         QueryKind::Rows => rows(fields),
+        QueryKind::Groups => groups(fields),
+        QueryKind::Grants => grants(fields),
+        QueryKind::May => may(fields),
     }
 }
 

@@ -43,6 +43,10 @@ pub fn kind_of(command: &Command) -> CommandKind
         Command::MemberWindow { .. } => CommandKind::MemberWindow,
         Command::CompositeSet { .. } => CommandKind::CompositeSet,
         Command::CompositeClear { .. } => CommandKind::CompositeClear,
+        Command::GrantAdd { .. } => CommandKind::GrantAdd,
+        Command::GrantRemove { .. } => CommandKind::GrantRemove,
+        Command::InheritAdd { .. } => CommandKind::InheritAdd,
+        Command::InheritRemove { .. } => CommandKind::InheritRemove,
     }
 }
 
@@ -176,6 +180,58 @@ pub fn fields_of<'a>(command: &'a Command) -> [FieldRef<'a>; 6]
             FieldRef::Nothing,
             FieldRef::Nothing,
             FieldRef::Nothing,
+            FieldRef::Nothing,
+        ],
+        Command::GrantAdd {
+            object,
+            privilege,
+            holder,
+        } => [
+            FieldRef::Object(object),
+            FieldRef::Privilege(*privilege),
+            FieldRef::Entity(holder),
+            FieldRef::Nothing,
+            FieldRef::Nothing,
+            FieldRef::Nothing,
+        ],
+        Command::GrantRemove {
+            object,
+            privilege,
+            holder,
+        } => [
+            FieldRef::Object(object),
+            FieldRef::Privilege(*privilege),
+            FieldRef::Entity(holder),
+            FieldRef::Nothing,
+            FieldRef::Nothing,
+            FieldRef::Nothing,
+        ],
+        Command::InheritAdd {
+            folder,
+            kind,
+            scope,
+            privilege,
+            holder,
+        } => [
+            FieldRef::Folder(folder),
+            FieldRef::InheritKind(*kind),
+            FieldRef::Scope(*scope),
+            FieldRef::Privilege(*privilege),
+            FieldRef::Entity(holder),
+            FieldRef::Nothing,
+        ],
+        Command::InheritRemove {
+            folder,
+            kind,
+            scope,
+            privilege,
+            holder,
+        } => [
+            FieldRef::Folder(folder),
+            FieldRef::InheritKind(*kind),
+            FieldRef::Scope(*scope),
+            FieldRef::Privilege(*privilege),
+            FieldRef::Entity(holder),
             FieldRef::Nothing,
         ],
     }

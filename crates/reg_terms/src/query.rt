@@ -1,6 +1,6 @@
 // Queries and their answers.
-use crate::{FactorsShown, RowsShown, Texts};
-use reg_base::{Name, Text};
+use crate::{FactorsShown, GrantsShown, Privileges, RowsShown, Texts};
+use reg_base::{Entity, Name, Text};
 
 /// A question that changes nothing (`docs/REQUESTS.md`). A folder is named by its name, or `:` for the root.
 #[derive(Debug, Drop)]
@@ -13,6 +13,12 @@ pub enum Query {
     Members { group: Name },
     /// The immediate memberships and the factors of the group of this name.
     Rows { group: Name },
+    /// The groups that have a person as an effective member.
+    Groups { subject: Entity },
+    /// The privileges granted on an object, written on it or inherited, and their holders.
+    Grants { object: Text },
+    /// The privileges that an entity has on an object.
+    May { object: Text, entity: Entity },
 }
 
 /// What a query is answered.
@@ -38,5 +44,17 @@ pub enum Answer {
     Rows {
         composite: Option<FactorsShown>,
         rows: RowsShown,
+    },
+    /// The names of the groups, in the order in which they were made.
+    Groups {
+        groups: Texts,
+    },
+    /// By privilege, then everyone, persons and groups, each pair once.
+    Grants {
+        grants: GrantsShown,
+    },
+    /// By their codes, and with what they give.
+    May {
+        privileges: Privileges,
     },
 }

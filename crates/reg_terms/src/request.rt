@@ -1,6 +1,6 @@
 // Requests.
 use crate::{Command, Query};
-use reg_base::Entity;
+use reg_base::Bytes;
 
 /// What is asked of the registry.
 #[derive(Debug, Drop)]
@@ -12,6 +12,7 @@ pub enum Op {
 /// What is asked of the registry, and by whom.
 #[derive(Debug, Drop)]
 pub struct Request {
-    pub by: Entity,
+    /// The caller's text: a person's or the registry's own; any other is nobody's.
+    pub by: Bytes,
     pub op: Op,
 }

@@ -21,6 +21,10 @@ pub enum CommandKind {
     MemberWindow,
     CompositeSet,
     CompositeClear,
+    GrantAdd,
+    GrantRemove,
+    InheritAdd,
+    InheritRemove,
 }
 
 /// Which query.
@@ -30,6 +34,9 @@ pub enum QueryKind {
     FolderList,
     Members,
     Rows,
+    Groups,
+    Grants,
+    May,
 }
 
 /// Which command or query.
@@ -54,7 +61,7 @@ pub struct CommandRow {
 }
 
 /// Every command.
-const COMMANDS: [CommandKind; 14] = [
+const COMMANDS: [CommandKind; 18] = [
     CommandKind::FolderAdd,
     CommandKind::FolderRename,
     CommandKind::FolderMove,
@@ -69,15 +76,42 @@ const COMMANDS: [CommandKind; 14] = [
     CommandKind::MemberWindow,
     CommandKind::CompositeSet,
     CommandKind::CompositeClear,
+    CommandKind::GrantAdd,
+    CommandKind::GrantRemove,
+    CommandKind::InheritAdd,
+    CommandKind::InheritRemove,
 ];
 
 /// Every query.
-const QUERIES: [QueryKind; 4] = [
+const QUERIES: [QueryKind; 7] = [
     QueryKind::GroupGet,
     QueryKind::FolderList,
     QueryKind::Members,
     QueryKind::Rows,
+    QueryKind::Groups,
+    QueryKind::Grants,
+    QueryKind::May,
 ];
+
+/// An op's row by its word and fields.
+fn op(word: &'static str, fields: &'static [(&'static str, FieldKind)]) -> Row
+    ensures word { result.word ≡ word.entry }
+    ensures fields { result.fields ≡ fields.entry }
+{
+    Row { word, fields }
+}
+
+/// A command's row by its code, word and fields.
+fn command(code: u8, word: &'static str, fields: &'static [(&'static str, FieldKind)]) -> CommandRow
+    ensures code { result.code ≡ code }
+    ensures word { result.op.word ≡ word.entry }
+    ensures fields { result.op.fields ≡ fields.entry }
+{
+    CommandRow {
+        code,
+        op: op(word, fields),
+    }
+}
 
 /// A command's row. Its code is in no other row.
 pub fn command_row(kind: CommandKind) -> CommandRow
@@ -87,128 +121,132 @@ pub fn command_row(kind: CommandKind) -> CommandRow
     ensures kinds { map (λ f. f.1) result.op.fields.now ≡ field_kinds (command_row kind).op }
 {
     match kind {
-        CommandKind::FolderAdd => CommandRow {
-            code: 1,
-            op: Row {
-                word: "folder.add",
-                fields: &[("folder", FieldKind::Name), ("display", FieldKind::Display)],
-            },
-        },
-        CommandKind::FolderRename => CommandRow {
-            code: 2,
-            op: Row {
-                word: "folder.rename",
-                fields: &[
-                    ("folder", FieldKind::Folder),
-                    ("extension", FieldKind::Extension),
-                ],
-            },
-        },
-        CommandKind::FolderMove => CommandRow {
-            code: 3,
-            op: Row {
-                word: "folder.move",
-                fields: &[("folder", FieldKind::Folder), ("to", FieldKind::Folder)],
-            },
-        },
-        CommandKind::FolderDelete => CommandRow {
-            code: 4,
-            op: Row {
-                word: "folder.delete",
-                fields: &[("folder", FieldKind::Folder)],
-            },
-        },
-        CommandKind::SubjectAdd => CommandRow {
-            code: 5,
-            op: Row {
-                word: "subject.add",
-                fields: &[
-                    ("subject", FieldKind::Entity),
-                    ("display", FieldKind::Display),
-                ],
-            },
-        },
-        CommandKind::GroupAdd => CommandRow {
-            code: 6,
-            op: Row {
-                word: "group.add",
-                fields: &[("group", FieldKind::Name), ("display", FieldKind::Display)],
-            },
-        },
-        CommandKind::GroupRename => CommandRow {
-            code: 7,
-            op: Row {
-                word: "group.rename",
-                fields: &[
-                    ("group", FieldKind::Name),
-                    ("extension", FieldKind::Extension),
-                ],
-            },
-        },
-        CommandKind::GroupMove => CommandRow {
-            code: 8,
-            op: Row {
-                word: "group.move",
-                fields: &[("group", FieldKind::Name), ("to", FieldKind::Folder)],
-            },
-        },
-        CommandKind::GroupDelete => CommandRow {
-            code: 9,
-            op: Row {
-                word: "group.delete",
-                fields: &[("group", FieldKind::Name)],
-            },
-        },
-        CommandKind::MemberAdd => CommandRow {
-            code: 10,
-            op: Row {
-                word: "member.add",
-                fields: &[
-                    ("group", FieldKind::Name),
-                    ("member", FieldKind::Entity),
-                    ("from", FieldKind::OptionalMoment),
-                    ("until", FieldKind::OptionalMoment),
-                ],
-            },
-        },
-        CommandKind::MemberRemove => CommandRow {
-            code: 11,
-            op: Row {
-                word: "member.remove",
-                fields: &[("group", FieldKind::Name), ("member", FieldKind::Entity)],
-            },
-        },
-        CommandKind::MemberWindow => CommandRow {
-            code: 12,
-            op: Row {
-                word: "member.window",
-                fields: &[
-                    ("group", FieldKind::Name),
-                    ("member", FieldKind::Entity),
-                    ("from", FieldKind::OptionalMoment),
-                    ("until", FieldKind::OptionalMoment),
-                ],
-            },
-        },
-        CommandKind::CompositeSet => CommandRow {
-            code: 13,
-            op: Row {
-                word: "composite.set",
-                fields: &[
-                    ("group", FieldKind::Name),
-                    ("kind", FieldKind::SetOp),
-                    ("left", FieldKind::Name),
-                    ("right", FieldKind::Name),
-                ],
-            },
-        },
-        CommandKind::CompositeClear => CommandRow {
-            code: 14,
-            op: Row {
-                word: "composite.clear",
-                fields: &[("group", FieldKind::Name)],
-            },
-        },
+        CommandKind::FolderAdd => command(
+            1,
+            "folder.add",
+            &[("folder", FieldKind::Name), ("display", FieldKind::Display)],
+        ),
+        CommandKind::FolderRename => command(
+            2,
+            "folder.rename",
+            &[
+                ("folder", FieldKind::Folder),
+                ("extension", FieldKind::Extension),
+            ],
+        ),
+        CommandKind::FolderMove => command(
+            3,
+            "folder.move",
+            &[("folder", FieldKind::Folder), ("to", FieldKind::Folder)],
+        ),
+        CommandKind::FolderDelete => command(4, "folder.delete", &[("folder", FieldKind::Folder)]),
+        CommandKind::SubjectAdd => command(
+            5,
+            "subject.add",
+            &[
+                ("subject", FieldKind::Entity),
+                ("display", FieldKind::Display),
+            ],
+        ),
+        CommandKind::GroupAdd => command(
+            6,
+            "group.add",
+            &[("group", FieldKind::Name), ("display", FieldKind::Display)],
+        ),
+        CommandKind::GroupRename => command(
+            7,
+            "group.rename",
+            &[
+                ("group", FieldKind::Name),
+                ("extension", FieldKind::Extension),
+            ],
+        ),
+        CommandKind::GroupMove => command(
+            8,
+            "group.move",
+            &[("group", FieldKind::Name), ("to", FieldKind::Folder)],
+        ),
+        CommandKind::GroupDelete => command(9, "group.delete", &[("group", FieldKind::Name)]),
+        CommandKind::MemberAdd => command(
+            10,
+            "member.add",
+            &[
+                ("group", FieldKind::Name),
+                ("member", FieldKind::Entity),
+                ("from", FieldKind::OptionalMoment),
+                ("until", FieldKind::OptionalMoment),
+            ],
+        ),
+        CommandKind::MemberRemove => command(
+            11,
+            "member.remove",
+            &[("group", FieldKind::Name), ("member", FieldKind::Entity)],
+        ),
+        CommandKind::MemberWindow => command(
+            12,
+            "member.window",
+            &[
+                ("group", FieldKind::Name),
+                ("member", FieldKind::Entity),
+                ("from", FieldKind::OptionalMoment),
+                ("until", FieldKind::OptionalMoment),
+            ],
+        ),
+        CommandKind::CompositeSet => command(
+            13,
+            "composite.set",
+            &[
+                ("group", FieldKind::Name),
+                ("kind", FieldKind::SetOp),
+                ("left", FieldKind::Name),
+                ("right", FieldKind::Name),
+            ],
+        ),
+        CommandKind::CompositeClear => command(
+            14,
+            "composite.clear",
+            &[("group", FieldKind::Name)],
+        ),
+        CommandKind::GrantAdd => command(
+            15,
+            "grant.add",
+            &[
+                ("object", FieldKind::Object),
+                ("privilege", FieldKind::Privilege),
+                ("holder", FieldKind::Entity),
+            ],
+        ),
+        CommandKind::GrantRemove => command(
+            16,
+            "grant.remove",
+            &[
+                ("object", FieldKind::Object),
+                ("privilege", FieldKind::Privilege),
+                ("holder", FieldKind::Entity),
+            ],
+        ),
+        CommandKind::InheritAdd => command(
+            17,
+            "inherit.add",
+            &[
+                ("folder", FieldKind::Folder),
+                ("kind", FieldKind::InheritKind),
+                ("scope", FieldKind::Scope),
+                ("privilege", FieldKind::Privilege),
+                ("holder", FieldKind::Entity),
+            ],
+        ),
+        CommandKind::InheritRemove => command(
+            18,
+            "inherit.remove",
+            &[
+                ("folder", FieldKind::Folder),
+                ("kind", FieldKind::InheritKind),
+                ("scope", FieldKind::Scope),
+                ("privilege", FieldKind::Privilege),
+                ("holder", FieldKind::Entity),
+            ],
+        ),
     }
 }
 
@@ -219,22 +257,16 @@ pub fn query_row(kind: QueryKind) -> Row
     ensures kinds { map (λ f. f.1) result.fields.now ≡ field_kinds (query_row kind) }
 {
     match kind {
-        QueryKind::GroupGet => Row {
-            word: "group.get",
-            fields: &[("group", FieldKind::Name)],
-        },
-        QueryKind::FolderList => Row {
-            word: "folder.list",
-            fields: &[("folder", FieldKind::Folder)],
-        },
-        QueryKind::Members => Row {
-            word: "members",
-            fields: &[("group", FieldKind::Name)],
-        },
-        QueryKind::Rows => Row {
-            word: "rows",
-            fields: &[("group", FieldKind::Name)],
-        },
+        QueryKind::GroupGet => op("group.get", &[("group", FieldKind::Name)]),
+        QueryKind::FolderList => op("folder.list", &[("folder", FieldKind::Folder)]),
+        QueryKind::Members => op("members", &[("group", FieldKind::Name)]),
+        QueryKind::Rows => op("rows", &[("group", FieldKind::Name)]),
+        QueryKind::Groups => op("groups", &[("subject", FieldKind::Entity)]),
+        QueryKind::Grants => op("grants", &[("object", FieldKind::Object)]),
+        QueryKind::May => op(
+            "may",
+            &[("object", FieldKind::Object), ("entity", FieldKind::Entity)],
+        ),
     }
 }
 
