@@ -83,7 +83,7 @@ module _ {K R : Type 0} (cmp : K → K → Ordering) (key : R → K) (total : Is
           absurd (no_stamp_is y (sym (sym (same (key y)) ∙ above_none (key y) (x ∷ xs) (low, above_on (key y) (key x) xs low up.0)) ∙ found_first y ys))
 
   -- ---- rows put in order
-  abbrev order : R → R → Ordering
+  abbrev pub order : R → R → Ordering
   order a b = cmp (key a) (key b)
 
   insert_above : (k : K) (r : R) (rows : List R) → cmp k (key r) ≡ Less → Above k rows → Above k (insert_key order rows r)
@@ -95,7 +95,7 @@ module _ {K R : Type 0} (cmp : K → K → Ordering) (key : R → K) (total : Is
       by_order Equal rest = up
       by_order Greater rest = (up.0, rest)
 
-  insert_order : (r : R) (rows : List R) → InOrder rows → InOrder (insert_key order rows r)
+  pub insert_order : (r : R) (rows : List R) → InOrder rows → InOrder (insert_key order rows r)
   insert_order r [] up = (tt, tt)
   insert_order r (x ∷ xs) up = by_order (order r x) refl (insert_order r xs up.1)
     where
@@ -104,7 +104,7 @@ module _ {K R : Type 0} (cmp : K → K → Ordering) (key : R → K) (total : Is
       by_order Equal e rest = up
       by_order Greater e rest = (insert_above (key x) r xs (back (key r) (key x) e) up.0, rest)
 
-  insert_find : (k : K) (r : R) (rows : List R) → InOrder rows → find (has_key cmp key (key r)) rows ≡ None → find (has_key cmp key k) (insert_key order rows r) ≡ cond (has_key cmp key k r) (Some r) (find (has_key cmp key k) rows)
+  pub insert_find : (k : K) (r : R) (rows : List R) → InOrder rows → find (has_key cmp key (key r)) rows ≡ None → find (has_key cmp key k) (insert_key order rows r) ≡ cond (has_key cmp key k r) (Some r) (find (has_key cmp key k) rows)
   insert_find k r [] up free = refl
   insert_find k r (x ∷ xs) up free = by_order (order r x) refl (insert_find k r xs up.1)
     where
@@ -129,14 +129,14 @@ module _ {K R : Type 0} (cmp : K → K → Ordering) (key : R → K) (total : Is
   sorted rows = into_sorted [] rows tt
 
   -- rows whose keys none of the others has
-  abbrev AreNew : List R → List R → Type 0
+  abbrev pub AreNew : List R → List R → Type 0
   AreNew found rows = AllByRecursion (λ r. find (has_key cmp key (key r)) found ≡ None) rows
 
-  all_new : (rows : List R) → AreNew [] rows
+  pub all_new : (rows : List R) → AreNew [] rows
   all_new [] = tt
   all_new (r ∷ rows) = (refl, all_new rows)
 
-  still_new : (found rows : List R) (r : R) → InOrder found → find (has_key cmp key (key r)) found ≡ None → list_any (has_key cmp key (key r)) rows ≡ false → AreNew found rows → AreNew (insert_key order found r) rows
+  pub still_new : (found rows : List R) (r : R) → InOrder found → find (has_key cmp key (key r)) found ≡ None → list_any (has_key cmp key (key r)) rows ≡ false → AreNew found rows → AreNew (insert_key order found r) rows
   still_new found [] r up free once new = tt
   still_new found (x ∷ rows) r up free once new =
       let parts = or_parts (has_key cmp key (key r) x) (list_any (has_key cmp key (key r)) rows) once in

@@ -17,10 +17,11 @@ use Rattle.reg_table.specs.declared.spot.Spot.TheVariants.{Start, At, End}
 use Rattle.reg_table.specs.Keyed.{is_of, is_row, row_order, in_order}
 use Rattle.reg_table.specs.Ranges.{listed, HaveRows}
 use Rattle.reg_table.specs.Spots.{spot_total, key_cmp, key_of}
-use Rattle.reg_table.specs.Finds.{has_key, Finds}
+use Rattle.reg_table.specs.Finds.{has_key, AreOnce, Finds}
 use Rattle.reg_table.proofs.Found as found
-use Rattle.reg_table.proofs.Keys.{put, turned, equal}
+use Rattle.reg_table.proofs.Keys.{put, turned, equal, once_filter}
 use Rattle.reg_table.proofs.Ordered.{have_rows, part_rows}
+use Rattle.reg_table.proofs.Passing.{order_any}
 
 -- what the types of groups and places say of their comparisons
 pub record Laws {G P : Type 0} (group_eq : G → G → Bool) (place_eq : P → P → Bool) (group_cmp : G → G → Ordering) (place_cmp : P → P → Ordering) : Type 0 where
@@ -125,3 +126,11 @@ module _ {G P R : Type 0} {group_eq : G → G → Bool} {place_eq : P → P → 
       part_rows (key_cmp group_cmp place_cmp) (key_of group_of place_of) (key_total laws) stamps map next kept (within g) (within_same g) es (stands g stamps es range) up part
       ∙ (ap (λ test. in_order (row_order group_cmp place_cmp group_of place_of) (filter test (values map))) (λ i row. within_group g row i)
       ∙ ap (λ l. in_order (row_order group_cmp place_cmp group_of place_of) (filter (is_of group_eq group_of g) l)) is)
+
+  -- a row of the group in order passes a test exactly where one of the group does
+  pub group_passes : (stamps : BTreeMap (G × Spot P) ℕ) (map : BTreeMap ℕ R) (next : ℕ) (rows : List R) (g : G) (test : R → Bool) → Finds (key_cmp group_cmp place_cmp) (key_of group_of place_of) stamps map next → values map ≡ rows
+      → list_any test (in_order (row_order group_cmp place_cmp group_of place_of) (filter (is_of group_eq group_of g) rows)) ≡ list_any test (filter (is_of group_eq group_of g) rows)
+  group_passes stamps map next rows g test kept is =
+      let once : AreOnce (key_cmp group_cmp place_cmp) (key_of group_of place_of) rows = rw is at kept.once in
+      order_any (key_cmp group_cmp place_cmp) (key_of group_of place_of) (key_total laws) test (filter (is_of group_eq group_of g) rows)
+      (once_filter (key_cmp group_cmp place_cmp) (key_of group_of place_of) (key_total laws) (is_of group_eq group_of g) rows once)
