@@ -1,9 +1,9 @@
-// A set of subjects for each group.
+// A set of subjects for each group, and so a set of groups for each subject.
 ghost use Rattle.std.specs.Prelude.{◌≡◌, ◌+◌, ◌≤◌, ◌==◌, ◌&&◌, ◌||◌, not, [], ℕ, IfOk, OnOk, OnErr, length};
 ghost use Rattle.std.specs.List.{list_any};
 ghost use Rattle.std.specs.List.Sorted.{IsStrictlySortedBy};
 ghost use Rattle.std.specs.Ordering.{nat_cmp};
-ghost use Rattle.reg_graph.specs.Sets.{holds, subjects_of};
+ghost use Rattle.reg_graph.specs.Sets.{holds, subjects_of, groups_of};
 
 use reg_base::{GroupId, Steps, SubjectId};
 use std::alloc::{AllocError, Global};
@@ -12,22 +12,24 @@ use std::marker::Model;
 use std::sync::ledger::Ledger;
 
 /// An ordered set of subjects for each group. Contracts see the pairs (group, subject) in order.
-/// Every use ticks once for each subject that is tested, added, removed or listed.
+/// Every use ticks once for each pair that is tested, added, removed or listed.
 #[derive(Drop)]
 pub struct Sets {
     alloc: Global,
     pairs: BTreeSet<(GroupId, SubjectId)>,
+    /// The same pairs by subject, so that a subject's groups are found without the others.
+    turned: BTreeSet<(SubjectId, GroupId)>,
 }
 
 impl Model for Sets {
     ghost use Rattle.std.specs.Prelude.{List, ℕ};
-    ghost use Rattle.reg_graph.specs.Sets.{IsKept};
+    ghost use Rattle.reg_graph.specs.Sets.{AreTurned};
 
     ghost Value = { List (ℕ × ℕ) };
 
     ghost view = { λ s. s.pairs.keys };
 
-    ghost invariant = { λ s. IsKept s.pairs.keys };
+    ghost invariant = { λ s. AreTurned s.pairs.keys s.turned.keys };
 }
 
 impl Sets {
@@ -38,6 +40,7 @@ impl Sets {
         Sets {
             alloc,
             pairs: BTreeSet::new(alloc),
+            turned: BTreeSet::new(alloc),
         }
     }
 
@@ -64,8 +67,15 @@ impl Sets {
         ensures cost { steps.new ≡ steps.old + 1 }
     {
         steps.tick(); // one subject added
-        self.pairs.insert((g, s))?;
-        Ok(())
+        self.turned.insert((s, g))?;
+        match self.pairs.insert((g, s)) {
+            Ok(_) => Ok(()),
+            Err(_) => {
+                // Only a pair that was in neither set can be refused.
+                self.turned.remove(&(s, g));
+                Err(AllocError)
+            }
+        }
     }
 
     /// Takes the subject out of the group, which may lack it: one step, no memory.
@@ -76,6 +86,7 @@ impl Sets {
     {
         steps.tick(); // one subject removed
         self.pairs.remove(&(g, s));
+        self.turned.remove(&(s, g));
     }
 
     /// The subjects of the group, by id, each once: a step for each. Out of memory no more steps
@@ -100,5 +111,29 @@ impl Sets {
             subjects.push(pair.1)?;
         }
         Ok(subjects)
+    }
+
+    /// The groups that have the subject, by id, each once: a step for each, whatever other groups
+    /// there are. Out of memory no more steps are taken than there are such groups.
+    pub fn groups<L: Ledger>(
+        &self,
+        s: SubjectId,
+        steps: &mut Steps<L>,
+    ) -> Result<Vec<GroupId>, AllocError>
+        ensures value { IfOk result (λ v. v.items ≡ groups_of s self.now) }
+        ensures each { IfOk result (λ v. (g : ℕ) →
+            list_any (λ x. x == g) v.items ≡ holds g s self.now) }
+        ensures sorted { IfOk result (λ v. IsStrictlySortedBy nat_cmp v.items) }
+        ensures cost { IfOk result (λ v. steps.new ≡ steps.old + length v.items) }
+        ensures err { OnErr result (steps.new ≤ steps.old + length (groups_of s self.now)) }
+    {
+        let mut groups = Vec::new(self.alloc);
+        let first = (s, GroupId::new(0));
+        let last = (s, GroupId::new(u32::MAX));
+        for pair in self.turned.range(first..=last) {
+            steps.tick(); // one group listed
+            groups.push(pair.1)?;
+        }
+        Ok(groups)
     }
 }
