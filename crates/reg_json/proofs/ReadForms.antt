@@ -23,10 +23,10 @@ use Rattle.reg_terms.specs.declared.refusal.Refusal.TheVariants.{BadMoment, BadN
 use Rattle.reg_terms.specs.declared.request.Op.{Op}
 use Rattle.reg_terms.specs.declared.request.Op.TheVariants as asked
 use Rattle.reg_terms.specs.declared.request.Request.{Request}
-use Rattle.reg_json.specs.Steps.{◌>>=◌, ensured}
+use Rattle.reg_json.specs.Steps.{◌>>=◌}
 use Rattle.reg_json.specs.Fields.{text_at, text_or_empty, optional_text_at, known_keys, no_other, display_at, set_op_at, inherit_kind_at, scope_at, privilege_at, name_from, folder_from, extension_from, object_from, entity_from, moment_from}
 use Rattle.reg_json.specs.Ops.{form_at, all_stand, all_forms, fields_in, asked_in}
-use Rattle.reg_json.specs.Reading.{data_of, known_kind, reading_of}
+use Rattle.reg_json.specs.Reading.{data_of, known_kind, request_in, reading_of}
 use Rattle.reg_json.specs.Forms.{IsFormed, ReadForm}
 use Rattle.reg_json.proofs.Moments.{read_within}
 use Rattle.reg_json.proofs.Options.{some_tested, either}
@@ -167,15 +167,17 @@ asked_kept table k d =
     let read : Keeps (AreForms (field_kinds (row_of k))) (fields_in fs d) = pass (all_stand fs d) (λ stand. pass (no_other (known_keys fs) (as_object d)) (λ known. all_kept fs d)) in
     step read (λ xs q. some_ok ReadForm (made k xs) (BadRequest []) (made_form table k xs q))
 
-reading_kept : TableMakes → (line : List ℕ) → Keeps IsFormed (reading_of line)
-unfolding reading_of
-reading_kept table line =
-    pass (data_of line) (λ d.
+request_kept : TableMakes → (d : Data) → Keeps IsFormed (request_in d)
+unfolding request_in
+request_kept table d =
     pass_text _ _ (λ word.
     pass (known_kind word) (λ known.
     pass_text _ _ (λ by.
-    pass (ensured (bytes_eq by (codes "g:isa/GrouperSystem")) (codes "by")) (λ system.
-    step (asked_kept table known d) (λ o good. last (record { by = refl; op = good })))))))
+    step (asked_kept table known d) (λ o good. last good))))
+
+reading_kept : TableMakes → (line : List ℕ) → Keeps IsFormed (reading_of line)
+unfolding reading_of
+reading_kept table line = pass (data_of line) (λ d. request_kept table d)
 
 reading_form : TableMakes → (line : List ℕ) → IfOk (reading_of line) IsFormed
 reading_form table line = (reading_kept table line).kept

@@ -1,6 +1,5 @@
--- What holds of a request that was read: GrouperSystem asks, and the op's fields have their forms.
+-- What holds of a request that was read: the op's fields have their forms. Who asks may be any text.
 use Rattle.std.specs.Prelude.{◌≡◌, true}
-use Rattle.reg_base.specs.declared.entity.Entity.TheVariants.{System}
 use Rattle.reg_terms.specs.Forms.{op_has_form}
 use Rattle.reg_terms.specs.declared.request.Request.{Request}
 use Rattle.reg_terms.specs.declared.request.Op.{Op}
@@ -9,7 +8,6 @@ use Rattle.reg_terms.specs.declared.request.Op.{Op}
 abbrev pub ReadForm : Op → Type 0
 ReadForm o = op_has_form o ≡ true
 
--- GrouperSystem asks, and the op's fields have their forms
-pub record IsFormed (request : Request) : Type 0 where
-  pub by : request.by ≡ System
-  pub op : ReadForm request.op
+-- so have those of what a request asks
+abbrev pub IsFormed : Request → Type 0
+IsFormed request = ReadForm request.op

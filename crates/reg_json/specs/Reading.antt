@@ -1,17 +1,16 @@
 -- What a line asks: a JSON object (RFC 8259) with `op`, `by` and the op's fields, and nothing else.
 use Rattle.std.specs.Prelude.{ℕ, List, [], Option, Some, None, Result, Ok, Err, length, nat_le, codes, if◌then◌else◌, ok_or}
-use Rattle.std.specs.Str.{bytes_eq, is_utf8}
+use Rattle.std.specs.Str.{is_utf8}
 use Rattle.serde_json.specs.Data.{Data}
 use Rattle.serde_json.specs.Read.{read}
 use Rattle.serde_json.specs.Find.{as_object}
 use Rattle.reg_terms.specs.declared.request.Request.{Request}
-use Rattle.reg_base.specs.declared.entity.Entity.TheVariants.{System}
 use Rattle.reg_terms.specs.declared.table.OpKind.{OpKind}
 use Rattle.reg_terms.specs.declared.refusal.Refusal.{Refusal}
 use Rattle.reg_terms.specs.declared.refusal.Refusal.TheVariants.{BadRequest, TooLong}
 use Rattle.reg_terms.specs.Limits.{max_line}
 use Rattle.reg_terms.specs.Table.{kind_named}
-use Rattle.reg_json.specs.Steps.{◌>>=◌, ensured}
+use Rattle.reg_json.specs.Steps.{◌>>=◌}
 use Rattle.reg_json.specs.Fields.{text_at}
 use Rattle.reg_json.specs.Ops.{asked_in}
 
@@ -32,14 +31,18 @@ data_of line = if nat_le (length line) max_line then json_of line else Err (TooL
 abbrev pub known_kind : List ℕ → Result OpKind Refusal
 known_kind word = ok_or (kind_named word) (BadRequest (codes "op"))
 
--- what a line asks, or why it is refused: the first fault in the order of length, bytes, op, by, the op's fields, other
--- keys, and the fields' forms
-unfoldable pub reading_of : List ℕ → Result Request Refusal
-reading_of line = do
-  d ← data_of line
+-- what an object asks, or why it is refused: the first fault in the order of op, by, the op's fields, other keys, and
+-- the fields' forms; by may be any text
+unfoldable pub request_in : Data → Result Request Refusal
+request_in d = do
   word ← text_at (codes "op") d
   known ← known_kind word
   by ← text_at (codes "by") d
-  system ← ensured (bytes_eq by (codes "g:isa/GrouperSystem")) (codes "by")
   asked ← asked_in known d
-  Ok (record { by = System; op = asked })
+  Ok (record { by = by; op = asked })
+
+-- what a line asks, or why it is refused: first its length and its bytes count
+unfoldable pub reading_of : List ℕ → Result Request Refusal
+reading_of line = do
+  d ← data_of line
+  request_in d

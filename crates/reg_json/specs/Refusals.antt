@@ -5,12 +5,14 @@ use Rattle.serde_json.specs.Data as json
 use Rattle.reg_terms.specs.declared.refusal.Refusal.{Refusal}
 use Rattle.reg_terms.specs.declared.refusal.Refusal.TheVariants as refusal
 
--- what a refusal carries: nothing, a limit, a field or an object by its text, a use, or a kind of which there would be more than its limit
+-- what a refusal carries: nothing, a limit, a field or an object by its text, an object and the privilege that is
+-- demanded on it, a use, or a kind of which there would be more than its limit
 pub data Carries : Type 0 where
   nothing : Carries
   limit : ℕ → Carries
   field : List ℕ → Carries
   object : List ℕ → Carries
+  demand : List ℕ → List ℕ → Carries
   used : List ℕ → Carries
   count : List ℕ → ℕ → Carries
 
@@ -20,6 +22,7 @@ refused code word nothing = json.object (member (codes "code") (number (unsigned
 refused code word (limit n) = json.object (member (codes "code") (number (unsigned code)) (member (codes "limit") (number (unsigned n)) (member (codes "refused") (string word) no_members)))
 refused code word (field text) = json.object (member (codes "code") (number (unsigned code)) (member (codes "field") (string text) (member (codes "refused") (string word) no_members)))
 refused code word (object text) = json.object (member (codes "code") (number (unsigned code)) (member (codes "object") (string text) (member (codes "refused") (string word) no_members)))
+refused code word (demand name privilege) = json.object (member (codes "code") (number (unsigned code)) (member (codes "object") (string name) (member (codes "privilege") (string privilege) (member (codes "refused") (string word) no_members))))
 refused code word (used text) = json.object (member (codes "code") (number (unsigned code)) (member (codes "refused") (string word) (member (codes "use") (string text) no_members)))
 refused code word (count kind n) = json.object (member (codes "code") (number (unsigned code)) (member (codes "kind") (string kind) (member (codes "limit") (number (unsigned n)) (member (codes "refused") (string word) no_members))))
 
@@ -29,7 +32,9 @@ refusal_data (refusal.TooLong n) = refused 1 (codes "TooLong") (limit n)
 refusal_data (refusal.BadRequest text) = refused 2 (codes "BadRequest") (field text)
 refusal_data (refusal.BadName text) = refused 3 (codes "BadName") (field text)
 refusal_data (refusal.BadMoment text) = refused 4 (codes "BadMoment") (field text)
+refusal_data refusal.NoCaller = refused 5 (codes "NoCaller") nothing
 refusal_data (refusal.NotFound name) = refused 6 (codes "NotFound") (object name)
+refusal_data (refusal.Denied name privilege) = refused 7 (codes "Denied") (demand name privilege)
 refusal_data refusal.BadWindow = refused 9 (codes "BadWindow") nothing
 refusal_data (refusal.WrongKind text) = refused 10 (codes "WrongKind") (field text)
 refusal_data (refusal.Taken name) = refused 11 (codes "Taken") (object name)

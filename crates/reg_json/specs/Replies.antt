@@ -4,11 +4,14 @@ use Rattle.serde_json.specs.Data.{Data, Items, null, array, object, member, no_m
 use Rattle.serde_json.specs.View.{items_of}
 use Rattle.serde_json.specs.Written.{compact_text}
 use Rattle.reg_base.specs.MomentText.{text_of}
+use Rattle.reg_base.specs.declared.privilege.Privilege.{Privilege}
+use Rattle.reg_terms.specs.Privileges.{line_of}
 use Rattle.reg_terms.specs.declared.kinds.SetOp.{SetOp}
 use Rattle.reg_terms.specs.declared.kinds.SetOp.TheVariants.{Intersection, Complement}
 use Rattle.reg_terms.specs.declared.query.Answer.{Answer}
 use Rattle.reg_terms.specs.declared.query.Answer.TheVariants as answer
 use Rattle.reg_terms.specs.declared.shown.FactorsShown.{FactorsShown}
+use Rattle.reg_terms.specs.declared.shown.GrantShown.{GrantShown}
 use Rattle.reg_terms.specs.declared.shown.RowShown.{RowShown}
 use Rattle.reg_terms.specs.declared.reply.Reply.{Reply}
 use Rattle.reg_terms.specs.declared.reply.Reply.TheVariants as reply
@@ -37,12 +40,27 @@ abbrev pub factors_data : Option FactorsShown → Data
 factors_data None = null
 factors_data (Some factors) = object (member (codes "kind") (string (kind_word factors.kind)) (member (codes "left") (string factors.left) (member (codes "right") (string factors.right) no_members)))
 
+-- a grant as JSON data: its holder's text, and the name of the privilege
+abbrev pub grant_data : GrantShown → Data
+grant_data grant = object (member (codes "holder") (string grant.holder) (member (codes "privilege") (string (line_of grant.privilege).name) no_members))
+
+-- grants as an array's items
+abbrev pub grant_items : List GrantShown → Items
+grant_items grants = items_of (map grant_data grants)
+
+-- privileges by their names
+abbrev pub names_of : List Privilege → List (List ℕ)
+names_of privileges = map (λ (p : Privilege). (line_of p).name) privileges
+
 -- a query's answer as JSON data
 unfoldable pub answer_data : Answer → Data
 answer_data (answer.GroupGet display name) = object (member (codes "display") (string display) (member (codes "name") (string name) (member (codes "ok") (boolean true) no_members)))
 answer_data (answer.FolderList attributes definitions folders groups) = object (member (codes "attributes") (array (strings attributes)) (member (codes "definitions") (array (strings definitions)) (member (codes "folders") (array (strings folders)) (member (codes "groups") (array (strings groups)) (member (codes "ok") (boolean true) no_members)))))
 answer_data (answer.Members texts) = object (member (codes "members") (array (strings texts)) (member (codes "ok") (boolean true) no_members))
 answer_data (answer.Rows composite rows) = object (member (codes "composite") (factors_data composite) (member (codes "ok") (boolean true) (member (codes "rows") (array (row_items rows)) no_members)))
+answer_data (answer.Groups groups) = object (member (codes "groups") (array (strings groups)) (member (codes "ok") (boolean true) no_members))
+answer_data (answer.Grants grants) = object (member (codes "grants") (array (grant_items grants)) (member (codes "ok") (boolean true) no_members))
+answer_data (answer.May privileges) = object (member (codes "ok") (boolean true) (member (codes "privileges") (array (strings (names_of privileges))) no_members))
 
 -- a reply as JSON data
 unfoldable pub reply_data : Reply → Data

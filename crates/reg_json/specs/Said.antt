@@ -3,13 +3,14 @@ use Rattle.serde_json.specs.Data.{Data}
 use Rattle.reg_json.specs.declared.said.Said.{Said}
 use Rattle.reg_json.specs.declared.said.Carried.{Carried}
 use Rattle.reg_json.specs.declared.said.Carried.TheVariants as carried
-use Rattle.reg_json.specs.Refusals.{Carries, nothing, limit, field, object, used, count, refused}
+use Rattle.reg_json.specs.Refusals.{Carries, nothing, limit, field, object, demand, used, count, refused}
 
 abbrev pub carries : Carried → Carries
 carries carried.Nothing = nothing
 carries (carried.Limit n) = limit n
 carries (carried.Field text) = field text.now
 carries (carried.Object name) = object name.now
+carries (carried.Demand name privilege) = demand name.now privilege.now
 carries (carried.Use text) = used text.now
 carries (carried.Count kind n) = count kind.now n
 

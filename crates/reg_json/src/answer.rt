@@ -8,10 +8,10 @@ ghost use Rattle.reg_json.specs.Replies.{strings, answer_data};
 ghost use Rattle.reg_terms.specs.declared.query.Answer.TheVariants as answer;
 
 use crate::flat::{Scalar, put_object};
-use crate::shown::{put_factors, put_rows};
+use crate::shown::{put_factors, put_grants, put_privileges, put_rows};
 use json::Writer;
 use reg_base::{Name, Text};
-use reg_terms::{Answer, FactorsShown, RowsShown, Texts};
+use reg_terms::{Answer, FactorsShown, GrantsShown, Privileges, RowsShown, Texts};
 use std::alloc::AllocError;
 
 fn put_strings(out: &mut Writer, texts: &Texts) -> Result<(), AllocError>
@@ -104,6 +104,41 @@ fn put_memberships(
     out.end_object()
 }
 
+#[tactic(auto, unfolding(crate::specs::Replies::answer_data))]
+fn put_groups(out: &mut Writer, groups: &Texts) -> Result<(), AllocError>
+    ensures ok { OnOk result (out.new.tokens ≡ out.old.tokens ++ json_tokens (outline (answer_data (answer.Groups groups.now)))) }
+    ensures before { out.new.before ≡ out.old.before }
+{
+    out.begin_object()?;
+    put_named_strings(out, "groups", groups)?;
+    put_ok(out)?;
+    out.end_object()
+}
+
+#[tactic(auto, unfolding(crate::specs::Replies::answer_data))]
+fn put_granted(out: &mut Writer, grants: &GrantsShown) -> Result<(), AllocError>
+    ensures ok { OnOk result (out.new.tokens ≡ out.old.tokens ++ json_tokens (outline (answer_data (answer.Grants grants.now)))) }
+    ensures before { out.new.before ≡ out.old.before }
+{
+    out.begin_object()?;
+    out.key("grants")?;
+    put_grants(out, grants.list())?;
+    put_ok(out)?;
+    out.end_object()
+}
+
+#[tactic(auto, unfolding(crate::specs::Replies::answer_data))]
+fn put_may(out: &mut Writer, privileges: &Privileges) -> Result<(), AllocError>
+    ensures ok { OnOk result (out.new.tokens ≡ out.old.tokens ++ json_tokens (outline (answer_data (answer.May privileges.now)))) }
+    ensures before { out.new.before ≡ out.old.before }
+{
+    out.begin_object()?;
+    put_ok(out)?;
+    out.key("privileges")?;
+    put_privileges(out, privileges.list())?;
+    out.end_object()
+}
+
 /// Writes what a query is answered. The only error is out of memory.
 pub fn put_answer(out: &mut Writer, answer: &Answer) -> Result<(), AllocError>
     ensures ok { OnOk result (out.new.tokens ≡ out.old.tokens ++ json_tokens (outline (answer_data answer.now))) }
@@ -119,5 +154,8 @@ pub fn put_answer(out: &mut Writer, answer: &Answer) -> Result<(), AllocError>
         } => put_listing(out, attributes, definitions, folders, groups),
         Answer::Members { members } => put_members(out, members),
         Answer::Rows { composite, rows } => put_memberships(out, composite, rows),
+        Answer::Groups { groups } => put_groups(out, groups),
+        Answer::Grants { grants } => put_granted(out, grants),
+        Answer::May { privileges } => put_may(out, privileges),
     }
 }

@@ -10,7 +10,7 @@ ghost use Rattle.reg_json.specs.Reading.{reading_of};
 
 use reg_terms::law_ops;
 
-/// GrouperSystem asks what is read, and its fields have their forms.
+/// The fields of a request that is read have their forms.
 pub fn law_read_is_formed()
     ensures { (line : List ℕ) (request : Request) → reading_of line ≡ Ok request → IsFormed request }
 {

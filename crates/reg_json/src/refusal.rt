@@ -20,7 +20,13 @@ fn said(refusal: &Refusal) -> Said<'_>
         Refusal::BadRequest { field } => Said::new(2, "BadRequest", Carried::Field(field)),
         Refusal::BadName { field } => Said::new(3, "BadName", Carried::Field(field)),
         Refusal::BadMoment { field } => Said::new(4, "BadMoment", Carried::Field(field)),
+        Refusal::NoCaller => Said::new(5, "NoCaller", Carried::Nothing),
         Refusal::NotFound { object } => Said::new(6, "NotFound", Carried::Object(object)),
+        Refusal::Denied { object, privilege } => Said::new(
+            7,
+            "Denied",
+            Carried::Demand(object, privilege),
+        ),
         Refusal::BadWindow => Said::new(9, "BadWindow", Carried::Nothing),
         Refusal::WrongKind { field } => Said::new(10, "WrongKind", Carried::Field(field)),
         Refusal::Taken { object } => Said::new(11, "Taken", Carried::Object(object)),

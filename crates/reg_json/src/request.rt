@@ -3,12 +3,12 @@ ghost use Rattle.std.specs.Prelude.{◌≡◌, IfOk};
 ghost use Rattle.serde_json.specs.View.{view};
 ghost use Rattle.reg_json.specs.Steps.{Gives};
 ghost use Rattle.reg_json.specs.Forms.{IsFormed};
-ghost use Rattle.reg_json.specs.Reading.{data_of, known_kind, reading_of};
+ghost use Rattle.reg_json.specs.Reading.{data_of, known_kind, request_in, reading_of};
 
 use crate::fault::{ReadFault, bad};
-use crate::fields::{ensured, text_at};
+use crate::fields::text_at;
 use crate::ops::asked_in;
-use reg_base::Entity;
+use reg_base::Bytes;
 use reg_terms::{MAX_LINE, OpKind, Refusal, Request, kind_named, law_ops};
 use serde_json::Value;
 use std::alloc::{AllocError, Global};
@@ -49,20 +49,26 @@ fn known_kind(alloc: Global, word: &str) -> Result<OpKind, ReadFault>
     }
 }
 
+#[tactic(auto, unfolding(crate::specs::Reading::request_in))]
+fn request_in(alloc: Global, value: &Value) -> Result<Request, ReadFault>
+    ensures { Gives (λ r. r) result (request_in (view value.now)) }
+{
+    let word = text_at(alloc, value, "op")?;
+    let kind = known_kind(alloc, word)?;
+    let by = text_at(alloc, value, "by")?;
+    let by = Bytes::of(alloc, by.as_bytes())?;
+    let op = asked_in(alloc, value, kind)?;
+    Ok(Request { by, op })
+}
+
 #[tactic(auto, unfolding(crate::specs::Reading::reading_of))]
 fn reading_of(alloc: Global, line: &[u8]) -> Result<Request, ReadFault>
     ensures { Gives (λ r. r) result (reading_of line.now) }
 {
-    let value = data_of(alloc, line)?;
-    let word = text_at(alloc, &value, "op")?;
-    let kind = known_kind(alloc, word)?;
-    let by = text_at(alloc, &value, "by")?;
-    ensured(alloc, by == "g:isa/GrouperSystem", "by")?;
-    let op = asked_in(alloc, &value, kind)?;
-    Ok(Request {
-        by: Entity::System,
-        op,
-    })
+    match data_of(alloc, line) {
+        Ok(value) => request_in(alloc, &value),
+        Err(fault) => Err(fault),
+    }
 }
 
 /// What a line asks, or why it is refused (`docs/REQUESTS.md`, "Reading"): TooLong, BadRequest, BadName

@@ -26,6 +26,8 @@ pub enum Carried<'a> {
     Limit(u64),
     Field(&'a Text),
     Object(&'a Text),
+    /// An object, and the privilege that is demanded on it.
+    Demand(&'a Text, &'a Text),
     Use(&'a Text),
     /// A kind of which there would be more than its limit.
     Count(&'a Text, u64),
@@ -97,6 +99,24 @@ fn put_object_named<'a>(
 }
 
 #[tactic(auto, unfolding(crate::specs::Refusals::refused))]
+fn put_demand<'a>(
+    out: &mut Writer,
+    code: u64,
+    word: &'a str,
+    name: &'a str,
+    privilege: &'a str,
+) -> Result<(), AllocError>
+    ensures ok { OnOk result (out.new.tokens ≡ out.old.tokens ++ json_tokens (outline (refused code word.now (say.demand name.now privilege.now)))) }
+    ensures before { out.new.before ≡ out.old.before }
+{
+    let code = ("code", Scalar::Number(code));
+    let name = ("object", Scalar::Text(name));
+    let privilege = ("privilege", Scalar::Text(privilege));
+    let word = ("refused", Scalar::Text(word));
+    put_object(out, &[code, name, privilege, word])
+}
+
+#[tactic(auto, unfolding(crate::specs::Refusals::refused))]
 fn put_use<'a>(out: &mut Writer, code: u64, word: &'a str, used: &'a str) -> Result<(), AllocError>
     ensures ok { OnOk result (out.new.tokens ≡ out.old.tokens ++ json_tokens (outline (refused code word.now (say.used used.now)))) }
     ensures before { out.new.before ≡ out.old.before }
@@ -136,6 +156,13 @@ pub fn put_said(out: &mut Writer, said: &Said<'_>) -> Result<(), AllocError>
         Carried::Limit(limit) => put_limit(out, code, word, *limit),
         Carried::Field(field) => put_field(out, code, word, field.as_str()),
         Carried::Object(object) => put_object_named(out, code, word, object.as_str()),
+        Carried::Demand(name, privilege) => put_demand(
+            out,
+            code,
+            word,
+            name.as_str(),
+            privilege.as_str(),
+        ),
         Carried::Use(used) => put_use(out, code, word, used.as_str()),
         Carried::Count(kind, limit) => put_count(out, code, word, kind.as_str(), *limit),
     }

@@ -1,13 +1,14 @@
-// What the query of memberships shows, as JSON.
+// What queries show, as JSON.
 ghost use Rattle.std.specs.Prelude.{◌≡◌, ◌++◌, OnOk};
 ghost use Rattle.json.specs.Tree.{json_tokens};
 ghost use Rattle.serde_json.specs.Data.{array};
 ghost use Rattle.serde_json.specs.Written.{outline};
-ghost use Rattle.reg_json.specs.Replies.{kind_word, row_data, row_items, factors_data};
+ghost use Rattle.reg_json.specs.Replies.{kind_word, row_data, row_items, factors_data, grant_data, grant_items, names_of, strings};
 
 use crate::flat::{Scalar, put_object};
 use json::Writer;
-use reg_terms::{FactorsShown, RowShown, SetOp};
+use reg_base::Privilege;
+use reg_terms::{FactorsShown, GrantShown, RowShown, SetOp, privilege_name};
 use std::alloc::AllocError;
 
 fn put_row(out: &mut Writer, row: &RowShown) -> Result<(), AllocError>
@@ -54,4 +55,37 @@ pub fn put_factors(out: &mut Writer, factors: &Option<FactorsShown>) -> Result<(
     let left = ("left", Scalar::Text(factors.left.as_str()));
     let right = ("right", Scalar::Text(factors.right.as_str()));
     put_object(out, &[kind, left, right])
+}
+
+fn put_grant(out: &mut Writer, grant: &GrantShown) -> Result<(), AllocError>
+    ensures ok { OnOk result (out.new.tokens ≡ out.old.tokens ++ json_tokens (outline (grant_data grant.now))) }
+    ensures before { out.new.before ≡ out.old.before }
+{
+    let holder = ("holder", Scalar::Text(grant.holder.as_str()));
+    let privilege = ("privilege", Scalar::Text(privilege_name(grant.privilege)));
+    put_object(out, &[holder, privilege])
+}
+
+/// Writes grants as an array. The only error is out of memory.
+pub fn put_grants(out: &mut Writer, grants: &[GrantShown]) -> Result<(), AllocError>
+    ensures ok { OnOk result (out.new.tokens ≡ out.old.tokens ++ json_tokens (outline (array (grant_items grants.now)))) }
+    ensures before { out.new.before ≡ out.old.before }
+{
+    out.begin_array()?;
+    for grant in grants {
+        put_grant(out, grant)?;
+    }
+    out.end_array()
+}
+
+/// Writes the names of privileges as an array. The only error is out of memory.
+pub fn put_privileges(out: &mut Writer, privileges: &[Privilege]) -> Result<(), AllocError>
+    ensures ok { OnOk result (out.new.tokens ≡ out.old.tokens ++ json_tokens (outline (array (strings (names_of privileges.now))))) }
+    ensures before { out.new.before ≡ out.old.before }
+{
+    out.begin_array()?;
+    for privilege in privileges {
+        out.string(privilege_name(*privilege))?;
+    }
+    out.end_array()
 }
