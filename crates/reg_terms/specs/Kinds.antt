@@ -54,6 +54,16 @@ is_of_kind kind.Group (object.Group g) = true
 is_of_kind kind.Definition (object.Def a) = true
 is_of_kind _ _ = false
 
+-- the group that a member or a holder is, if it is one
+abbrev pub member_group : Member → Option ℕ
+member_group (member.Person s) = None
+member_group (member.Group g) = Some g
+
+abbrev pub holder_group : Holder → Option ℕ
+holder_group holder.Everyone = None
+holder_group (holder.Person s) = None
+holder_group (holder.Group g) = Some g
+
 -- a folder's id, if the object is one
 abbrev pub as_folder : Option Object → Option ℕ
 as_folder None = None

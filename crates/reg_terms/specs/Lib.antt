@@ -1,4 +1,5 @@
 pub mod Kinds
+pub mod Links
 pub mod Limits
 pub mod Parts
 pub mod Table

@@ -1,9 +1,12 @@
-// The keys by which tables find rows.
+// The keys by which tables find rows, and the groups that keys name.
+ghost use Rattle.reg_terms.specs.Kinds.{member_group, holder_group};
+ghost use Rattle.reg_terms.specs.Links.{members_alike, behind_one};
+
 use crate::{
     CompositeRow, GrantRow, Holder, InheritKind, InheritRow, Member, MemberRow, Object, Scope,
 };
 use reg_base::{FolderId, GroupId, Privilege};
-use reg_table::Row;
+use reg_table::{LinkedRow, Row};
 
 /// A membership is found by its group and member, and a group's are listed by member: persons by
 /// id, then groups by id.
@@ -22,6 +25,19 @@ impl Row for MemberRow {
 
     fn place(&self) -> Member {
         self.member
+    }
+}
+
+/// A membership may name a group as its member.
+impl LinkedRow for MemberRow {
+    type Link = GroupId;
+
+    ghost link_at = { λ _ member. member_group member };
+
+    ghost link_alike = { λ g h p q group_is place_is. members_alike p q place_is };
+
+    fn link(_group: GroupId, member: Member) -> Option<GroupId> {
+        member.group()
     }
 }
 
@@ -62,6 +78,19 @@ impl Row for GrantRow {
     }
 }
 
+/// A grant may name a group as its holder.
+impl LinkedRow for GrantRow {
+    type Link = GroupId;
+
+    ghost link_at = { λ _ place. holder_group place.1 };
+
+    ghost link_alike = { λ g h p q group_is place_is. behind_one _ p.1 q.1 place_is };
+
+    fn link(_object: Object, place: (Privilege, Holder)) -> Option<GroupId> {
+        place.1.group()
+    }
+}
+
 /// An inherit is found by its folder and all that it says, and a folder's are listed by the kind of
 /// objects, the scope, and then as grants are.
 impl Row for InheritRow {
@@ -79,5 +108,18 @@ impl Row for InheritRow {
 
     fn place(&self) -> (InheritKind, Scope, Privilege, Holder) {
         (self.kind, self.scope, self.privilege, self.holder)
+    }
+}
+
+/// An inherit may name a group as its holder.
+impl LinkedRow for InheritRow {
+    type Link = GroupId;
+
+    ghost link_at = { λ _ place. holder_group place.3 };
+
+    ghost link_alike = { λ g h p q group_is place_is. behind_one _ p.3 q.3 place_is };
+
+    fn link(_folder: FolderId, place: (InheritKind, Scope, Privilege, Holder)) -> Option<GroupId> {
+        place.3.group()
     }
 }

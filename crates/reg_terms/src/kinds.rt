@@ -1,6 +1,6 @@
 // What rows speak of.
 ghost use Rattle.std.specs.Prelude.{◌≡◌};
-ghost use Rattle.reg_terms.specs.Kinds.{same_member, same_object, same_holder, same_scope, same_kind, is_of_kind, as_folder, as_group};
+ghost use Rattle.reg_terms.specs.Kinds.{same_member, same_object, same_holder, same_scope, same_kind, is_of_kind, member_group, holder_group, as_folder, as_group};
 
 use reg_base::{AttrDefId, AttrId, FolderId, GroupId, Moment, SubjectId, Text};
 
@@ -68,6 +68,16 @@ pub enum Member {
 }
 
 impl Member {
+    /// The group, if it is one.
+    pub fn group(&self) -> Option<GroupId>
+        ensures { result ≡ member_group self.now }
+    {
+        match self {
+            Member::Person(_) => None,
+            Member::Group(id) => Some(*id),
+        }
+    }
+
     /// Whether the two are one.
     pub fn is(&self, other: &Member) -> bool
         ensures { result ≡ same_member self.now other.now }
@@ -88,6 +98,16 @@ pub enum Holder {
 }
 
 impl Holder {
+    /// The group, if it is one.
+    pub fn group(&self) -> Option<GroupId>
+        ensures { result ≡ holder_group self.now }
+    {
+        match self {
+            Holder::Everyone | Holder::Person(_) => None,
+            Holder::Group(id) => Some(*id),
+        }
+    }
+
     /// Whether the two are one.
     pub fn is(&self, other: &Holder) -> bool
         ensures { result ≡ same_holder self.now other.now }
