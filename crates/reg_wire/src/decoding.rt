@@ -16,8 +16,12 @@ fn stamped_at(alloc: Global, at: Moment, bytes: &[u8]) -> Result<Stamped, ReadFa
     ensures { Gives (λ stamped. stamped) result (stamped_at at bytes.now) }
 {
     let (by, rest) = entity_at(alloc, bytes)?;
-    let (command, rest) = command_of(alloc, rest)?;
+    let (command, rest) = match command_of(alloc, rest) {
+        Ok(found) => found,
+        Err(fault) => return Err(fault),
+    };
     if !rest.is_empty() {
+        drop(command);
         return Err(ReadFault::Malformed);
     }
     Ok(Stamped { at, by, command })

@@ -2,7 +2,9 @@
 //! payload is of one command. A payload has the moment (eight bytes, the least first), the text of who gave the
 //! command, the code of its op (one byte) and the op's fields in order, and nothing else. A text is its length (two
 //! bytes, the least first) and its bytes. A moment that may be left out is 0, or 1 and the moment. The kind of a
-//! composite is 1 for an intersection and 2 for a complement.
+//! composite is 1 for an intersection and 2 for a complement. Of an inherit the kind of objects is 1 for folders, 2
+//! for groups and 3 for definitions, and the scope 1 for those directly in the folder and 2 for those at any depth
+//! below it. A privilege is its code.
 #![tactic(auto)]
 
 mod decoding;

@@ -16,50 +16,50 @@ fn field_at(alloc: Global, kind: FieldKind, bytes: &[u8]) -> Result<(Field, &[u8
     ensures { Gives (λ x. (x.0, x.1.now)) result (field_at kind bytes.now) }
 {
     match kind {
-        FieldKind::Name => {
-            let (name, rest) = name_at(alloc, bytes)?;
-            Ok((Field::Name(name), rest))
-        }
-        FieldKind::Folder => {
-            let (folder, rest) = folder_at(alloc, bytes)?;
-            Ok((Field::Folder(folder), rest))
-        }
-        FieldKind::Extension => {
-            let (extension, rest) = extension_at(alloc, bytes)?;
-            Ok((Field::Extension(extension), rest))
-        }
-        FieldKind::Display => {
-            let (display, rest) = display_at(alloc, bytes)?;
-            Ok((Field::Display(display), rest))
-        }
-        FieldKind::Entity => {
-            let (entity, rest) = entity_at(alloc, bytes)?;
-            Ok((Field::Entity(entity), rest))
-        }
-        FieldKind::Object => {
-            let (object, rest) = object_at(alloc, bytes)?;
-            Ok((Field::Object(object), rest))
-        }
+        FieldKind::Name => match name_at(alloc, bytes) {
+            Ok((name, rest)) => Ok((Field::Name(name), rest)),
+            Err(fault) => Err(fault),
+        },
+        FieldKind::Folder => match folder_at(alloc, bytes) {
+            Ok((folder, rest)) => Ok((Field::Folder(folder), rest)),
+            Err(fault) => Err(fault),
+        },
+        FieldKind::Extension => match extension_at(alloc, bytes) {
+            Ok((extension, rest)) => Ok((Field::Extension(extension), rest)),
+            Err(fault) => Err(fault),
+        },
+        FieldKind::Display => match display_at(alloc, bytes) {
+            Ok((display, rest)) => Ok((Field::Display(display), rest)),
+            Err(fault) => Err(fault),
+        },
+        FieldKind::Entity => match entity_at(alloc, bytes) {
+            Ok((entity, rest)) => Ok((Field::Entity(entity), rest)),
+            Err(fault) => Err(fault),
+        },
+        FieldKind::Object => match object_at(alloc, bytes) {
+            Ok((object, rest)) => Ok((Field::Object(object), rest)),
+            Err(fault) => Err(fault),
+        },
         FieldKind::OptionalMoment => match optional_moment_at(bytes) {
             Ok((moment, rest)) => Ok((Field::OptionalMoment(moment), rest)),
             Err(fault) => Err(fault),
         },
-        FieldKind::SetOp => {
-            let (kind, rest) = set_op_at(bytes)?;
-            Ok((Field::SetOp(kind), rest))
-        }
-        FieldKind::InheritKind => {
-            let (kind, rest) = inherit_kind_at(bytes)?;
-            Ok((Field::InheritKind(kind), rest))
-        }
-        FieldKind::Scope => {
-            let (scope, rest) = scope_at(bytes)?;
-            Ok((Field::Scope(scope), rest))
-        }
-        FieldKind::Privilege => {
-            let (privilege, rest) = privilege_at(bytes)?;
-            Ok((Field::Privilege(privilege), rest))
-        }
+        FieldKind::SetOp => match set_op_at(bytes) {
+            Ok((kind, rest)) => Ok((Field::SetOp(kind), rest)),
+            Err(fault) => Err(fault),
+        },
+        FieldKind::InheritKind => match inherit_kind_at(bytes) {
+            Ok((kind, rest)) => Ok((Field::InheritKind(kind), rest)),
+            Err(fault) => Err(fault),
+        },
+        FieldKind::Scope => match scope_at(bytes) {
+            Ok((scope, rest)) => Ok((Field::Scope(scope), rest)),
+            Err(fault) => Err(fault),
+        },
+        FieldKind::Privilege => match privilege_at(bytes) {
+            Ok((privilege, rest)) => Ok((Field::Privilege(privilege), rest)),
+            Err(fault) => Err(fault),
+        },
     }
 }
 
@@ -74,7 +74,13 @@ fn fields_at<'a>(
         [] => Ok((VecDeque::new(alloc), bytes)),
         [(_, kind), rest @ ..] => {
             let (field, bytes) = field_at(alloc, *kind, bytes)?;
-            let (mut others, bytes) = fields_at(alloc, rest, bytes)?;
+            let (mut others, bytes) = match fields_at(alloc, rest, bytes) {
+                Ok(found) => found,
+                Err(fault) => {
+                    drop(field);
+                    return Err(fault);
+                }
+            };
             match others.push_front(field) {
                 Ok(()) => Ok((others, bytes)),
                 Err(_) => Err(ReadFault::Memory),
