@@ -24,34 +24,34 @@ fn stands_at(alloc: Global, value: &Value, key: &str, kind: FieldKind) -> Result
         | FieldKind::Folder
         | FieldKind::Extension
         | FieldKind::Entity
-        | FieldKind::Object => {
-            let _text = text_at(alloc, value, key)?;
-            Ok(true)
-        }
-        FieldKind::Display => {
-            let _text = display_at(alloc, value, key)?;
-            Ok(true)
-        }
-        FieldKind::OptionalMoment => {
-            let _text = optional_text_at(alloc, value, key)?;
-            Ok(true)
-        }
-        FieldKind::SetOp => {
-            let _kind = set_op_at(alloc, value, key)?;
-            Ok(true)
-        }
-        FieldKind::InheritKind => {
-            let _kind = inherit_kind_at(alloc, value, key)?;
-            Ok(true)
-        }
-        FieldKind::Scope => {
-            let _scope = scope_at(alloc, value, key)?;
-            Ok(true)
-        }
-        FieldKind::Privilege => {
-            let _privilege = privilege_at(alloc, value, key)?;
-            Ok(true)
-        }
+        | FieldKind::Object => match text_at(alloc, value, key) {
+            Ok(_) => Ok(true),
+            Err(fault) => Err(fault),
+        },
+        FieldKind::Display => match display_at(alloc, value, key) {
+            Ok(_) => Ok(true),
+            Err(fault) => Err(fault),
+        },
+        FieldKind::OptionalMoment => match optional_text_at(alloc, value, key) {
+            Ok(_) => Ok(true),
+            Err(fault) => Err(fault),
+        },
+        FieldKind::SetOp => match set_op_at(alloc, value, key) {
+            Ok(_) => Ok(true),
+            Err(fault) => Err(fault),
+        },
+        FieldKind::InheritKind => match inherit_kind_at(alloc, value, key) {
+            Ok(_) => Ok(true),
+            Err(fault) => Err(fault),
+        },
+        FieldKind::Scope => match scope_at(alloc, value, key) {
+            Ok(_) => Ok(true),
+            Err(fault) => Err(fault),
+        },
+        FieldKind::Privilege => match privilege_at(alloc, value, key) {
+            Ok(_) => Ok(true),
+            Err(fault) => Err(fault),
+        },
     }
 }
 
@@ -94,22 +94,22 @@ fn form_at(alloc: Global, value: &Value, key: &str, kind: FieldKind) -> Result<F
             let moment = moment_from(alloc, key, text)?;
             Ok(Field::OptionalMoment(moment))
         }
-        FieldKind::SetOp => {
-            let kind = set_op_at(alloc, value, key)?;
-            Ok(Field::SetOp(kind))
-        }
-        FieldKind::InheritKind => {
-            let kind = inherit_kind_at(alloc, value, key)?;
-            Ok(Field::InheritKind(kind))
-        }
-        FieldKind::Scope => {
-            let scope = scope_at(alloc, value, key)?;
-            Ok(Field::Scope(scope))
-        }
-        FieldKind::Privilege => {
-            let privilege = privilege_at(alloc, value, key)?;
-            Ok(Field::Privilege(privilege))
-        }
+        FieldKind::SetOp => match set_op_at(alloc, value, key) {
+            Ok(kind) => Ok(Field::SetOp(kind)),
+            Err(fault) => Err(fault),
+        },
+        FieldKind::InheritKind => match inherit_kind_at(alloc, value, key) {
+            Ok(kind) => Ok(Field::InheritKind(kind)),
+            Err(fault) => Err(fault),
+        },
+        FieldKind::Scope => match scope_at(alloc, value, key) {
+            Ok(scope) => Ok(Field::Scope(scope)),
+            Err(fault) => Err(fault),
+        },
+        FieldKind::Privilege => match privilege_at(alloc, value, key) {
+            Ok(privilege) => Ok(Field::Privilege(privilege)),
+            Err(fault) => Err(fault),
+        },
     }
 }
 
@@ -140,7 +140,13 @@ fn all_forms(
         [] => Ok(VecDeque::new(alloc)),
         [(key, kind), rest @ ..] => {
             let field = form_at(alloc, value, key, *kind)?;
-            let mut others = all_forms(alloc, value, rest)?;
+            let mut others = match all_forms(alloc, value, rest) {
+                Ok(others) => others,
+                Err(fault) => {
+                    drop(field);
+                    return Err(fault);
+                }
+            };
             match others.push_front(field) {
                 Ok(()) => Ok(others),
                 Err(_) => Err(ReadFault::Memory),
