@@ -22,3 +22,4 @@ pub mod LiveOf
 pub mod LiveLaws
 pub mod Standing
 pub mod Remembering
+pub mod NamedGroups

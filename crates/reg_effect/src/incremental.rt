@@ -14,7 +14,7 @@ ghost use Rattle.reg_effect.specs.Asked.{asks, asks_row};
 
 use crate::marks::Marks;
 use crate::relink::relink;
-use crate::uncounted::{has, list};
+use crate::uncounted::{groups, has, list};
 use crate::walk::walk;
 use crate::{Change, Delta, Kept, Live};
 use reg_base::{GroupId, Steps, SubjectId};
@@ -173,6 +173,10 @@ impl Kept for Incremental {
     fn members(&self, g: GroupId) -> Result<Vec<SubjectId>, AllocError> {
         let subjects = list(&self.sets, g)?;
         Ok(subjects)
+    }
+
+    fn groups_of(&self, s: SubjectId) -> Result<Vec<GroupId>, AllocError> {
+        groups(&self.sets, s)
     }
 
     fn change<L: Ledger>(

@@ -44,6 +44,11 @@ pub trait Kept: Drop {
         ensures each { IfOk result (λ v. (q : ℕ) → among q v.items ≡ member (held self.now) g q) }
         ensures sorted { IfOk result (λ v. IsStrictlySortedBy nat_cmp v.items) };
 
+    /// The groups of which the person is an effective member, by id, each once.
+    fn groups_of(&self, s: SubjectId) -> Result<Vec<GroupId>, AllocError>
+        ensures each { IfOk result (λ v. (g : ℕ) → among g v.items ≡ member (held self.now) g s) }
+        ensures sorted { IfOk result (λ v. IsStrictlySortedBy nat_cmp v.items) };
+
     /// Changes the live data, and gives what that begins and ends. A step is one person tested, added, removed or listed in
     /// a group's set. Out of memory the value is given up.
     fn change<L: Ledger>(

@@ -9,6 +9,7 @@ mod incremental;
 mod kept;
 mod live;
 mod marks;
+mod named;
 mod pairs;
 mod plain;
 mod relink;

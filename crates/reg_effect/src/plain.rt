@@ -13,6 +13,7 @@ ghost use Rattle.reg_effect.specs.Bound.{most_steps};
 
 use crate::combine::combine;
 use crate::marks::Marks;
+use crate::named::{having, named};
 use crate::{Change, Delta, Kept, Live};
 use reg_base::{GroupId, Steps, SubjectId};
 use reg_facts::{CompositeRow, Member};
@@ -177,6 +178,12 @@ impl Kept for Plain {
     fn members(&self, g: GroupId) -> Result<Vec<SubjectId>, AllocError> {
         let subjects = self.table.subjects(g)?;
         Ok(subjects)
+    }
+
+    fn groups_of(&self, s: SubjectId) -> Result<Vec<GroupId>, AllocError> {
+        let groups = named(self.alloc, &self.live)?;
+        let found = having(self.alloc, &self.table, &groups, s)?;
+        Ok(found)
     }
 
     fn change<L: Ledger>(

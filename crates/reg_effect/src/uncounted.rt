@@ -46,3 +46,26 @@ pub(crate) fn list(sets: &Sets, g: GroupId) -> Result<Vec<SubjectId>, AllocError
 {
     list_from::<Brand>(sets, g, Blank::new(1))
 }
+
+fn groups_from<L: Ledger>(
+    sets: &Sets,
+    s: SubjectId,
+    blank: Blank,
+) -> Result<Vec<GroupId>, AllocError>
+    requires name { blank.name ≡ L.name }
+    requires parts { blank.parts ≡ L.parts }
+    requires some { 0 < blank.parts }
+    ensures each { IfOk result (λ v. (g : ℕ) → among g v.items ≡ holds g s sets.now) }
+    ensures sorted { IfOk result (λ v. IsStrictlySortedBy nat_cmp v.items) }
+{
+    let mut steps = Steps::<L>::open(blank);
+    sets.groups(s, &mut steps)
+}
+
+/// The groups of the person, by id, at the cost of what they are.
+pub(crate) fn groups(sets: &Sets, s: SubjectId) -> Result<Vec<GroupId>, AllocError>
+    ensures each { IfOk result (λ v. (g : ℕ) → among g v.items ≡ holds g s sets.now) }
+    ensures sorted { IfOk result (λ v. IsStrictlySortedBy nat_cmp v.items) }
+{
+    groups_from::<Brand>(sets, s, Blank::new(1))
+}
