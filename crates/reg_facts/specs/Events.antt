@@ -3,9 +3,9 @@ use Rattle.std.specs.Prelude.{ℕ, ◌+◌, ◌==◌, List, [], ◌∷◌, ◌++
 use Rattle.reg_base.specs.NameParts.{extension_of}
 use Rattle.reg_base.specs.declared.entity.Entity.{Entity}
 use Rattle.reg_terms.specs.declared.command.Command.{Command}
-use Rattle.reg_terms.specs.declared.command.Command.TheVariants.{FolderAdd, FolderRename, FolderMove, FolderDelete, SubjectAdd, GroupAdd, GroupRename, GroupMove, GroupDelete, MemberAdd, MemberRemove, MemberWindow, CompositeSet, CompositeClear}
+use Rattle.reg_terms.specs.declared.command.Command.TheVariants.{FolderAdd, FolderRename, FolderMove, FolderDelete, SubjectAdd, GroupAdd, GroupRename, GroupMove, GroupDelete, MemberAdd, MemberRemove, MemberWindow, CompositeSet, CompositeClear, GrantAdd, GrantRemove, InheritAdd, InheritRemove}
 use Rattle.reg_terms.specs.declared.event.Event.{Event}
-use Rattle.reg_terms.specs.declared.event.Event.TheVariants.{FolderMade, FolderRenamed, FolderMoved, FolderGone, SubjectMade, GroupMade, GroupRenamed, GroupMoved, GroupGone, RowAdded, RowRemoved, RowRedated, Composed, Decomposed}
+use Rattle.reg_terms.specs.declared.event.Event.TheVariants.{FolderMade, FolderRenamed, FolderMoved, FolderGone, SubjectMade, GroupMade, GroupRenamed, GroupMoved, GroupGone, RowAdded, RowRemoved, RowRedated, Composed, Decomposed, GrantAdded, GrantRemoved, InheritAdded, InheritRemoved}
 use Rattle.reg_terms.specs.declared.kinds.Member.{Member}
 use Rattle.reg_terms.specs.declared.kinds.Object.TheVariants.{Folder, Group}
 use Rattle.reg_terms.specs.declared.rows.FolderRow.{FolderRow}
@@ -13,8 +13,11 @@ use Rattle.reg_terms.specs.declared.rows.GroupRow.{GroupRow}
 use Rattle.reg_terms.specs.declared.rows.SubjectRow.{SubjectRow}
 use Rattle.reg_terms.specs.declared.rows.MemberRow.{MemberRow}
 use Rattle.reg_terms.specs.declared.rows.CompositeRow.{CompositeRow}
+use Rattle.reg_terms.specs.declared.rows.GrantRow.{GrantRow}
 use Rattle.reg_terms.specs.declared.rows.InheritRow.{InheritRow}
+use Rattle.reg_base.specs.declared.privilege.Privilege.TheVariants.{Admin, StemAdmin}
 use Rattle.reg_facts.specs.Edits.{member_of, is_row, is_composite, the_id, person_text, from_or, folder_renamed, folder_moved, group_renamed, group_moved, windowed, without_notes}
+use Rattle.reg_facts.specs.Grants.{same_grant, same_inherit, grant_of, inherit_of, makers_grant}
 use Rattle.reg_facts.specs.Lists.{Lists}
 use Rattle.reg_facts.specs.Naming.{folder_id, group_id, home_id}
 use Rattle.reg_facts.specs.RowOrder.{rows_of}
@@ -35,6 +38,10 @@ happened (RowRemoved g m) f = record f { rows = filter (λ (row : MemberRow). no
 happened (RowRedated g m from until) f = record f { rows = map (windowed from until g m) f.rows }
 happened (Composed row) f = record f { composites = f.composites ++ row ∷ [] }
 happened (Decomposed g) f = record f { composites = filter (λ (row : CompositeRow). not (row.group == g)) f.composites }
+happened (GrantAdded row) f = record f { grants = f.grants ++ row ∷ [] }
+happened (GrantRemoved row) f = record f { grants = filter (λ (other : GrantRow). not (same_grant row other)) f.grants }
+happened (InheritAdded row) f = record f { inherits = f.inherits ++ row ∷ [] }
+happened (InheritRemoved row) f = record f { inherits = filter (λ (other : InheritRow). not (same_inherit row other)) f.inherits }
 
 -- the facts after some events, one after another
 abbrev pub all_happened : List Event → Lists → Lists
@@ -45,6 +52,15 @@ all_happened (e ∷ es) f = all_happened es (happened e f)
 abbrev pub on_member : (Member → Event) → Option Member → List Event
 on_member event None = []
 on_member event (Some m) = event m ∷ []
+
+-- and so does a grant or an inherit that a command speaks of
+abbrev pub on_grant : (GrantRow → Event) → Option GrantRow → List Event
+on_grant event None = []
+on_grant event (Some row) = event row ∷ []
+
+abbrev pub on_inherit : (InheritRow → Event) → Option InheritRow → List Event
+on_inherit event None = []
+on_inherit event (Some row) = event row ∷ []
 
 -- a row goes
 abbrev pub row_gone : MemberRow → Event
@@ -70,12 +86,12 @@ new_group group display f = record { id = f.made.groups + 1; folder = the_id (ho
 
 -- the events of a command that acts at a moment, by a caller, in order
 unfoldable pub events_of : ℕ → Entity → Command → Lists → List Event
-events_of at by (FolderAdd folder display) f = FolderMade (new_folder folder display f) ∷ []
+events_of at by (FolderAdd folder display) f = FolderMade (new_folder folder display f) ∷ makers_grant by (Folder (f.made.folders + 1)) StemAdmin f
 events_of at by (FolderRename folder extension) f = FolderRenamed (the_id (folder_id folder f)) extension ∷ []
 events_of at by (FolderMove folder to) f = FolderMoved (the_id (folder_id folder f)) (the_id (folder_id to f)) ∷ []
 events_of at by (FolderDelete folder) f = FolderGone (the_id (folder_id folder f)) ∷ []
 events_of at by (SubjectAdd subject display) f = SubjectMade (new_subject subject display f) ∷ []
-events_of at by (GroupAdd group display) f = GroupMade (new_group group display f) ∷ []
+events_of at by (GroupAdd group display) f = GroupMade (new_group group display f) ∷ makers_grant by (Group (f.made.groups + 1)) Admin f
 events_of at by (GroupRename group extension) f = GroupRenamed (the_id (group_id group f)) extension ∷ []
 events_of at by (GroupMove group to) f = GroupMoved (the_id (group_id group f)) (the_id (folder_id to f)) ∷ []
 events_of at by (GroupDelete group) f = group_gone (the_id (group_id group f)) f
@@ -84,6 +100,10 @@ events_of at by (MemberRemove group member) f = on_member (λ m. RowRemoved (the
 events_of at by (MemberWindow group member from until) f = on_member (λ m. RowRedated (the_id (group_id group f)) m (from_or at from) until) (member_of member f)
 events_of at by (CompositeSet group kind left right) f = Composed (record { group = the_id (group_id group f); op = kind; left = the_id (group_id left f); right = the_id (group_id right f) }) ∷ []
 events_of at by (CompositeClear group) f = Decomposed (the_id (group_id group f)) ∷ []
+events_of at by (GrantAdd object privilege holder) f = on_grant (λ row. GrantAdded row) (grant_of object privilege holder f)
+events_of at by (GrantRemove object privilege holder) f = on_grant (λ row. GrantRemoved row) (grant_of object privilege holder f)
+events_of at by (InheritAdd folder kind scope privilege holder) f = on_inherit (λ row. InheritAdded row) (inherit_of folder kind scope privilege holder f)
+events_of at by (InheritRemove folder kind scope privilege holder) f = on_inherit (λ row. InheritRemoved row) (inherit_of folder kind scope privilege holder f)
 
 -- the facts after a command that acts at a moment, by a caller
 abbrev pub edit : ℕ → Entity → Command → Lists → Lists

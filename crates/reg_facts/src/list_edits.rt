@@ -1,16 +1,14 @@
 // Edits of one list.
-ghost use Rattle.std.specs.Prelude.{◌≡◌, ◌==◌, map, filter, not};
+ghost use Rattle.std.specs.Prelude.{◌≡◌, map, filter, not};
 ghost use Rattle.reg_terms.specs.Kinds.{same_object};
 ghost use Rattle.reg_facts.specs.Ascending.{FoldersAscend, GroupsAscend};
 ghost use Rattle.reg_facts.specs.Edits.{folder_renamed, folder_moved, group_renamed, group_moved};
 ghost use Rattle.reg_terms.specs.declared.rows.FolderRow.{FolderRow};
 ghost use Rattle.reg_terms.specs.declared.rows.GroupRow.{GroupRow};
-ghost use Rattle.reg_terms.specs.declared.rows.GrantRow.{GrantRow};
-ghost use Rattle.reg_terms.specs.declared.rows.InheritRow.{InheritRow};
 ghost use Rattle.reg_terms.specs.declared.rows.AssignRow.{AssignRow};
 
 use crate::numbered::place_by_id;
-use crate::{AssignRow, FolderRow, GrantRow, GroupRow, InheritRow, Object};
+use crate::{AssignRow, FolderRow, GroupRow, Object};
 use reg_base::{FolderId, GroupId, Text};
 
 /// Gives a folder another extension.
@@ -51,20 +49,6 @@ pub fn move_group(rows: &mut [GroupRow], id: GroupId, to: FolderId)
     if let Some(at) = place_by_id(rows, id.number()) {
         rows[at].folder = to;
     }
-}
-
-/// Takes the inherits on a folder away.
-pub fn drop_inherits(rows: &mut Vec<InheritRow>, folder: FolderId)
-    ensures { rows.new.items ≡ filter (λ (row : InheritRow). not (row.folder == folder)) rows.old.items }
-{
-    rows.retain(|row| row.folder != folder);
-}
-
-/// Takes the grants on an object away.
-pub fn drop_grants(rows: &mut Vec<GrantRow>, object: &Object)
-    ensures { rows.new.items ≡ filter (λ (row : GrantRow). not (same_object row.object object.now)) rows.old.items }
-{
-    rows.retain(|row| !row.object.is(object));
 }
 
 /// Takes the assignments to an owner away.

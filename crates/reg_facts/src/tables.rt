@@ -2,10 +2,13 @@
 ghost use Rattle.std.specs.Prelude.{◌≡◌, IfOk, OnOk, List, ℕ, Some, false};
 ghost use Rattle.reg_facts.specs.Lists.{Lists, start};
 ghost use Rattle.reg_facts.specs.Edits.{has_row, is_composite};
+ghost use Rattle.reg_facts.specs.Grants.{has_grant, has_inherit};
 ghost use Rattle.reg_facts.specs.Events.{happened};
-ghost use Rattle.reg_terms.specs.declared.event.Event.TheVariants.{FolderMade, FolderRenamed, FolderMoved, FolderGone, SubjectMade, GroupMade, GroupRenamed, GroupMoved, GroupGone, RowAdded, RowRemoved, RowRedated, Composed, Decomposed};
+ghost use Rattle.reg_terms.specs.declared.event.Event.TheVariants.{FolderMade, FolderRenamed, FolderMoved, FolderGone, SubjectMade, GroupMade, GroupRenamed, GroupMoved, GroupGone, RowAdded, RowRemoved, RowRedated, Composed, Decomposed, GrantAdded, GrantRemoved, InheritAdded, InheritRemoved};
 ghost use Rattle.reg_facts.specs.Ascending.{FoldersAscend, GroupsAscend};
 
+use crate::grant_rows::GrantRows;
+use crate::inherit_rows::InheritRows;
 use crate::member_rows::MemberRows;
 use crate::numbered::remove_by_id;
 use crate::{
@@ -25,8 +28,8 @@ pub struct Tables {
     pub subject_rows: Vec<SubjectRow>,
     pub member_rows: MemberRows,
     pub composite_rows: Table<CompositeRow>,
-    pub grant_rows: Vec<GrantRow>,
-    pub inherit_rows: Vec<InheritRow>,
+    pub grant_rows: GrantRows,
+    pub inherit_rows: InheritRows,
     pub definition_rows: Vec<DefinitionRow>,
     pub attribute_rows: Vec<AttributeRow>,
     pub assign_rows: Vec<AssignRow>,
@@ -47,8 +50,8 @@ impl Model for Tables {
       subjects = t.subject_rows.items;
       rows = t.member_rows;
       composites = t.composite_rows;
-      grants = t.grant_rows.items;
-      inherits = t.inherit_rows.items;
+      grants = t.grant_rows;
+      inherits = t.inherit_rows;
       definitions = t.definition_rows.items;
       attributes = t.attribute_rows.items;
       assigns = t.assign_rows.items;
@@ -92,8 +95,8 @@ impl Tables {
             subject_rows: Vec::new(alloc),
             member_rows: MemberRows::new(alloc),
             composite_rows: Table::new(alloc),
-            grant_rows: Vec::new(alloc),
-            inherit_rows: Vec::new(alloc),
+            grant_rows: GrantRows::new(alloc),
+            inherit_rows: InheritRows::new(alloc),
             definition_rows: Vec::new(alloc),
             attribute_rows: Vec::new(alloc),
             assign_rows: Vec::new(alloc),
@@ -199,8 +202,8 @@ impl Tables {
     {
         let object = Object::Folder(id);
         remove_by_id(&mut self.folder_rows, id.number());
-        list_edits::drop_inherits(&mut self.inherit_rows, id);
-        list_edits::drop_grants(&mut self.grant_rows, &object);
+        self.inherit_rows.remove_on(id);
+        self.grant_rows.remove_on(&object);
         list_edits::drop_assigns(&mut self.assign_rows, &object);
     }
 
@@ -211,7 +214,7 @@ impl Tables {
     {
         let object = Object::Group(id);
         remove_by_id(&mut self.group_rows, id.number());
-        list_edits::drop_grants(&mut self.grant_rows, &object);
+        self.grant_rows.remove_on(&object);
         list_edits::drop_assigns(&mut self.assign_rows, &object);
     }
 
@@ -233,5 +236,35 @@ impl Tables {
         ensures { self.new ≡ happened (RowRedated group member.now from until) self.old }
     {
         self.member_rows.redate(group, member, from, until);
+    }
+
+    /// Adds a grant that doesn't stand.
+    pub fn push_grant(&mut self, row: GrantRow) -> Result<(), AllocError>
+        requires { has_grant row self.old.grants ≡ false }
+        ensures { OnOk result (self.new ≡ happened (GrantAdded row) self.old) }
+    {
+        self.grant_rows.push(row)
+    }
+
+    /// Takes a grant away.
+    pub fn remove_grant(&mut self, row: &GrantRow)
+        ensures { self.new ≡ happened (GrantRemoved row.now) self.old }
+    {
+        self.grant_rows.remove(row);
+    }
+
+    /// Adds an inherit that doesn't stand.
+    pub fn push_inherit(&mut self, row: InheritRow) -> Result<(), AllocError>
+        requires { has_inherit row self.old.inherits ≡ false }
+        ensures { OnOk result (self.new ≡ happened (InheritAdded row) self.old) }
+    {
+        self.inherit_rows.push(row)
+    }
+
+    /// Takes an inherit away.
+    pub fn remove_inherit(&mut self, row: &InheritRow)
+        ensures { self.new ≡ happened (InheritRemoved row.now) self.old }
+    {
+        self.inherit_rows.remove(row);
     }
 }

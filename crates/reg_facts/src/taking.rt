@@ -2,10 +2,11 @@
 ghost use Rattle.std.specs.Prelude.{◌≡◌, IfOk, Some, true, false};
 ghost use Rattle.reg_facts.specs.Events.{happened};
 ghost use Rattle.reg_facts.specs.Suiting.{Suits};
-ghost use Rattle.reg_terms.specs.declared.event.Event.TheVariants.{FolderMade, FolderRenamed, FolderMoved, FolderGone, SubjectMade, GroupMade, GroupRenamed, GroupMoved, GroupGone, RowAdded, RowRemoved, RowRedated, Composed, Decomposed};
+ghost use Rattle.reg_terms.specs.declared.event.Event.TheVariants.{FolderMade, FolderRenamed, FolderMoved, FolderGone, SubjectMade, GroupMade, GroupRenamed, GroupMoved, GroupGone, RowAdded, RowRemoved, RowRedated, Composed, Decomposed, GrantAdded, GrantRemoved, InheritAdded, InheritRemoved};
 
 use crate::{
-    CompositeRow, Event, Facts, FolderRow, GroupRow, Member, MemberRow, Object, SubjectRow,
+    CompositeRow, Event, Facts, FolderRow, GrantRow, GroupRow, InheritRow, Member, MemberRow,
+    Object, SubjectRow,
 };
 use reg_base::{FolderId, GroupId, Moment, Text};
 use std::alloc::{AllocError, Global};
@@ -38,6 +39,10 @@ impl Facts {
             } => Ok(self.row_redated(group, &member, from, until)),
             Event::Composed { row } => self.composed(row),
             Event::Decomposed { group } => Ok(self.decomposed(group)),
+            Event::GrantAdded { row } => self.grant_added(row),
+            Event::GrantRemoved { row } => Ok(self.grant_removed(&row)),
+            Event::InheritAdded { row } => self.inherit_added(row),
+            Event::InheritRemoved { row } => Ok(self.inherit_removed(&row)),
         }
     }
 
@@ -253,6 +258,42 @@ impl Facts {
     {
         let mut facts = self;
         facts.tables.remove_composite(group);
+        facts
+    }
+
+    fn grant_added(self, row: GrantRow) -> Result<Facts, AllocError>
+        requires { Suits (GrantAdded row) self }
+        ensures { IfOk result (λ f. f ≡ happened (GrantAdded row) self) }
+    {
+        let mut facts = self;
+        facts.tables.push_grant(row)?;
+        Ok(facts)
+    }
+
+    fn grant_removed(self, row: &GrantRow) -> Facts
+        requires { Suits (GrantRemoved row.now) self }
+        ensures { result ≡ happened (GrantRemoved row.now) self }
+    {
+        let mut facts = self;
+        facts.tables.remove_grant(row);
+        facts
+    }
+
+    fn inherit_added(self, row: InheritRow) -> Result<Facts, AllocError>
+        requires { Suits (InheritAdded row) self }
+        ensures { IfOk result (λ f. f ≡ happened (InheritAdded row) self) }
+    {
+        let mut facts = self;
+        facts.tables.push_inherit(row)?;
+        Ok(facts)
+    }
+
+    fn inherit_removed(self, row: &InheritRow) -> Facts
+        requires { Suits (InheritRemoved row.now) self }
+        ensures { result ≡ happened (InheritRemoved row.now) self }
+    {
+        let mut facts = self;
+        facts.tables.remove_inherit(row);
         facts
     }
 }

@@ -24,7 +24,7 @@ last_or_before (w ∷ xs) (v ∷ ys) zs x y e =
       | inr before ↦ inr (before.0, ap (λ u. u ∷ xs) same ∙ ap (λ us. v ∷ us) before.1)
     ]
 
-pub legal_push : (history : List Stamped) (s : Stamped) → IsLegal history → refusal history s.at s.command ≡ None → AllByRecursion (IsBy s.at) history → IsLegal (history ++ s ∷ [])
+pub legal_push : (history : List Stamped) (s : Stamped) → IsLegal history → refusal history s.at s.by s.command ≡ None → AllByRecursion (IsBy s.at) history → IsLegal (history ++ s ∷ [])
 legal_push history s h allowed by = record {
   allowed = λ before after x e. elim (last_or_before history before after s x e) [
     | inl here ↦ rw (here.0, here.1) allowed

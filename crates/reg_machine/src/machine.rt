@@ -12,7 +12,7 @@ ghost use Rattle.reg_effect.specs.Order.{has_live_row};
 ghost use Rattle.reg_terms.specs.Forms.{has_form};
 ghost use Rattle.reg_machine.specs.Checks as checks;
 ghost use Rattle.reg_machine.specs.Dates.{due, is_on, pass_steps};
-ghost use Rattle.reg_machine.specs.History.{State, start, refusal, acted, appended};
+ghost use Rattle.reg_machine.specs.History.{State, start, refusal, first_of, acted, appended};
 ghost use Rattle.reg_machine.specs.Holding.{AllHold};
 ghost use Rattle.reg_machine.specs.Live.{live};
 ghost use Rattle.reg_machine.specs.Steps.{events_steps};
@@ -20,6 +20,7 @@ ghost use Rattle.reg_machine.specs.Steps.{events_steps};
 use crate::current::Current;
 use crate::heap::{carried, dated, started};
 use reg_base::{Entity, GroupId, Moment, Steps};
+use reg_demand::refused;
 use reg_effect::Kept;
 use reg_facts::{Command, Event, Facts, Refusal, Stamped};
 use reg_names::Names;
@@ -221,25 +222,41 @@ impl<K: Kept> Machine<K> {
         Ok(machine)
     }
 
-    /// The first refusal of a command now (`docs/REGISTRY.md`, "Refusals"), or None.
-    #[tactic(auto, unfolding(crate::specs::Checks::checks))]
+    /// The first refusal of a caller's command now (`docs/REGISTRY.md`, "Refusals"), or None.
+    #[tactic(auto, unfolding(crate::specs::History::refusal))]
     pub fn decide(
         &self,
         alloc: Global,
-        _by: &Entity,
+        by: &Entity,
         command: &Command,
     ) -> Result<Option<Refusal>, AllocError>
-        ensures { IfOk result (λ found. found ≡ refusal self.now.history self.now.clock command.now) }
+        ensures { IfOk result (λ found. found ≡ refusal self.now.history self.now.clock by.now command.now) }
+    {
+        match refused(alloc, self.facts(), self.kept(), by, command)? {
+            Some(refusal) => Ok(Some(refusal)),
+            None => self.checked(alloc, by, command),
+        }
+    }
+
+    /// What refuses a command now, where nothing before all else does.
+    #[tactic(auto, unfolding(crate::specs::Checks::checks))]
+    fn checked(
+        &self,
+        alloc: Global,
+        by: &Entity,
+        command: &Command,
+    ) -> Result<Option<Refusal>, AllocError>
+        ensures { IfOk result (λ found. found ≡ first_of (checks.checks self.now.history self.now.clock (facts self.now.history self.now.clock) by.now command.now)) }
     {
         match command {
-            Command::FolderAdd { folder, .. } => self.decide_folder_add(alloc, folder),
+            Command::FolderAdd { folder, .. } => self.decide_folder_add(alloc, by, folder),
             Command::FolderRename { folder, extension } => {
                 self.decide_folder_rename(alloc, folder, extension)
             }
             Command::FolderMove { folder, to } => self.decide_folder_move(alloc, folder, to),
             Command::FolderDelete { folder } => self.decide_folder_delete(alloc, folder),
             Command::SubjectAdd { subject, .. } => self.decide_subject_add(alloc, subject),
-            Command::GroupAdd { group, .. } => self.decide_group_add(alloc, group),
+            Command::GroupAdd { group, .. } => self.decide_group_add(alloc, by, group),
             Command::GroupRename { group, extension } => {
                 self.decide_group_rename(alloc, group, extension)
             }
@@ -267,6 +284,30 @@ impl<K: Kept> Machine<K> {
                 ..
             } => self.decide_composite_set(alloc, group, left, right),
             Command::CompositeClear { group } => self.decide_composite_clear(alloc, group),
+            Command::GrantAdd {
+                object,
+                privilege,
+                holder,
+            } => self.decide_grant_add(alloc, object, *privilege, holder),
+            Command::GrantRemove {
+                object,
+                privilege,
+                holder,
+            } => self.decide_grant_remove(alloc, object, *privilege, holder),
+            Command::InheritAdd {
+                folder,
+                kind,
+                scope,
+                privilege,
+                holder,
+            } => self.decide_inherit_add(alloc, folder, *kind, *scope, *privilege, holder),
+            Command::InheritRemove {
+                folder,
+                kind,
+                scope,
+                privilege,
+                holder,
+            } => self.decide_inherit_remove(alloc, folder, *kind, *scope, *privilege, holder),
         }
     }
 
@@ -277,13 +318,16 @@ impl<K: Kept> Machine<K> {
         by: &Entity,
         command: &Command,
     ) -> Result<Vec<Event>, AllocError>
-        requires allowed { refusal self.now.history self.now.clock command.now ≡ None }
+        requires allowed { refusal self.now.history self.now.clock by.now command.now ≡ None }
         requires form { has_form command.now ≡ true }
         ensures events { IfOk result (λ events. events.items ≡ events_of self.now.clock by.now command.now (facts self.now.history self.now.clock)) }
         ensures hold { AllHold self.now.clock (events_of self.now.clock by.now command.now (facts self.now.history self.now.clock)) (facts self.now.history self.now.clock) }
     {
-        self.facts().law_sound();
-        self.facts().events_of(alloc, self.clock(), by, command)
+        let facts = self.facts();
+        facts.law_sound();
+        facts.law_held();
+        facts.law_grants();
+        facts.events_of(alloc, self.clock(), by, command)
     }
 
     /// Takes a command that isn't refused into the history, at the clock. It takes at most the steps
@@ -295,7 +339,7 @@ impl<K: Kept> Machine<K> {
         command: Command,
         steps: &mut Steps<L>,
     ) -> Result<Machine<K>, Spent>
-        requires allowed { refusal self.history self.clock command ≡ None }
+        requires allowed { refusal self.history self.clock by.now command ≡ None }
         requires form { has_form command ≡ true }
         ensures appended { IfOk result (λ m. m ≡ appended self by.now command) }
         ensures cost { OnOk result (steps.new ≤ steps.old + events_steps self.clock (events_of self.clock by.now command (facts self.history self.clock)) (facts self.history self.clock)) }

@@ -1,6 +1,6 @@
 -- How a run ends, from how its parts did.
 use Rattle.std.proofs.Common.{◌≡◌, ◌≤◌, ◌<◌, ◌^◌, ◌++◌, [], append-nil, length, List, ℕ, Bool, Option, Some, None, Result, Ok, Err, true, false, refl, ap, sym, subst, ◌∙◌, arith, max, take, ◌⊎◌, inl, inr}
-use Rattle.std.specs.Prelude.{IfSome}
+use Rattle.std.specs.Prelude.{IfSome, codes}
 use Rattle.std.specs.Io.KnownBytes.{append_known, prepend_known, IsAtEnd}
 use Rattle.reg_outside.specs.Faults.{Rose}
 use Rattle.reg_outside.specs.Streams.{first_moment, WritesFront}
@@ -11,9 +11,10 @@ use Rattle.reg_terms.specs.declared.query.Query.TheVariants as query
 use Rattle.reg_terms.specs.declared.query.Answer.{Answer}
 use Rattle.reg_terms.specs.declared.reply.Reply.{Reply}
 use Rattle.reg_terms.specs.declared.reply.Reply.TheVariants as reply
-use Rattle.reg_machine.specs.History.{State, facts}
+use Rattle.reg_machine.specs.History.{State}
 use Rattle.reg_keep.specs.declared.keeper.Keeper.{Ghosts}
-use Rattle.reg_view.specs.Answers.{answer_of}
+use Rattle.reg_view.specs.AtClock.{view}
+use Rattle.reg_view.specs.Show.{show}
 use Rattle.reg_service.specs.Turn.{turn, answered}
 use Rattle.reg_session.specs.Answered.{Point}
 use Rattle.reg_session.specs.Lines.{lines, IsCutAtLineFeeds}
@@ -52,7 +53,7 @@ told_query s m (Err r) = inr (refl, refl)
 
 told_name : (s : State) (m : ℕ) (name : List ℕ) (b : Bool) → is_name name ≡ b
     → (end_of_reply (turn s m (name_reading name)).0 ≡ the_end.Done) × (is_refused (turn s m (name_reading name)).0 ≡ false) ⊎ (end_of_reply (turn s m (name_reading name)).0 ≡ the_end.Refused) × (is_refused (turn s m (name_reading name)).0 ≡ true)
-told_name s m name true e = rw e (told_query s m (answer_of (query.Members name) (max s.clock m) (facts s.history (max s.clock m))))
+told_name s m name true e = rw e (told_query s m (show (view s.history (max s.clock m) (codes "g:isa/GrouperSystem")) (query.Members name)))
 told_name s m name false e = rw e (inr (refl, refl))
 
 replied : (moments : Option (List ℕ)) (s : State) (m : ℕ) (name : List ℕ) (b : Bool) (w w2 : Option (List ℕ))

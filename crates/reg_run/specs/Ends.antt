@@ -5,7 +5,6 @@ use Rattle.reg_outside.specs.Faults.{Rose}
 use Rattle.reg_outside.specs.Streams.{first_moment, later_moments, WritesFront}
 use Rattle.reg_outside.specs.declared.disk.Disk.{Ghosts}
 use Rattle.reg_base.specs.Names.{is_name}
-use Rattle.reg_base.specs.declared.entity.Entity.TheVariants.{System}
 use Rattle.reg_terms.specs.declared.command.Stamped.{Stamped}
 use Rattle.reg_terms.specs.declared.refusal.Refusal.{Refusal}
 use Rattle.reg_terms.specs.declared.refusal.Refusal.TheVariants.{BadName}
@@ -181,7 +180,7 @@ pub record DidCheck (d : Seen) (end : End) (before after : World) (from : State)
 
 -- what the word `members` with this name asks
 abbrev pub name_reading : List ℕ → Result Request Refusal
-name_reading name = if is_name name then Ok (record { by = System; op = op.Query (query.Members name) }) else Err (BadName (codes "group"))
+name_reading name = if is_name name then Ok (record { by = codes "g:isa/GrouperSystem"; op = op.Query (query.Members name) }) else Err (BadName (codes "group"))
 
 -- a reply that refuses
 abbrev pub is_refused : Reply → Bool

@@ -1,10 +1,11 @@
 // The tasks, each over a disk that it gives back.
-ghost use Rattle.std.specs.Prelude.{◌≡◌, ◌≤◌, List, ℕ, Option, Ok, Err, codes, length, option_map, IfOk, IfErr, IfSome, OnErr, OnOk};
+ghost use Rattle.std.specs.Prelude.{◌≡◌, ◌≤◌, List, ℕ, Option, Ok, Err, true, codes, length, option_map, IfOk, IfErr, IfSome, OnErr, OnOk};
 ghost use Rattle.std.specs.Io.KnownBytes.{append_known};
 ghost use Rattle.reg_outside.specs.Disk.{Changes, Same};
 ghost use Rattle.reg_outside.specs.Faults.{Rose, HasCause};
 ghost use Rattle.reg_outside.specs.Streams.{WritesFront, later_moments};
 ghost use Rattle.reg_keep.specs.JournalWords.{disk_of};
+ghost use Rattle.reg_terms.specs.Forms.{op_has_form};
 ghost use Rattle.reg_service.specs.Opening.{opens, at_last, FrontsReopen};
 ghost use Rattle.reg_session.specs.Pending.{ReadsAs, AsksFormed};
 ghost use Rattle.reg_session.specs.Replies.{line_of};
@@ -14,7 +15,7 @@ ghost use Rattle.reg_run.specs.Status.{check_line};
 ghost use Rattle.reg_run.specs.World.{World, world, holding, printing, at_clock, out_of};
 
 use crate::task::{End, Task};
-use reg_base::{Entity, Name, Text};
+use reg_base::{Bytes, Name, Text};
 use reg_effect::Incremental;
 use reg_keep::{InitFault, Journal, Keeper, OpenFault};
 use reg_machine::Machine;
@@ -174,16 +175,31 @@ fn bad_name(alloc: Global) -> LineReading
     }
 }
 
+/// What is asked for the members of a group, by GrouperSystem.
+fn asked_of(alloc: Global, group: Name) -> LineReading
+    requires { op_has_form (Op.Query (Query.Members group)) ≡ true }
+    ensures reads { ReadsAs result (Ok (record { by = codes "g:isa/GrouperSystem"; op = Op.Query (Query.Members group) })) }
+    ensures form { AsksFormed result }
+{
+    match Bytes::of(alloc, b"g:isa/GrouperSystem") {
+        Ok(by) => LineReading::Asked(Request {
+            by,
+            op: Op::Query(Query::Members { group }),
+        }),
+        Err(AllocError) => {
+            drop(group);
+            LineReading::NoMemory
+        }
+    }
+}
+
 /// What the word `members` with this name asks.
 fn name_reading(alloc: Global, name: &str) -> LineReading
     ensures reads { ReadsAs result (name_reading name.now) }
     ensures form { AsksFormed result }
 {
     match Name::parse(alloc, name.as_bytes()) {
-        Ok(Some(group)) => LineReading::Asked(Request {
-            by: Entity::System,
-            op: Op::Query(Query::Members { group }),
-        }),
+        Ok(Some(group)) => asked_of(alloc, group),
         Ok(None) => bad_name(alloc),
         Err(AllocError) => LineReading::NoMemory,
     }

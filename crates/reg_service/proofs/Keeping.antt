@@ -1,5 +1,5 @@
 -- What a keeper has after a request.
-use Rattle.std.proofs.Common.{◌≡◌, ◌≤◌, ◌<◌, ◌^◌, ◌++◌, ◌∷◌, [], List, ℕ, Bool, Option, Some, None, Result, Ok, true, false, refl, ap, sym, ◌∙◌, append-nil, subst, arith, option_map, length, length-append, ◌⊎◌, inl, inr}
+use Rattle.std.proofs.Common.{◌≡◌, ◌≤◌, ◌<◌, ◌^◌, ◌++◌, ◌∷◌, [], List, ℕ, Bool, Option, Some, None, Result, Ok, Err, true, false, refl, ap, sym, ◌∙◌, append-nil, subst, arith, option_map, length, length-append, ◌⊎◌, inl, inr}
 use Rattle.std.specs.Prelude.{IfSome, is_some}
 use Rattle.std.proofs.lemmas.List.{take_all, take_at}
 use Rattle.reg_outside.specs.Disk.{Leaves}
@@ -12,7 +12,11 @@ use Rattle.reg_keep.specs.declared.keeper.Keeper.{Ghosts}
 use Rattle.reg_keep.specs.Keeping.{IsOneOf, AreOneOf}
 use Rattle.reg_service.specs.Opening.{payloads_of, IsServed, Reopens}
 use Rattle.reg_service.specs.Kept.{KeptOn, IsBetween, Stopped, IsAcknowledged}
-use Rattle.reg_service.specs.Turn.{requested}
+use Rattle.reg_service.specs.Turn.{ordered, answered, at_moment, Carries, GoesOn, KeepsHistory}
+use Rattle.reg_service.specs.declared.service.Next.{Next}
+use Rattle.reg_terms.specs.declared.query.Answer.{Answer}
+use Rattle.reg_terms.specs.declared.refusal.Refusal.{Refusal}
+use Rattle.reg_terms.specs.declared.reply.Reply.{Reply}
 use Rattle.reg_service.specs.declared.service.Next.TheVariants as next
 use Rattle.reg_service.proofs.Opens.{payloads_more, served_more, opens_more, fronts_more, whole_reopens}
 
@@ -93,13 +97,13 @@ told_failed (Some ps) new p (inr e) = rw e refl
 
 -- after an append that failed a stop leaves the history with the command or without it
 pub stopped_one : {K : Type 0} (g : Ghosts K) (s : State) (st : Stamped) (old new : K) → IsServed s (g.payloads old) (g.has_failed old) → st.at ≡ s.clock
-    → refusal s.history s.clock st.command ≡ None → stamped_of (payload st) ≡ Some st
+    → refusal s.history s.clock st.by st.command ≡ None → stamped_of (payload st) ≡ Some st
     → ((r : Result (List (List ℕ)) ℕ) → g.keep_moment old ≤ g.keep_moment new → g.stop_leaves new r → g.stopped_since new (g.keep_moment old) r)
     → IfSome (g.payloads old) (λ ps. Leaves g.keep_moment g.stopped_since (IsOneOf ps (payload st)) old new) → IfSome (g.payloads old) (λ ps. Stopped g s.history (s.history ++ st ∷ []) new)
 stopped_one g s st old new served at sure back counts leaves = stopped (g.payloads old) served.payloads leaves
   where
     again : Reopens (s.history ++ st ∷ [])
-    again = opens_more s.history st back (omega (arith, served.last)) (subst (λ (n : ℕ). refusal s.history n st.command ≡ None) (sym at) sure) (whole_reopens s.history served.opens)
+    again = opens_more s.history st back (omega (arith, served.last)) (subst (λ (n : ℕ). refusal s.history n st.by st.command ≡ None) (sym at) sure) (whole_reopens s.history served.opens)
 
     stopped : (o : Option (List (List ℕ))) → IfSome o (λ ps. ps ≡ payloads_of s.history) → IfSome o (λ ps. Leaves g.keep_moment g.stopped_since (IsOneOf ps (payload st)) old new)
         → IfSome o (λ ps. Stopped g s.history (s.history ++ st ∷ []) new)
@@ -149,7 +153,7 @@ served_later s m to told failed v later is =
 
 -- an accepted command that is kept is served
 pub served_one : (s m : State) (st : Stamped) (bytes : List ℕ) (told told2 : Option (List (List ℕ))) (failed failed2 : Bool) → IsServed s told failed → st.at ≡ s.clock
-    → refusal s.history s.clock st.command ≡ None → stamped_of (payload st) ≡ Some st → m ≡ appended s st.by st.command → bytes ≡ payload st → told2 ≡ option_map (λ ps. ps ++ bytes ∷ []) told → failed2 ≡ false → IsServed m told2 failed2
+    → refusal s.history s.clock st.by st.command ≡ None → stamped_of (payload st) ≡ Some st → m ≡ appended s st.by st.command → bytes ≡ payload st → told2 ≡ option_map (λ ps. ps ++ bytes ∷ []) told → failed2 ≡ false → IsServed m told2 failed2
 served_one s m st bytes told told2 failed failed2 served at sure back is same kept going =
     rw is (served_more s st told told2 failed failed2 served at sure back (subst (λ (b : List ℕ). told2 ≡ option_map (λ ps. ps ++ b ∷ []) told) same kept) going)
 
@@ -170,7 +174,7 @@ kept_ok g s m st bytes old new served at is same object later kept leaves =
 
 -- an append that failed
 pub kept_err : {K : Type 0} (g : Ghosts K) (s : State) (st : Stamped) (bytes : List ℕ) (old new : K) (expected : List Stamped) → IsServed s (g.payloads old) (g.has_failed old) → st.at ≡ s.clock
-    → refusal s.history s.clock st.command ≡ None → stamped_of (payload st) ≡ Some st → expected ≡ s.history ++ st ∷ []
+    → refusal s.history s.clock st.by st.command ≡ None → stamped_of (payload st) ≡ Some st → expected ≡ s.history ++ st ∷ []
     → bytes ≡ payload st → g.keep_name new ≡ g.keep_name old → g.keep_faults old ≤ g.keep_faults new → Rose (g.keep_faults old) (g.keep_faults new) → AreOneOf (g.payloads old) bytes (g.payloads new)
     → ((t : ℕ) (r : Result (List (List ℕ)) ℕ) → t ≤ g.keep_moment new → g.stop_leaves new r → g.stopped_since new t r)
     → IfSome (g.payloads old) (λ ps. Leaves g.keep_moment g.stopped_since (IsOneOf ps bytes) old new)
@@ -185,7 +189,7 @@ kept_err g s st bytes old new expected served at sure back would same object lat
     )
 
 -- what an accepted command would lead to
-pub would_keep : (s : State) (st : Stamped) → st.at ≡ s.clock → refusal s.history s.clock st.command ≡ None → (requested s st.by (op.Command st.command)).1.history ≡ s.history ++ st ∷ []
+pub would_keep : (s : State) (st : Stamped) → st.at ≡ s.clock → refusal s.history s.clock st.by st.command ≡ None → (ordered s (Some st.by) st.command).1.history ≡ s.history ++ st ∷ []
 would_keep s st at sure = rw (sure, ← at) refl
 
 -- a command that was kept is acknowledged
@@ -201,3 +205,17 @@ acknowledged_one g s m st k n served now is count =
       subst (λ (l : List Stamped). IfSome (g.payloads k) (λ ps. ps ≡ payloads_of l)) history served.payloads,
       λ r left. subst (λ (l : List Stamped). r ≡ Ok (payloads_of l)) history (leaves_history g m k served now r left),
     )
+
+-- an answered query leaves the history, and the clock as it was moved
+answered_keeps : (s : State) (r : Result Answer Refusal) (told : Reply) (after : State) → told ≡ answered r → after.history ≡ s.history → KeepsHistory s told after
+answered_keeps s (Ok a) told after is same = rw is same
+answered_keeps s (Err e) told after is same = rw is same
+
+pub query_goes_on : {K : Type 0} (s moved : State) (m : ℕ) (r : Result Answer Refusal) (told : Reply) (n : Next K) → moved ≡ at_moment s m → Carries moved (answered r, moved) (told, n) → GoesOn s m (told, n)
+query_goes_on s moved m r told (next.Go after) is (inl e) =
+    let same : after.state ≡ at_moment s m = ap (λ (p : Reply × State). p.1) e ∙ is in
+    (answered_keeps s r told after.state (ap (λ (p : Reply × State). p.0) e) (ap (λ (t : State). t.history) same), inr (ap (λ (t : State). t.clock) same))
+query_goes_on s moved m r told (next.Go after) is (inr w) =
+    let same : after.state ≡ at_moment s m = w.1 ∙ is in
+    (rw w.0 (ap (λ (t : State). t.history) same), inr (ap (λ (t : State). t.clock) same))
+query_goes_on s moved m r told (next.Stop why keeper) is e = tt

@@ -68,9 +68,9 @@ accepted_after s t bytes stamped None p e =
     })
 
 in_time_after : (s t : State) (bytes : List ℕ) (stamped : Stamped) (early : Bool) → payload stamped ≡ bytes
-    → (if early then None else accepted s stamped (refusal s.history stamped.at stamped.command)) ≡ Some t → IsAfter s bytes t
+    → (if early then None else accepted s stamped (refusal s.history stamped.at stamped.by stamped.command)) ≡ Some t → IsAfter s bytes t
 in_time_after s t bytes stamped true p e = absurd (cc)
-in_time_after s t bytes stamped false p e = accepted_after s t bytes stamped (refusal s.history stamped.at stamped.command) p e
+in_time_after s t bytes stamped false p e = accepted_after s t bytes stamped (refusal s.history stamped.at stamped.by stamped.command) p e
 
 stamped_after : IsOnePayload → (s t : State) (bytes : List ℕ) (found : Option Stamped) → stamped_of bytes ≡ found → after_stamped s found ≡ Some t → IsAfter s bytes t
 stamped_after law s t bytes None is e = absurd (cc)
@@ -148,7 +148,7 @@ fronts_more h s fronts whole n le = cases (or_last n (length h) (omega (arith, l
     cases (inl short) = subst Reopens (sym (take-append-le n h (s ∷ []) short)) (fronts n short)
     cases (inr all) = subst Reopens (sym (take_all n (h ++ s ∷ []) (omega (arith, length-append h (s ∷ []), all)))) whole
 
-after_written : (history : List Stamped) (stamped : Stamped) → stamped_of (payload stamped) ≡ Some stamped → last_from 0 history ≤ stamped.at → refusal history stamped.at stamped.command ≡ None
+after_written : (history : List Stamped) (stamped : Stamped) → stamped_of (payload stamped) ≡ Some stamped → last_from 0 history ≤ stamped.at → refusal history stamped.at stamped.by stamped.command ≡ None
     → after_payload (at_last history) (payload stamped) ≡ Some (at_last (history ++ stamped ∷ []))
 unfolding after_payload
 after_written history stamped back later sure =
@@ -156,7 +156,7 @@ after_written history stamped back later sure =
     let clock : stamped.at ≡ last_from 0 (history ++ stamped ∷ []) = sym (last_more 0 history stamped) in
     rw (back, in_time, sure) (ap (λ (n : ℕ). Some (record { history = history ++ stamped ∷ []; clock = n })) clock)
 
-pub opens_more : (history : List Stamped) (stamped : Stamped) → stamped_of (payload stamped) ≡ Some stamped → last_from 0 history ≤ stamped.at → refusal history stamped.at stamped.command ≡ None
+pub opens_more : (history : List Stamped) (stamped : Stamped) → stamped_of (payload stamped) ≡ Some stamped → last_from 0 history ≤ stamped.at → refusal history stamped.at stamped.by stamped.command ≡ None
     → ((records : Records) → texts records ≡ payloads_of history → judged start records ≡ Ok (at_last history))
     → (records : Records) → texts records ≡ payloads_of (history ++ stamped ∷ []) → judged start records ≡ Ok (at_last (history ++ stamped ∷ []))
 opens_more history stamped back later sure opens records is =
@@ -166,14 +166,14 @@ opens_more history stamped back later sure opens records is =
 
 -- an accepted command that is kept is served
 pub served_more : (s : State) (stamped : Stamped) (told told2 : Option (List (List ℕ))) (failed failed2 : Bool) → IsServed s told failed → stamped.at ≡ s.clock
-    → refusal s.history s.clock stamped.command ≡ None → stamped_of (payload stamped) ≡ Some stamped → told2 ≡ option_map (λ ps. ps ++ payload stamped ∷ []) told → failed2 ≡ false
+    → refusal s.history s.clock stamped.by stamped.command ≡ None → stamped_of (payload stamped) ≡ Some stamped → told2 ≡ option_map (λ ps. ps ++ payload stamped ∷ []) told → failed2 ≡ false
     → IsServed (appended s stamped.by stamped.command) told2 failed2
 served_more s stamped told told2 failed failed2 served at sure back kept going =
     let same : appended s stamped.by stamped.command ≡ record { history = s.history ++ stamped ∷ []; clock = s.clock } = rw (← at) refl in
     rw same (record {
       payloads = with_one told served.payloads kept;
       going = going;
-      opens = fronts_more s.history stamped served.opens (opens_more s.history stamped back (omega (arith, served.last)) (subst (λ (n : ℕ). refusal s.history n stamped.command ≡ None) (sym at) sure) (whole_reopens s.history served.opens));
+      opens = fronts_more s.history stamped served.opens (opens_more s.history stamped back (omega (arith, served.last)) (subst (λ (n : ℕ). refusal s.history n stamped.by stamped.command ≡ None) (sym at) sure) (whole_reopens s.history served.opens));
       last = omega (arith, last_more 0 s.history stamped);
     })
   where

@@ -27,7 +27,7 @@ accepted s stamped (Some r) = None
 -- the state after a stamped command, unless its moment is less than the clock or it is refused
 abbrev pub after_stamped : State → Option Stamped → Option State
 after_stamped s None = None
-after_stamped s (Some stamped) = if nat_lt stamped.at s.clock then None else accepted s stamped (refusal s.history stamped.at stamped.command)
+after_stamped s (Some stamped) = if nat_lt stamped.at s.clock then None else accepted s stamped (refusal s.history stamped.at stamped.by stamped.command)
 
 -- the state after a payload
 unfoldable pub after_payload : State → List ℕ → Option State

@@ -1,18 +1,21 @@
 -- One request: the reply, and the registry after it.
-use Rattle.std.specs.Prelude.{◌≡◌, ◌⊎◌, ℕ, [], ◌∷◌, ◌++◌, Option, Some, None, Result, Ok, Err, length, max, true}
+use Rattle.std.specs.Prelude.{◌≡◌, ◌⊎◌, ℕ, List, [], ◌∷◌, ◌++◌, Option, Some, None, Result, Ok, Err, length, max, true}
+use Rattle.reg_base.specs.Entities.{entity_of}
 use Rattle.reg_base.specs.declared.entity.Entity.{Entity}
 use Rattle.reg_terms.specs.declared.command.Command.{Command}
 use Rattle.reg_terms.specs.declared.command.Stamped.{Stamped}
 use Rattle.reg_terms.specs.declared.refusal.Refusal.{Refusal}
-use Rattle.reg_machine.specs.History.{State, facts, refusal, appended}
-use Rattle.reg_view.specs.Answers.{answer_of}
+use Rattle.reg_terms.specs.declared.refusal.Refusal.TheVariants.{NoCaller}
+use Rattle.reg_machine.specs.History.{State, refusal, appended}
+use Rattle.reg_view.specs.AtClock.{view}
+use Rattle.reg_view.specs.Show.{show}
 use Rattle.reg_terms.specs.declared.query.Answer.{Answer}
 use Rattle.reg_terms.specs.declared.request.Request.{Request}
 use Rattle.reg_terms.specs.declared.request.Op.{Op}
 use Rattle.reg_terms.specs.declared.request.Op.TheVariants as op
 use Rattle.reg_terms.specs.declared.reply.Reply.{Reply}
 use Rattle.reg_terms.specs.declared.reply.Reply.TheVariants as reply
-use Rattle.reg_terms.specs.Forms.{is_entity, op_has_form}
+use Rattle.reg_terms.specs.Forms.{op_has_form}
 use Rattle.reg_service.specs.declared.service.Next.{Next}
 use Rattle.reg_service.specs.declared.service.Next.TheVariants as next
 use Rattle.reg_service.specs.declared.service.Cause.{Cause}
@@ -27,15 +30,20 @@ abbrev pub decided : State → Entity → Command → Option Refusal → Reply �
 decided s by command None = (reply.Number (length (appended s by command).history), appended s by command)
 decided s by command (Some r) = (reply.Refused r, s)
 
+-- the command of an entity, unless it is refused; the text of no entity is nobody's
+abbrev pub ordered : State → Option Entity → Command → Reply × State
+ordered s None command = (reply.Refused NoCaller, s)
+ordered s (Some by) command = decided s by command (refusal s.history s.clock by command)
+
 -- the reply to a query
 abbrev pub answered : Result Answer Refusal → Reply
 answered (Ok a) = reply.Answer a
 answered (Err r) = reply.Refused r
 
 -- the reply to what is asked at the clock, and the state after it
-abbrev pub requested : State → Entity → Op → Reply × State
-requested s by (op.Command command) = decided s by command (refusal s.history s.clock command)
-requested s by (op.Query query) = (answered (answer_of query s.clock (facts s.history s.clock)), s)
+abbrev pub requested : State → List ℕ → Op → Reply × State
+requested s by (op.Command command) = ordered s (entity_of by) command
+requested s by (op.Query query) = (answered (show (view s.history s.clock by) query), s)
 
 -- the reply to a reading at a moment, and the state after it
 abbrev pub turn : State → ℕ → Result Request Refusal → Reply × State
@@ -80,9 +88,9 @@ abbrev pub GoesOn : {K : Type 0} → State → ℕ → Reply × Next K → Type 
 GoesOn s m (told, next.Go after) = KeepsHistory s told after.state × ((after.state.clock ≡ s.clock) ⊎ (after.state.clock ≡ max s.clock m))
 GoesOn s m (told, next.Stop why keeper) = Unit {0}
 
--- the caller and the fields of what is asked have their forms
+-- the fields of what is asked have their forms
 abbrev pub HasForm : Request → Type 0
-HasForm request = (is_entity request.by ≡ true) × (op_has_form request.op ≡ true)
+HasForm request = op_has_form request.op ≡ true
 
 -- a query is asked
 abbrev pub IsQuery : Op → Type 0

@@ -22,7 +22,7 @@ fn is_refused(
     by: &Entity,
     command: &Command,
 ) -> Result<bool, AllocError>
-    ensures { IfOk result (λ b. b ≡ is_some (refusal machine.now.history machine.now.clock command.now)) }
+    ensures { IfOk result (λ b. b ≡ is_some (refusal machine.now.history machine.now.clock by.now command.now)) }
 {
     let found = machine.decide(alloc, by, command)?;
     Ok(found.is_some())
@@ -50,7 +50,7 @@ fn taken(
     by: &Entity,
     command: Command,
 ) -> Result<Option<Machine<Incremental>>, AllocError>
-    requires allowed { refusal machine.history machine.clock command ≡ None }
+    requires allowed { refusal machine.history machine.clock by.now command ≡ None }
     requires form { has_form command ≡ true }
     ensures { IfOk result (λ found. found ≡ Some (appended machine by.now command)) }
 {
@@ -68,7 +68,7 @@ fn decided(
     command: Command,
 ) -> Result<Option<Machine<Incremental>>, AllocError>
     requires { has_form command ≡ true }
-    ensures { IfOk result (λ found. found ≡ accepted machine (record { at = machine.clock; by = by.now; command = command }) (refusal machine.history machine.clock command)) }
+    ensures { IfOk result (λ found. found ≡ accepted machine (record { at = machine.clock; by = by.now; command = command }) (refusal machine.history machine.clock by.now command)) }
 {
     match is_refused(alloc, &machine, by, &command) {
         Ok(false) => taken(alloc, machine, by, command),
@@ -93,7 +93,7 @@ fn act(
 ) -> Result<Option<Machine<Incremental>>, AllocError>
     requires form { has_form command ≡ true }
     requires later { machine.clock ≤ at }
-    ensures { IfOk result (λ found. found ≡ accepted machine (record { at = at; by = by.now; command = command }) (refusal machine.history at command)) }
+    ensures { IfOk result (λ found. found ≡ accepted machine (record { at = at; by = by.now; command = command }) (refusal machine.history at by.now command)) }
 {
     match moved(alloc, machine, at) {
         Ok(machine) => decided(alloc, machine, by, command),

@@ -9,11 +9,11 @@ ghost use Rattle.reg_terms.specs.Forms.{is_entity, has_form};
 ghost use Rattle.reg_wire.specs.Payload.{IsWritable};
 ghost use Rattle.reg_service.specs.Opening.{payloads_of, judged, FrontsReopen, IsServed};
 ghost use Rattle.reg_service.specs.Kept.{KeepsNext, KeptOn, IsAcknowledged, LeavesKeeper, keeper_of};
-ghost use Rattle.reg_service.specs.Turn.{turn, requested, HasForm, IsQuery, Carries, Follows, GoesOn};
+ghost use Rattle.reg_service.specs.Turn.{turn, requested, HasForm, IsQuery, Carries, Follows, GoesOn, ordered};
 
 use crate::opening::replay;
 use crate::uncounted::{advance, apply};
-use reg_base::{Entity, Moment};
+use reg_base::{Bytes, Entity, Moment};
 use reg_effect::Incremental;
 use reg_facts::{Command, Refusal, Stamped};
 use reg_keep::{KeepFault, Keeper, OpenFault, Records};
@@ -74,7 +74,7 @@ fn asked<K: Keeper>(
     alloc: Global,
     machine: Machine<Incremental>,
     keeper: K,
-    by: Entity,
+    by: Bytes,
     query: Query,
 ) -> (Reply, Next<K>)
     requires { IsServed machine (K.payloads keeper) (K.has_failed keeper) }
@@ -89,6 +89,7 @@ fn asked<K: Keeper>(
         Err(AllocError) => Reply::NoMemory,
     };
     drop(query);
+    drop(by);
     (reply, Next::Go(Service { machine, keeper }))
 }
 
@@ -101,11 +102,11 @@ fn keep<K: Keeper>(
     stamped: Stamped,
 ) -> (Reply, Next<K>)
     requires served { IsServed machine (K.payloads keeper) (K.has_failed keeper) }
-    requires accepted { refusal machine.history machine.clock stamped.command ≡ None }
+    requires accepted { refusal machine.history machine.clock stamped.by stamped.command ≡ None }
     requires now { stamped.at ≡ machine.clock }
     requires writable { IsWritable stamped }
-    ensures turn { Carries machine (requested machine stamped.by (Op.Command stamped.command)) result }
-    ensures kept { KeepsNext ⟦<K as Keeper>⟧ machine.history (requested machine stamped.by (Op.Command stamped.command)).1.history keeper result.1 }
+    ensures turn { Carries machine (ordered machine (Some stamped.by) stamped.command) result }
+    ensures kept { KeepsNext ⟦<K as Keeper>⟧ machine.history (ordered machine (Some stamped.by) stamped.command).1.history keeper result.1 }
     ensures acknowledged { (n : ℕ) → result.0 ≡ Reply.Number n → IsAcknowledged ⟦<K as Keeper>⟧ machine.history n result.1 }
 {
     let mut keeper = keeper;
@@ -133,7 +134,7 @@ fn keep<K: Keeper>(
     }
 }
 
-/// Carries out a command, unless it is refused.
+/// Carries out an entity's command, unless it is refused.
 fn carried_out<K: Keeper>(
     alloc: Global,
     machine: Machine<Incremental>,
@@ -144,8 +145,8 @@ fn carried_out<K: Keeper>(
     requires served { IsServed machine (K.payloads keeper) (K.has_failed keeper) }
     requires caller { is_entity by ≡ true }
     requires form { has_form command ≡ true }
-    ensures turn { Carries machine (requested machine by (Op.Command command)) result }
-    ensures kept { KeepsNext ⟦<K as Keeper>⟧ machine.history (requested machine by (Op.Command command)).1.history keeper result.1 }
+    ensures turn { Carries machine (ordered machine (Some by) command) result }
+    ensures kept { KeepsNext ⟦<K as Keeper>⟧ machine.history (ordered machine (Some by) command).1.history keeper result.1 }
     ensures acknowledged { (n : ℕ) → result.0 ≡ Reply.Number n → IsAcknowledged ⟦<K as Keeper>⟧ machine.history n result.1 }
 {
     let at = machine.clock();
@@ -163,6 +164,38 @@ fn carried_out<K: Keeper>(
             )
         }
         Ok(None) => keep(alloc, machine, keeper, stamped),
+    }
+}
+
+/// Carries out a command of whoever has this text, unless it is refused.
+fn commanded<K: Keeper>(
+    alloc: Global,
+    machine: Machine<Incremental>,
+    keeper: K,
+    by: Bytes,
+    command: Command,
+) -> (Reply, Next<K>)
+    requires served { IsServed machine (K.payloads keeper) (K.has_failed keeper) }
+    requires form { has_form command ≡ true }
+    ensures turn { Carries machine (requested machine by (Op.Command command)) result }
+    ensures kept { KeepsNext ⟦<K as Keeper>⟧ machine.history (requested machine by (Op.Command command)).1.history keeper result.1 }
+    ensures acknowledged { (n : ℕ) → result.0 ≡ Reply.Number n → IsAcknowledged ⟦<K as Keeper>⟧ machine.history n result.1 }
+{
+    let read = Entity::parse(alloc, by.bytes());
+    drop(by);
+    match read {
+        Err(AllocError) => {
+            drop(command);
+            (Reply::NoMemory, Next::Go(Service { machine, keeper }))
+        }
+        Ok(None) => {
+            drop(command);
+            (
+                Reply::Refused(Refusal::NoCaller),
+                Next::Go(Service { machine, keeper }),
+            )
+        }
+        Ok(Some(by)) => carried_out(alloc, machine, keeper, by, command),
     }
 }
 
@@ -243,7 +276,7 @@ impl<K: Keeper> Service<K> {
         let Request { by, op } = request;
         match op {
             Op::Query(query) => asked(alloc, machine, keeper, by, query),
-            Op::Command(command) => carried_out(alloc, machine, keeper, by, command),
+            Op::Command(command) => commanded(alloc, machine, keeper, by, command),
         }
     }
 

@@ -46,7 +46,7 @@ fn apply_from<L: Ledger>(
     command: Command,
     blank: Blank,
 ) -> Result<Machine<Incremental>, Spent>
-    requires allowed { refusal machine.history machine.clock command ≡ None }
+    requires allowed { refusal machine.history machine.clock by.now command ≡ None }
     requires form { has_form command ≡ true }
     requires name { blank.name ≡ L.name }
     requires parts { blank.parts ≡ L.parts }
@@ -64,7 +64,7 @@ pub fn apply(
     by: &Entity,
     command: Command,
 ) -> Result<Machine<Incremental>, Spent>
-    requires allowed { refusal machine.history machine.clock command ≡ None }
+    requires allowed { refusal machine.history machine.clock by.now command ≡ None }
     requires form { has_form command ≡ true }
     ensures { IfOk result (λ m. m ≡ appended machine by.now command) }
 {

@@ -15,7 +15,8 @@ use Rattle.reg_terms.specs.declared.request.Op.TheVariants as op
 use Rattle.reg_terms.specs.declared.reply.Reply.{Reply}
 use Rattle.reg_terms.specs.declared.reply.Reply.TheVariants as reply
 use Rattle.reg_json.specs.Reading.{reading_of}
-use Rattle.reg_service.specs.Turn.{at_moment, decided, requested, turn, Turns, Follows, last_reply}
+use Rattle.reg_base.specs.Entities.{entity_of}
+use Rattle.reg_service.specs.Turn.{at_moment, decided, requested, turn, Turns, Follows, last_reply, ordered}
 use Rattle.reg_service.specs.Opening.{Served}
 use Rattle.reg_service.specs.declared.service.Cause.{Cause}
 use Rattle.reg_service.specs.declared.service.Next.{Next}
@@ -29,8 +30,12 @@ decided_keeps : (s : State) (by : Entity) (command : Command) (r : Option Refusa
 decided_keeps s by command None h = cc
 decided_keeps s by command (Some r) h = refl
 
-answered_keeps : (s : State) (by : Entity) (asked : Op) → is_accepted (requested s by asked).0 ≡ false → (requested s by asked).1 ≡ s
-answered_keeps s by (op.Command command) h = decided_keeps s by command (refusal s.history s.clock command) h
+ordered_keeps : (s : State) (by : Option Entity) (command : Command) → is_accepted (ordered s by command).0 ≡ false → (ordered s by command).1 ≡ s
+ordered_keeps s None command h = refl
+ordered_keeps s (Some by) command h = decided_keeps s by command (refusal s.history s.clock by command) h
+
+answered_keeps : (s : State) (by : List ℕ) (asked : Op) → is_accepted (requested s by asked).0 ≡ false → (requested s by asked).1 ≡ s
+answered_keeps s by (op.Command command) h = ordered_keeps s (entity_of by) command h
 answered_keeps s by (op.Query query) h = refl
 
 -- what isn't an accepted command moves the clock alone

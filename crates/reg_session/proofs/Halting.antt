@@ -17,7 +17,8 @@ use Rattle.reg_machine.specs.History.{State, refusal}
 use Rattle.reg_keep.specs.declared.keeper.Keeper.{Ghosts}
 use Rattle.reg_service.specs.Opening.{payloads_of, Served, FrontsReopen}
 use Rattle.reg_service.specs.Kept.{KeptOn, IsBetween, IsOneMore, Stopped, Halted, KeepsNext, Began, RoseAt}
-use Rattle.reg_service.specs.Turn.{requested, decided, turn, at_moment}
+use Rattle.reg_base.specs.Entities.{entity_of}
+use Rattle.reg_service.specs.Turn.{requested, decided, turn, at_moment, ordered}
 use Rattle.reg_service.specs.declared.service.Next.{Next}
 use Rattle.reg_service.specs.declared.service.Next.TheVariants as next
 use Rattle.reg_service.specs.declared.service.Cause.{Cause}
@@ -163,8 +164,12 @@ decided_one : (s : State) (by : Entity) (command : Command) (r : Option Refusal)
 decided_one s by command None = inr (record { at = s.clock; by = by; command = command }, refl)
 decided_one s by command (Some r) = inl refl
 
-requested_one : (s : State) (by : Entity) (asked : Op) → IsOneMore s.history (requested s by asked).1.history
-requested_one s by (op.Command command) = decided_one s by command (refusal s.history s.clock command)
+ordered_one : (s : State) (by : Option Entity) (command : Command) → IsOneMore s.history (ordered s by command).1.history
+ordered_one s None command = inl refl
+ordered_one s (Some by) command = decided_one s by command (refusal s.history s.clock by command)
+
+requested_one : (s : State) (by : List ℕ) (asked : Op) → IsOneMore s.history (requested s by asked).1.history
+requested_one s by (op.Command command) = ordered_one s (entity_of by) command
 requested_one s by (op.Query query) = inl refl
 
 -- a turn leads to the history, or to one command more

@@ -6,15 +6,18 @@ use Rattle.reg_base.specs.declared.entity.Entity.{Entity}
 use Rattle.reg_terms.specs.declared.command.Command.{Command}
 use Rattle.reg_terms.specs.declared.command.Stamped.{Stamped}
 use Rattle.reg_terms.specs.declared.refusal.Refusal.{Refusal}
-use Rattle.reg_machine.specs.History.{State, refusal, facts}
-use Rattle.reg_view.specs.Answers.{answer_of}
+use Rattle.reg_machine.specs.History.{State, refusal}
+use Rattle.reg_view.specs.AtClock.{view}
+use Rattle.reg_view.specs.Show.{show}
 use Rattle.reg_terms.specs.declared.query.Answer as terms
 use Rattle.reg_terms.specs.declared.request.Request.{Request}
 use Rattle.reg_terms.specs.declared.request.Op.{Op}
 use Rattle.reg_terms.specs.declared.request.Op.TheVariants as op
+use Rattle.reg_terms.specs.declared.refusal.Refusal.TheVariants.{NoCaller}
 use Rattle.reg_terms.specs.declared.reply.Reply.{Reply}
 use Rattle.reg_terms.specs.declared.reply.Reply.TheVariants as reply
-use Rattle.reg_service.specs.Turn.{turn, requested, decided, answered, at_moment, Turns}
+use Rattle.reg_base.specs.Entities.{entity_of}
+use Rattle.reg_service.specs.Turn.{turn, requested, decided, answered, at_moment, Turns, ordered}
 use Rattle.reg_session.specs.Lines.{readings}
 use Rattle.reg_session.specs.Replies.{numbers, places}
 use Rattle.reg_session.specs.Answered.{Answer, Point, MayAnswer, AreNext, Answered, Accepted, moments_of, replies_of, answers, last_state}
@@ -41,9 +44,13 @@ answered_numbers : (s : State) (r : Result terms.Answer Refusal) → NumbersAdde
 answered_numbers s (Ok a) = nothing s (reply.Answer a) s refl (λ replies. refl)
 answered_numbers s (Err r) = nothing s (reply.Refused r) s refl (λ replies. refl)
 
-requested_numbers : (s : State) (by : Entity) (asked : Op) → NumbersAdded s (requested s by asked).0 (requested s by asked).1
-requested_numbers s by (op.Command command) = decided_numbers s by command (refusal s.history s.clock command)
-requested_numbers s by (op.Query query) = answered_numbers s (answer_of query s.clock (facts s.history s.clock))
+ordered_numbers : (s : State) (by : Option Entity) (command : Command) → NumbersAdded s (ordered s by command).0 (ordered s by command).1
+ordered_numbers s None command = nothing s (reply.Refused NoCaller) s refl (λ replies. refl)
+ordered_numbers s (Some by) command = decided_numbers s by command (refusal s.history s.clock by command)
+
+requested_numbers : (s : State) (by : List ℕ) (asked : Op) → NumbersAdded s (requested s by asked).0 (requested s by asked).1
+requested_numbers s by (op.Command command) = ordered_numbers s (entity_of by) command
+requested_numbers s by (op.Query query) = answered_numbers s (show (view s.history s.clock by) query)
 
 moved : (s : State) (m : ℕ) (told : Reply) (after : State) → NumbersAdded (at_moment s m) told after → NumbersAdded s told after
 moved s m told after t = record { more = t.more; grown = t.grown; tells = t.tells }

@@ -1,11 +1,13 @@
 // The keys by which tables find rows, and the groups that keys name.
 ghost use Rattle.reg_terms.specs.Kinds.{member_group, holder_group};
+ghost use Rattle.reg_terms.specs.Privileges.{code};
 ghost use Rattle.reg_terms.specs.Links.{members_alike, behind_one};
 
 use crate::{
     CompositeRow, GrantRow, Holder, InheritKind, InheritRow, Member, MemberRow, Object, Scope,
+    privilege_code,
 };
-use reg_base::{FolderId, GroupId, Privilege};
+use reg_base::{FolderId, GroupId};
 use reg_table::{LinkedRow, Row};
 
 /// A membership is found by its group and member, and a group's are listed by member: persons by
@@ -58,23 +60,23 @@ impl Row for CompositeRow {
     fn place(&self) {}
 }
 
-/// A grant is found by its object, privilege and holder, and an object's are listed by the privilege's
+/// A grant is found by its object, the privilege's code and its holder, and an object's are listed by the
 /// code, then everyone, persons by id, groups by id.
 impl Row for GrantRow {
     type Group = Object;
 
-    type Place = (Privilege, Holder);
+    type Place = (u8, Holder);
 
     ghost group_of = { λ row. row.object };
 
-    ghost place_of = { λ row. (row.privilege, row.holder) };
+    ghost place_of = { λ row. (code row.privilege, row.holder) };
 
     fn group(&self) -> Object {
         self.object
     }
 
-    fn place(&self) -> (Privilege, Holder) {
-        (self.privilege, self.holder)
+    fn place(&self) -> (u8, Holder) {
+        (privilege_code(self.privilege), self.holder)
     }
 }
 
@@ -86,7 +88,7 @@ impl LinkedRow for GrantRow {
 
     ghost link_alike = { λ g h p q group_is place_is. behind_one _ p.1 q.1 place_is };
 
-    fn link(_object: Object, place: (Privilege, Holder)) -> Option<GroupId> {
+    fn link(_object: Object, place: (u8, Holder)) -> Option<GroupId> {
         place.1.group()
     }
 }
@@ -96,18 +98,19 @@ impl LinkedRow for GrantRow {
 impl Row for InheritRow {
     type Group = FolderId;
 
-    type Place = (InheritKind, Scope, Privilege, Holder);
+    type Place = (InheritKind, Scope, u8, Holder);
 
     ghost group_of = { λ row. row.folder };
 
-    ghost place_of = { λ row. (row.kind, row.scope, row.privilege, row.holder) };
+    ghost place_of = { λ row. (row.kind, row.scope, code row.privilege, row.holder) };
 
     fn group(&self) -> FolderId {
         self.folder
     }
 
-    fn place(&self) -> (InheritKind, Scope, Privilege, Holder) {
-        (self.kind, self.scope, self.privilege, self.holder)
+    fn place(&self) -> (InheritKind, Scope, u8, Holder) {
+        let code = privilege_code(self.privilege);
+        (self.kind, self.scope, code, self.holder)
     }
 }
 
@@ -119,7 +122,7 @@ impl LinkedRow for InheritRow {
 
     ghost link_alike = { λ g h p q group_is place_is. behind_one _ p.3 q.3 place_is };
 
-    fn link(_folder: FolderId, place: (InheritKind, Scope, Privilege, Holder)) -> Option<GroupId> {
+    fn link(_folder: FolderId, place: (InheritKind, Scope, u8, Holder)) -> Option<GroupId> {
         place.3.group()
     }
 }

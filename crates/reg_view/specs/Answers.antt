@@ -1,105 +1,206 @@
--- What a query is answered over the facts and a moment.
-use Rattle.std.specs.Prelude.{ℕ, ◌==◌, ◌++◌, List, [], ◌∷◌, Option, None, Some, Result, Ok, Err, map, option_map, codes, if◌then◌else◌}
-use Rattle.std.specs.List.{find}
-use Rattle.reg_facts.specs.Children.{by_bytes}
-use Rattle.reg_facts.specs.Climbing.{is_parent}
-use Rattle.reg_facts.specs.Lists.{Lists}
-use Rattle.reg_facts.specs.Members.{subject_row, texts_where}
-use Rattle.reg_facts.specs.RowOrder.{rows_of}
-use Rattle.reg_facts.specs.Rows.{group_row}
-use Rattle.reg_terms.specs.declared.kinds.Member.{Member}
-use Rattle.reg_terms.specs.declared.kinds.Member.TheVariants.{Person, Group}
+-- The answers over the facts, as they are computed: each is what `show` tells of the view.
+use Rattle.std.specs.Prelude.{ℕ, ◌==◌, ◌&&◌, List, [], ◌∷◌, Bool, true, false, Option, None, Some, Result, Ok, Err, map, filter, codes, if◌then◌else◌}
+use Rattle.std.specs.List.{list_any}
+use Rattle.reg_base.specs.Entities.{entity_of}
+use Rattle.reg_base.specs.declared.entity.Entity.{Entity}
+use Rattle.reg_base.specs.declared.entity.Entity.TheVariants as entity
+use Rattle.reg_base.specs.declared.privilege.Privilege.TheVariants as privilege
+use Rattle.reg_terms.specs.declared.kinds.Object.{Object}
 use Rattle.reg_terms.specs.declared.kinds.Object.TheVariants as object
-use Rattle.reg_terms.specs.declared.rows.MemberRow.{MemberRow}
-use Rattle.reg_terms.specs.declared.rows.CompositeRow.{CompositeRow}
-use Rattle.reg_effect.specs.Member.{member}
-use Rattle.reg_machine.specs.Live.{live}
-use Rattle.reg_facts.specs.Naming.{folder_id, group_id, name_in, name_of}
 use Rattle.reg_terms.specs.declared.refusal.Refusal.{Refusal}
-use Rattle.reg_terms.specs.declared.refusal.Refusal.TheVariants.{NotFound}
-use Rattle.reg_terms.specs.declared.rows.FolderRow.{FolderRow}
+use Rattle.reg_terms.specs.declared.refusal.Refusal.TheVariants.{NotFound, WrongKind}
 use Rattle.reg_terms.specs.declared.rows.GroupRow.{GroupRow}
-use Rattle.reg_terms.specs.declared.rows.DefinitionRow.{DefinitionRow}
-use Rattle.reg_terms.specs.declared.rows.AttributeRow.{AttributeRow}
 use Rattle.reg_terms.specs.declared.query.Query.{Query}
 use Rattle.reg_terms.specs.declared.query.Query.TheVariants as query
 use Rattle.reg_terms.specs.declared.query.Answer.{Answer}
 use Rattle.reg_terms.specs.declared.query.Answer.TheVariants as answer
-use Rattle.reg_terms.specs.declared.shown.FactorsShown.{FactorsShown}
-use Rattle.reg_terms.specs.declared.shown.RowShown.{RowShown}
+use Rattle.reg_facts.specs.Children.{child_names}
+use Rattle.reg_facts.specs.Edits.{subject_id}
+use Rattle.reg_facts.specs.Lists.{Lists}
+use Rattle.reg_facts.specs.Members.{texts_where}
+use Rattle.reg_facts.specs.Naming.{folder_id, group_id, name_of, resolve}
+use Rattle.reg_facts.specs.RowOrder.{rows_of}
+use Rattle.reg_facts.specs.Rows.{attribute_row, group_row}
+use Rattle.reg_facts.specs.Sound.{has_group}
+use Rattle.reg_effect.specs.declared.live.Live.{Live}
+use Rattle.reg_effect.specs.Member.{member}
+use Rattle.reg_priv.specs.declared.who.Who.{Who}
+use Rattle.reg_priv.specs.Holders.{holders}
+use Rattle.reg_priv.specs.May.{privileges_of, visible, who_of}
+use Rattle.reg_view.specs.Show.{◌>>=◌, denied, root_denied, is_caller}
+use Rattle.reg_view.specs.Texts.{row_shown, composite_shown, grant_shown, definition_name}
+use Rattle.reg_view.specs.View.{is_admin, is_readable}
+
+-- ---- groups and folders
 
 -- the display text of the group of this id
 abbrev pub display_of : ℕ → List GroupRow → List ℕ
 display_of id rows = elim (group_row id rows) [ None ↦ [] | Some row ↦ row.display ]
 
--- the group of this name
-abbrev pub group_of : List ℕ → Lists → Result Answer Refusal
-group_of group f = elim (group_id group f) [ None ↦ Err (NotFound group) | Some id ↦ Ok (answer.GroupGet (display_of id f.groups) group) ]
+-- the group of this name, if the caller sees it
+abbrev pub group_seen : Live → Lists → Who → List ℕ → Result ℕ Refusal
+group_seen L f c group = elim (group_id group f) [ None ↦ Err (NotFound group) | Some id ↦ if visible L f c (object.Group id) then Ok id else Err (NotFound group) ]
 
--- the texts of the effective members of a group at a moment, in the order of the subjects
-abbrev pub member_texts : ℕ → ℕ → Lists → List (List ℕ)
-member_texts id at f = texts_where (member (live at f) id) f.subjects
+-- the group of this name, if the caller may read it
+abbrev pub group_read : Live → Lists → Who → List ℕ → Result ℕ Refusal
+group_read L f c group = do
+  id ← group_seen L f c group
+  if is_readable L f c (object.Group id) then Ok id else Err (denied group privilege.Read)
 
--- the members of the group of this name at a moment
-abbrev pub members_of : List ℕ → ℕ → Lists → Result Answer Refusal
-members_of group at f = elim (group_id group f) [ None ↦ Err (NotFound group) | Some id ↦ Ok (answer.Members (member_texts id at f)) ]
+-- the display text of the group of this name
+abbrev pub group_of : Live → Lists → Who → List ℕ → Result Answer Refusal
+group_of L f c group = do
+  id ← group_seen L f c group
+  Ok (answer.GroupGet (display_of id f.groups) group)
 
--- the text of a member: a person's, and a group's name behind `g:gsa/`
-abbrev pub member_text : Member → Lists → List ℕ
-member_text (Person s) f = elim (subject_row s f.subjects) [ None ↦ [] | Some row ↦ row.text ]
-member_text (Group g) f = codes "g:gsa/" ++ name_of (object.Group g) f
+-- the members of the group of this name
+abbrev pub members_of : Live → Lists → Who → List ℕ → Result Answer Refusal
+members_of L f c group = do
+  id ← group_read L f c group
+  Ok (answer.Members (texts_where (member L id) f.subjects))
 
--- an immediate membership as it is shown
-abbrev pub row_shown : Lists → MemberRow → RowShown
-row_shown f row = record { from = row.from; member = member_text row.member f; until = row.until }
+-- the immediate memberships and the factors of the group of this name
+abbrev pub rows_of_group : Live → Lists → Who → List ℕ → Result Answer Refusal
+rows_of_group L f c group = do
+  id ← group_read L f c group
+  Ok (answer.Rows (composite_shown id f) (map (row_shown f) (rows_of id f.rows)))
 
--- the factors of a composite as they are shown
-abbrev pub factors_shown : Lists → CompositeRow → FactorsShown
-factors_shown f row = record { kind = row.op; left = name_of (object.Group row.left) f; right = name_of (object.Group row.right) f }
+-- whether a name's object is there, and the caller sees it
+abbrev pub is_seen : Live → Lists → Who → Option Object → Bool
+is_seen L f c None = false
+is_seen L f c (Some o) = visible L f c o
 
--- the factors of a group, if it is a composite
-abbrev pub composite_shown : ℕ → Lists → Option FactorsShown
-composite_shown id f = option_map (factors_shown f) (find (λ (row : CompositeRow). row.group == id) f.composites)
+-- the names of objects that the caller sees
+abbrev pub seen_names : Live → Lists → Who → List (List ℕ) → List (List ℕ)
+seen_names L f c names = filter (λ (text : List ℕ). is_seen L f c (resolve text f)) names
 
--- the immediate memberships of a group, persons first, and its factors
-abbrev pub rows_of_group : List ℕ → Lists → Result Answer Refusal
-rows_of_group group f = elim (group_id group f) [ None ↦ Err (NotFound group) | Some id ↦ Ok (answer.Rows (composite_shown id f) (map (row_shown f) (rows_of id f.rows))) ]
+-- what the caller sees of what stands directly in a folder; it sees all folders
+abbrev pub listing : Live → Lists → Who → ℕ → List ℕ → Answer
+listing L f c d home = answer.FolderList
+    (seen_names L f c (child_names d home f).attributes)
+    (seen_names L f c (child_names d home f).definitions)
+    (child_names d home f).folders
+    (seen_names L f c (child_names d home f).groups)
 
--- the names of the folders directly in a folder of this name
-abbrev pub folder_names : ℕ → List ℕ → List FolderRow → List (List ℕ)
-folder_names d home [] = []
-folder_names d home (row ∷ rows) = if is_parent d row.parent then name_in home row.extension ∷ folder_names d home rows else folder_names d home rows
+-- what the caller sees of what stands directly in the folder of this name
+abbrev pub listing_of : Live → Lists → Who → List ℕ → Result Answer Refusal
+listing_of L f c folder = elim (folder_id folder f) [ None ↦ Err (NotFound folder) | Some d ↦ Ok (listing L f c d folder) ]
 
--- the names of the groups directly in it
-abbrev pub group_names : ℕ → List ℕ → List GroupRow → List (List ℕ)
-group_names d home [] = []
-group_names d home (row ∷ rows) = if row.folder == d then name_in home row.extension ∷ group_names d home rows else group_names d home rows
+-- ---- entities
 
--- the names of the definitions directly in it
-abbrev pub definition_names : ℕ → List ℕ → List DefinitionRow → List (List ℕ)
-definition_names d home [] = []
-definition_names d home (row ∷ rows) = if row.folder == d then name_in home row.extension ∷ definition_names d home rows else definition_names d home rows
+-- the object that an entity is, if it stands and the caller sees it; an entity of the registry itself is none
+abbrev pub entity_found : Live → Lists → Who → Entity → Result (Option Object) Refusal
+entity_found L f c (entity.Person text) = elim (subject_id text f.subjects) [ None ↦ Err (NotFound text) | Some s ↦ Ok (Some (object.Subject s)) ]
+entity_found L f c (entity.Group name) = do
+  g ← group_seen L f c name
+  Ok (Some (object.Group g))
+entity_found L f c entity.System = Ok None
+entity_found L f c entity.Everyone = Ok None
 
--- the names of the attributes directly in it
-abbrev pub attribute_names : ℕ → List ℕ → List AttributeRow → List (List ℕ)
-attribute_names d home [] = []
-attribute_names d home (row ∷ rows) = if row.folder == d then name_in home row.extension ∷ attribute_names d home rows else attribute_names d home rows
+-- the names of those of these groups that stand and that the caller may read
+abbrev pub readable_names : Live → Lists → Who → List ℕ → List (List ℕ)
+readable_names L f c ids = map (λ (g : ℕ). name_of (object.Group g) f) (filter (λ (g : ℕ). has_group g f.groups && is_readable L f c (object.Group g)) ids)
 
--- what stands directly in a folder, kind by kind, in the order of their bytes
-abbrev pub listing : ℕ → List ℕ → Lists → Answer
-listing d home f = answer.FolderList
-    (by_bytes (attribute_names d home f.attributes))
-    (by_bytes (definition_names d home f.definitions))
-    (by_bytes (folder_names d home f.folders))
-    (by_bytes (group_names d home f.groups))
+-- of the groups of which a person is a member those that the caller may read
+abbrev pub groups_with : Live → Lists → Who → ℕ → Answer
+groups_with L f c s = answer.Groups (map (λ (row : GroupRow). name_of (object.Group row.id) f) (filter (λ (row : GroupRow). member L row.id s && is_readable L f c (object.Group row.id)) f.groups))
 
--- what stands directly in the folder of this name
-abbrev pub listing_of : List ℕ → Lists → Result Answer Refusal
-listing_of folder f = elim (folder_id folder f) [ None ↦ Err (NotFound folder) | Some d ↦ Ok (listing d folder f) ]
+-- the groups of which a person of this text is a member
+abbrev pub groups_of_person : Live → Lists → Who → List ℕ → Result Answer Refusal
+groups_of_person L f c text = elim (subject_id text f.subjects) [ None ↦ Err (NotFound text) | Some s ↦ Ok (groups_with L f c s) ]
 
--- the answer to a query at a moment, or why it is refused
-abbrev pub answer_of : Query → ℕ → Lists → Result Answer Refusal
-answer_of (query.GroupGet group) at f = group_of group f
-answer_of (query.FolderList folder) at f = listing_of folder f
-answer_of (query.Members group) at f = members_of group at f
-answer_of (query.Rows group) at f = rows_of_group group f
+-- the groups of which this entity is a member
+abbrev pub groups_of : Live → Lists → Who → Entity → Result Answer Refusal
+groups_of L f c (entity.Person text) = groups_of_person L f c text
+groups_of L f c (entity.Group name) = do
+  _ ← group_seen L f c name
+  Err (WrongKind (codes "subject"))
+groups_of L f c entity.System = Err (WrongKind (codes "subject"))
+groups_of L f c entity.Everyone = Err (WrongKind (codes "subject"))
+
+-- ---- objects
+
+-- the object of this name, if the caller sees it
+abbrev pub name_found : Live → Lists → Who → List ℕ → Option Object → Result (Option Object) Refusal
+name_found L f c text None = Err (NotFound text)
+name_found L f c text (Some o) = if visible L f c o then Ok (Some o) else Err (NotFound text)
+
+-- the object that an entity's text names
+abbrev pub entity_object : Live → Lists → Who → List ℕ → Option Entity → Result (Option Object) Refusal
+entity_object L f c text None = Err (NotFound text)
+entity_object L f c text (Some e) = entity_found L f c e
+
+-- the object that a text names, if the caller sees it: an entity where it has a `/`, and else an object by its name
+abbrev pub object_found : Live → Lists → Who → List ℕ → Result (Option Object) Refusal
+object_found L f c text = if list_any (λ b. b == 47) text then entity_object L f c text (entity_of text) else name_found L f c text (resolve text f)
+
+-- the name of the definition of an attribute
+abbrev pub definition_of : ℕ → Lists → List ℕ
+definition_of a f = elim (attribute_row a f.attributes) [ None ↦ codes ":" | Some row ↦ definition_name f row ]
+
+-- what is answered to who isn't an object's admin
+abbrev pub not_admin : Lists → Object → Refusal
+not_admin f (object.Folder d) = denied (name_of (object.Folder d) f) privilege.StemAdmin
+not_admin f (object.Group g) = denied (name_of (object.Group g) f) privilege.Admin
+not_admin f (object.Def a) = denied (name_of (object.Def a) f) privilege.AttrAdmin
+not_admin f (object.Attr a) = denied (definition_of a f) privilege.AttrAdmin
+not_admin f (object.Subject s) = root_denied
+
+-- the grants on an object, as they are shown
+abbrev pub all_grants : Lists → Object → Answer
+all_grants f o = answer.Grants (map (grant_shown f) (holders o f))
+
+-- what the admin of an object is told of its grants; none is written on an attribute or a subject
+abbrev pub grants_told : Lists → Object → Result Answer Refusal
+grants_told f (object.Folder d) = Ok (all_grants f (object.Folder d))
+grants_told f (object.Group g) = Ok (all_grants f (object.Group g))
+grants_told f (object.Def a) = Ok (all_grants f (object.Def a))
+grants_told f (object.Attr a) = Err (WrongKind (codes "object"))
+grants_told f (object.Subject s) = Err (WrongKind (codes "object"))
+
+-- the grants on an object; an entity of the registry itself has none
+abbrev pub grants_on : Live → Lists → Who → Option Object → Result Answer Refusal
+grants_on L f c None = Err (WrongKind (codes "object"))
+grants_on L f c (Some o) = if is_admin L f c o then grants_told f o else Err (not_admin f o)
+
+-- the grants on what this text names
+abbrev pub grants_of : Live → Lists → Who → List ℕ → Result Answer Refusal
+grants_of L f c object = do
+  o ← object_found L f c object
+  grants_on L f c o
+
+-- ---- what someone may do
+
+-- what someone may do with an object
+abbrev pub powers_told : Live → Lists → Option Who → Object → Result Answer Refusal
+powers_told L f None o = Err (WrongKind (codes "entity"))
+powers_told L f (Some who) o = Ok (answer.May (privileges_of L f who o))
+
+-- what the caller itself may do with an object
+abbrev pub own_told : Live → Lists → Who → Option Object → Result Answer Refusal
+own_told L f c None = Err (WrongKind (codes "object"))
+own_told L f c (Some o) = powers_told L f (Some c) o
+
+-- what another may do with an object
+abbrev pub other_told : Live → Lists → Who → Option Object → Entity → Result Answer Refusal
+other_told L f c None e = Err (WrongKind (codes "object"))
+other_told L f c (Some o) e = if is_admin L f c o then powers_told L f (who_of e f) o else Err (not_admin f o)
+
+-- what an entity may do with what this text names
+abbrev pub may_of : Live → Lists → List ℕ → Who → List ℕ → Entity → Result Answer Refusal
+may_of L f by c object entity = do
+  o ← object_found L f c object
+  _ ← entity_found L f c entity
+  if is_caller by entity then own_told L f c o else other_told L f c o entity
+
+-- ---- queries
+
+-- what is answered to a caller of this text that stands
+abbrev pub answer_of : Live → Lists → List ℕ → Who → Query → Result Answer Refusal
+answer_of L f by c (query.GroupGet group) = group_of L f c group
+answer_of L f by c (query.FolderList folder) = listing_of L f c folder
+answer_of L f by c (query.Members group) = members_of L f c group
+answer_of L f by c (query.Rows group) = rows_of_group L f c group
+answer_of L f by c (query.Groups subject) = groups_of L f c subject
+answer_of L f by c (query.Grants object) = grants_of L f c object
+answer_of L f by c (query.May object entity) = may_of L f by c object entity

@@ -1,1 +1,7 @@
+pub mod Texts
+pub mod View
+pub mod Show
 pub mod Answers
+pub mod Unseen
+pub mod Telling
+pub mod AtClock

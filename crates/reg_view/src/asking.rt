@@ -1,95 +1,43 @@
 // Asking.
-ghost use Rattle.std.specs.Prelude.{◌≡◌, IfOk};
+ghost use Rattle.std.specs.Prelude.{◌≡◌, ℕ, List, Err, IfOk};
+ghost use Rattle.reg_terms.specs.declared.command.Stamped.{Stamped};
 ghost use Rattle.reg_machine.specs.History.{facts};
-ghost use Rattle.reg_view.specs.Answers.{answer_of, display_of, group_of, listing_of, members_of};
+ghost use Rattle.reg_machine.specs.Live.{live};
+ghost use Rattle.reg_view.specs.AtClock.{view};
+ghost use Rattle.reg_view.specs.Show.{show};
+ghost use Rattle.reg_view.specs.Telling.{IfRefused, TellsOf, names_of};
+ghost use Rattle.reg_view.specs.Unseen.{AsksOf, IsUnseen};
 
-use crate::listing::listing;
-use crate::rows::rows_of_group;
+use crate::answering::answer;
 use crate::{Answer, Query};
-use reg_base::{Entity, GroupId, Name, Text};
+use reg_base::Bytes;
 use reg_effect::Kept;
-use reg_facts::{Facts, Refusal};
+use reg_facts::Refusal;
 use reg_machine::Machine;
 use std::alloc::{AllocError, Global};
 
-pub(crate) fn not_found(alloc: Global, text: &str) -> Result<Result<Answer, Refusal>, AllocError>
-    ensures { IfOk result (λ r. r ≡ Err (Refusal.NotFound text.now)) }
-{
-    let object = Text::new(alloc, text)?;
-    Ok(Err(Refusal::NotFound { object }))
-}
-
-fn display_of(alloc: Global, facts: &Facts, id: GroupId) -> Result<Text, AllocError>
-    ensures { IfOk result (λ display. display ≡ display_of id facts.now.groups) }
-{
-    match facts.group(id) {
-        Some(row) => row.display.copy(alloc),
-        None => Text::new(alloc, ""),
-    }
-}
-
-fn group_of(
-    alloc: Global,
-    facts: &Facts,
-    group: &Name,
-) -> Result<Result<Answer, Refusal>, AllocError>
-    ensures { IfOk result (λ r. r ≡ group_of group.now facts.now) }
-{
-    let Some(id) = facts.group_id(group.as_str()) else {
-        return not_found(alloc, group.as_str());
-    };
-    let display = display_of(alloc, facts, id)?;
-    let name = group.copy(alloc)?;
-    Ok(Ok(Answer::GroupGet { display, name }))
-}
-
-/// The members of a group, whose ids come from the effective memberships. It costs what they are,
-/// and not what all subjects are.
-#[tactic(auto, using(crate::proofs::Members::texts_same))]
-fn members_of<K: Kept>(
-    alloc: Global,
-    machine: &Machine<K>,
-    group: &Name,
-) -> Result<Result<Answer, Refusal>, AllocError>
-    ensures { IfOk result (λ r. r ≡ members_of group.now machine.now.clock (facts machine.now.history machine.now.clock)) }
-{
-    let facts = machine.facts();
-    let Some(id) = facts.group_id(group.as_str()) else {
-        return not_found(alloc, group.as_str());
-    };
-    let ids = machine.kept().members(id)?;
-    let members = facts.texts_of(alloc, &ids)?;
-    Ok(Ok(Answer::Members { members }))
-}
-
-fn listing_of(
-    alloc: Global,
-    facts: &Facts,
-    folder: &Text,
-) -> Result<Result<Answer, Refusal>, AllocError>
-    ensures { IfOk result (λ r. r ≡ listing_of folder.now facts.now) }
-{
-    let Some(id) = facts.folder_id(folder.as_str()) else {
-        return not_found(alloc, folder.as_str());
-    };
-    let answer = listing(alloc, facts, id, folder)?;
-    Ok(Ok(answer))
-}
-
-/// The answer to a query at the machine's clock, or why it is refused: NotFound exactly where the
-/// group or folder doesn't stand.
+/// The answer to a query at the machine's clock, or why it is refused: what the view of the caller of
+/// this text shows, and nothing else. A text that names neither a person that stands nor the registry
+/// itself is nobody's.
 pub fn ask<K: Kept>(
     alloc: Global,
     machine: &Machine<K>,
-    _by: &Entity,
+    by: &Bytes,
     query: &Query,
 ) -> Result<Result<Answer, Refusal>, AllocError>
-    ensures { IfOk result (λ r. r ≡ answer_of query.now machine.now.clock (facts machine.now.history machine.now.clock)) }
+    ensures shown { IfOk result (λ r. r ≡ show (view machine.now.history machine.now.clock by.now) query.now) }
+
+    // Any other registry that gives this caller the same view gives this answer.
+    ensures alike { IfOk result (λ r. (history : List Stamped) (now : ℕ) → view history now by.now ≡ view machine.now.history machine.now.clock by.now → r ≡ show (view history now by.now) query.now) }
+
+    // A group that the caller doesn't see is answered as a name that no group has.
+    ensures unseen { IfOk result (λ r. (group : List ℕ) → AsksOf group query.now → IsUnseen (live machine.now.clock (facts machine.now.history machine.now.clock)) (facts machine.now.history machine.now.clock) by.now group → r ≡ Err (Refusal.NotFound group)) }
+
+    // A refusal names nothing that the query doesn't name, but for the root folder and the definition
+    // of an attribute that the caller sees.
+    ensures names { IfOk result (λ r. IfRefused (TellsOf (view machine.now.history machine.now.clock by.now) (names_of query.now)) r) }
 {
-    match query {
-        Query::GroupGet { group } => group_of(alloc, machine.facts(), group),
-        Query::FolderList { folder } => listing_of(alloc, machine.facts(), folder),
-        Query::Members { group } => members_of(alloc, machine, group),
-        Query::Rows { group } => rows_of_group(alloc, machine.facts(), group),
-    }
+    let facts = machine.facts();
+    let kept = machine.kept();
+    answer(alloc, facts, kept, by, query)
 }

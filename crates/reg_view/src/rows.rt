@@ -6,12 +6,12 @@ ghost use Rattle.reg_facts.specs.RowOrder.{rows_of};
 ghost use Rattle.reg_facts.specs.Sound.{has_group, MemberStands, RowStands};
 ghost use Rattle.reg_terms.specs.declared.kinds.Object.TheVariants as object;
 ghost use Rattle.reg_terms.specs.declared.rows.MemberRow.{MemberRow};
-ghost use Rattle.reg_view.specs.Answers.{composite_shown, member_text, row_shown, rows_of_group};
+ghost use Rattle.reg_terms.specs.declared.query.Answer.TheVariants as answer;
+ghost use Rattle.reg_view.specs.Texts.{composite_shown, member_text, row_shown};
 
-use crate::asking::not_found;
 use crate::{Answer, FactorsShown, RowShown, RowsShown};
-use reg_base::{GroupId, Name, Text};
-use reg_facts::{Facts, Member, MemberRow, Object, Refusal};
+use reg_base::{GroupId, Text};
+use reg_facts::{Facts, Member, MemberRow, Object};
 use reg_names::name_of;
 use std::alloc::{AllocError, Global};
 
@@ -92,19 +92,12 @@ fn composite_shown(
     }))
 }
 
-/// The immediate memberships and the factors of the group of this name. They cost what they are,
-/// and not what all rows are.
-pub fn rows_of_group(
-    alloc: Global,
-    facts: &Facts,
-    group: &Name,
-) -> Result<Result<Answer, Refusal>, AllocError>
-    ensures { IfOk result (λ r. r ≡ rows_of_group group.now facts.now) }
+/// The immediate memberships and the factors of a group. They cost what they are, and not what all
+/// rows are.
+pub fn rows_answer(alloc: Global, facts: &Facts, id: GroupId) -> Result<Answer, AllocError>
+    ensures { IfOk result (λ r. r ≡ answer.Rows (composite_shown id facts.now) (map (row_shown facts.now) (rows_of id facts.now.rows))) }
 {
-    let Some(id) = facts.group_id(group.as_str()) else {
-        return not_found(alloc, group.as_str());
-    };
     let composite = composite_shown(alloc, facts, id)?;
     let rows = shown_of(alloc, facts, id)?;
-    Ok(Ok(Answer::Rows { composite, rows }))
+    Ok(Answer::Rows { composite, rows })
 }

@@ -2,7 +2,7 @@ use Rattle.std.proofs.Common.{◌≡◌, ◌++◌, drop, map}
 use Rattle.std.specs.List.{AllByRecursion}
 use Rattle.reg_facts.specs.Sound.{RowStands}
 use Rattle.reg_terms.specs.declared.rows.MemberRow.{MemberRow}
-use Rattle.reg_view.specs.Answers.{row_shown}
+use Rattle.reg_view.specs.Texts.{row_shown}
 use Rattle.reg_view.proofs.rows.rows_shown.Given as goal
 
 -- those so far, and those that are left, whose groups stand

@@ -2,10 +2,12 @@ use Rattle.std.proofs.Common.{◌≡◌, ◌∙◌, ℕ, ap, refl, subst, max, O
 use Rattle.reg_machine.specs.History.{State}
 use Rattle.reg_service.specs.Kept.{KeepsNext, LeavesKeeper}
 use Rattle.reg_terms.specs.declared.request.Op.TheVariants as op
-use Rattle.reg_service.specs.Turn.{turn, requested, at_moment}
+use Rattle.reg_service.specs.Turn.{turn, requested, at_moment, GoesOn}
+use Rattle.reg_view.specs.AtClock.{view}
+use Rattle.reg_view.specs.Show.{show}
 use Rattle.reg_service.specs.Opening.{Served}
 use Rattle.reg_service.proofs.Forms.{command_form}
-use Rattle.reg_service.proofs.Keeping.{stopped_at, served_later}
+use Rattle.reg_service.proofs.Keeping.{stopped_at, served_later, query_goes_on}
 use Rattle.reg_service.proofs.service.Service.request.Goals as goal
 
 -- there was no memory to move the clock
@@ -16,6 +18,13 @@ returns-in_default-clause-kept g c =
 
 pub returns-in_default-clause-asked : goal.returns-in_default-clause-asked
 returns-in_default-clause-asked g c is = (ap (λ (v : Served g.row.K.Denot). v.keeper) c.self.view_is, refl)
+
+-- a query leaves the history as it was
+pub returns-in-Query-clause-history : goal.returns-in-Query-clause-history
+returns-in-Query-clause-history g c =
+    let moved : c.in-Ok.machine ≡ at_moment c.self.inside.machine c.args.at = c.in-Ok.ensures ∙ ap (λ (n : ℕ). let s : State = record { history = c.self.inside.machine.history; clock = n } in s) (c.later_of-now.ensures.value ∙ ap (λ (n : ℕ). max n c.args.at) c.clock.ensures) in
+    subst (λ (v : Served g.row.K.Denot). GoesOn v.state c.args.at c.asked.result) c.self.view_is
+    (query_goes_on c.self.inside.machine c.in-Ok.machine c.args.at (show (view c.in-Ok.machine.history c.in-Ok.machine.clock c.args.request.by) c.in-Query.query) c.asked.result.0 c.asked.result.1 moved c.asked.ensures.turn)
 
 -- a query keeps nothing
 pub returns-in-Query-clause-kept : goal.returns-in-Query-clause-kept
@@ -33,21 +42,21 @@ pub returns-in-Command-clause-kept : goal.returns-in-Command-clause-kept
 returns-in-Command-clause-kept g c =
     let later : State = at_moment c.self.inside.machine c.args.at in
     let moved : c.in-Ok.machine ≡ later = c.in-Ok.ensures ∙ ap (λ (n : ℕ). let s : State = record { history = c.self.inside.machine.history; clock = n } in s) (c.later_of-now.ensures.value ∙ ap (λ (n : ℕ). max n c.args.at) c.clock.ensures) in
-    let kept : KeepsNext g.K.Keeper c.self.inside.machine.history (requested later c.args.request.by (op.Command c.in-Command.command)).1.history c.self.inside.keeper c.carried_out.result.1 =
-    subst (λ (m : State). KeepsNext g.K.Keeper m.history (requested m c.args.request.by (op.Command c.in-Command.command)).1.history c.self.inside.keeper c.carried_out.result.1) moved c.carried_out.ensures.kept in
-    subst (λ (v : Served g.row.K.Denot). KeepsNext g.K.Keeper v.state.history (requested (at_moment v.state c.args.at) c.args.request.by c.args.request.op).1.history v.keeper c.carried_out.result.1) c.self.view_is (rw c.in-Command.is kept)
+    let kept : KeepsNext g.K.Keeper c.self.inside.machine.history (requested later c.args.request.by (op.Command c.in-Command.command)).1.history c.self.inside.keeper c.commanded.result.1 =
+    subst (λ (m : State). KeepsNext g.K.Keeper m.history (requested m c.args.request.by (op.Command c.in-Command.command)).1.history c.self.inside.keeper c.commanded.result.1) moved c.commanded.ensures.kept in
+    subst (λ (v : Served g.row.K.Denot). KeepsNext g.K.Keeper v.state.history (requested (at_moment v.state c.args.at) c.args.request.by c.args.request.op).1.history v.keeper c.commanded.result.1) c.self.view_is (rw c.in-Command.is kept)
 
 -- and is no query
 pub returns-in-Command-clause-asked : goal.returns-in-Command-clause-asked
 returns-in-Command-clause-asked g c is = absurd (rw c.in-Command.is at is)
 
 -- and has its form
-pub carried_out-requires-clause-form : goal.carried_out-requires-clause-form
-carried_out-requires-clause-form g c = command_form c.in-Command.command (rw c.in-Command.is at c.requires.1)
+pub commanded-requires-clause-form : goal.commanded-requires-clause-form
+commanded-requires-clause-form g c = command_form c.in-Command.command (rw c.in-Command.is at c.requires)
 
 -- the service goes on at the later moment
 pub asked-requires : goal.asked-requires
 asked-requires g c = served_later c.self.inside.machine c.in-Ok.machine _ _ _ c.self.invariant (rw c.clock.ensures at c.later_of-now.ensures.no_earlier) c.in-Ok.ensures
 
-pub carried_out-requires-clause-served : goal.carried_out-requires-clause-served
-carried_out-requires-clause-served g c = served_later c.self.inside.machine c.in-Ok.machine _ _ _ c.self.invariant (rw c.clock.ensures at c.later_of-now.ensures.no_earlier) c.in-Ok.ensures
+pub commanded-requires-clause-served : goal.commanded-requires-clause-served
+commanded-requires-clause-served g c = served_later c.self.inside.machine c.in-Ok.machine _ _ _ c.self.invariant (rw c.clock.ensures at c.later_of-now.ensures.no_earlier) c.in-Ok.ensures

@@ -1,0 +1,114 @@
+-- Worked examples computed: an inherited privilege is lost with a move out of its scope, what isn't seen comes before what is lacked, and a holder that isn't seen counts as found where its grant stands.
+use Rattle.std.proofs.Common.{◌≡◌, List, [], ◌∷◌, Option, Some, None, codes, refl}
+use Rattle.reg_base.specs.Entities.{entity_of}
+use Rattle.reg_base.specs.NameParts.{extension_of, folder_of}
+use Rattle.reg_base.specs.declared.entity.Entity.{Entity}
+use Rattle.reg_base.specs.declared.entity.Entity.TheVariants as entity
+use Rattle.reg_base.specs.declared.privilege.Privilege.TheVariants as privilege
+use Rattle.reg_terms.specs.declared.command.Command.{Command}
+use Rattle.reg_terms.specs.declared.command.Command.TheVariants.{FolderAdd, FolderRename, FolderMove, GroupAdd, GroupRename, SubjectAdd, MemberAdd, MemberRemove, GrantAdd, GrantRemove, InheritAdd}
+use Rattle.reg_terms.specs.declared.kinds.InheritKind.TheVariants as kind
+use Rattle.reg_terms.specs.declared.kinds.Scope.TheVariants as scope
+use Rattle.reg_terms.specs.declared.refusal.Refusal.{Refusal}
+use Rattle.reg_terms.specs.declared.refusal.Refusal.TheVariants.{NoCaller, NotFound, Denied}
+use Rattle.reg_facts.specs.Events.{edit, events_of}
+use Rattle.reg_facts.specs.Grants.{object_of}
+use Rattle.reg_facts.specs.Lists.{Lists, start}
+use Rattle.reg_facts.specs.Naming.{resolve, placed, lies_in}
+use Rattle.reg_effect.specs.Changes.{live_of}
+use Rattle.reg_effect.specs.Member.{member}
+use Rattle.reg_demand.specs.Refusing.{refused}
+
+-- the facts after some commands of the registry itself
+abbrev after : List Command → Lists → Lists
+after [] f = f
+after (c ∷ cs) f = after cs (edit 0 entity.System c f)
+
+pub bob : Entity
+bob = entity.Person (codes "uni/bob")
+
+pub ann : Entity
+ann = entity.Person (codes "uni/ann")
+
+-- what refuses a command of bob
+abbrev of_bob : Lists → Command → Option Refusal
+of_bob f c = refused (live_of 0 f.rows f.composites) f bob c
+
+-- bob may update all groups at any depth below app, and everyone sees the group
+pub folders : Lists
+folders =
+    after
+    (FolderAdd (codes "app") []
+    ∷ FolderAdd (codes "app:web") []
+    ∷ FolderAdd (codes "old") []
+    ∷ GroupAdd (codes "app:web:admins") []
+    ∷ SubjectAdd bob []
+    ∷ SubjectAdd ann []
+    ∷ InheritAdd (codes "app") kind.Group scope.Sub privilege.Update bob
+    ∷ GrantAdd (codes "app:web:admins") privilege.View entity.Everyone
+    ∷ [])
+    start
+
+pub inherited_privilege_serves : of_bob folders (MemberAdd (codes "app:web:admins") ann None None) ≡ None
+unfolding folders bob ann events_of object_of resolve placed lies_in member extension_of folder_of
+inherited_privilege_serves = refl
+
+pub moved : Lists
+moved = after (MemberAdd (codes "app:web:admins") ann None None ∷ FolderMove (codes "app:web") (codes "old") ∷ []) folders
+
+pub inherited_privilege_is_lost : of_bob moved (MemberRemove (codes "old:web:admins") ann) ≡ Some (Denied (codes "old:web:admins") (codes "UPDATE"))
+unfolding moved folders bob ann events_of object_of resolve placed lies_in member extension_of folder_of
+inherited_privilege_is_lost = refl
+
+-- of oneself another privilege is told
+pub own_membership : of_bob moved (MemberRemove (codes "old:web:admins") bob) ≡ Some (Denied (codes "old:web:admins") (codes "OPTOUT"))
+unfolding moved folders bob ann events_of object_of resolve placed lies_in member extension_of folder_of
+own_membership = refl
+
+pub denied_where_seen : of_bob moved (GroupRename (codes "old:web:admins") (codes "x")) ≡ Some (Denied (codes "old:web:admins") (codes "ADMIN"))
+unfolding moved folders bob ann events_of object_of resolve placed lies_in member extension_of folder_of
+denied_where_seen = refl
+
+pub hidden : Lists
+hidden = after (GrantRemove (codes "app:web:admins") privilege.View entity.Everyone ∷ FolderMove (codes "app:web") (codes "old") ∷ []) folders
+
+-- of a group that isn't seen nothing else is told, whatever it is called by
+pub unseen_before_denied : of_bob hidden (GroupRename (codes "old:web:admins") (codes "x")) ≡ Some (NotFound (codes "old:web:admins"))
+unfolding hidden folders bob ann events_of object_of resolve placed lies_in member extension_of folder_of
+unseen_before_denied = refl
+
+pub unseen_by_entity : of_bob hidden (GrantAdd (codes "g:gsa/old:web:admins") privilege.Read bob) ≡ Some (NotFound (codes "old:web:admins"))
+unfolding hidden folders bob ann events_of object_of entity_of resolve placed lies_in member extension_of folder_of
+unseen_by_entity = refl
+
+-- bob administers the group; a group that bob doesn't see is granted one privilege on it and not another
+pub administered : Lists
+administered =
+    after
+    (GrantAdd (codes "app:web:admins") privilege.Admin bob
+    ∷ GroupAdd (codes "secret") []
+    ∷ GrantAdd (codes "app:web:admins") privilege.View (entity.Group (codes "secret"))
+    ∷ [])
+    folders
+
+pub unseen_holder_is_found : of_bob administered (GrantRemove (codes "app:web:admins") privilege.View (entity.Group (codes "secret"))) ≡ None
+unfolding administered folders bob ann events_of object_of resolve placed lies_in member extension_of folder_of
+unseen_holder_is_found = refl
+
+pub unseen_holder_is_not_found : of_bob administered (GrantRemove (codes "app:web:admins") privilege.Read (entity.Group (codes "secret"))) ≡ Some (NotFound (codes "secret"))
+unfolding administered folders bob ann events_of object_of resolve placed lies_in member extension_of folder_of
+unseen_holder_is_not_found = refl
+
+-- of the root no parent is asked, and of the registry itself only root may administer it
+pub root_has_no_parent : of_bob folders (FolderRename (codes ":") (codes "x")) ≡ Some (Denied (codes ":") (codes "stemAdmin"))
+unfolding folders bob ann events_of object_of resolve placed lies_in member extension_of folder_of
+root_has_no_parent = refl
+
+pub internal_is_for_root : of_bob folders (GrantAdd (codes "g:isa/GrouperAll") privilege.Read bob) ≡ Some (Denied (codes ":") (codes "ROOT"))
+unfolding folders bob ann events_of object_of entity_of resolve placed lies_in member extension_of folder_of
+internal_is_for_root = refl
+
+-- who doesn't stand is told nothing
+pub no_caller : refused (live_of 0 folders.rows folders.composites) folders (entity.Person (codes "uni/eve")) (GroupRename (codes "none") (codes "x")) ≡ Some NoCaller
+unfolding folders bob ann events_of object_of resolve placed lies_in member extension_of folder_of
+no_caller = refl

@@ -1,0 +1,17 @@
+//! What comes before all else that may refuse a command: who is no caller, what isn't found or isn't
+//! seen, and what the caller lacks.
+#![tactic(auto)]
+
+mod barring;
+mod composites;
+mod finding;
+mod folders;
+mod grants;
+mod groups;
+mod inherits;
+mod lacking;
+mod memberships;
+mod refusals;
+mod subjects;
+
+pub use barring::{barred, refused};

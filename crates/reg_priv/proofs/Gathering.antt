@@ -1,0 +1,60 @@
+-- Grants gathered: which are among them after each step.
+use Rattle.std.proofs.Common.{◌≡◌, ◌&&◌, ◌||◌, List, [], ◌∷◌, Bool, true, false, refl, sym, ap, ◌∙◌}
+use Rattle.std.specs.BTreeSet.{insert_key}
+use Rattle.std.specs.List.{list_any}
+use Rattle.std.specs.List.Sorted.{IsStrictlySortedBy}
+use Rattle.reg_terms.specs.declared.kinds.Object.{Object}
+use Rattle.reg_terms.specs.declared.kinds.Scope.{Scope}
+use Rattle.reg_terms.specs.declared.rows.GrantRow.{GrantRow}
+use Rattle.reg_terms.specs.declared.rows.InheritRow.{InheritRow}
+use Rattle.reg_terms.specs.Kinds.{is_of_kind, same_scope}
+use Rattle.reg_facts.specs.Grants.{grants_on}
+use Rattle.reg_facts.specs.Lists.{Lists}
+use Rattle.reg_priv.specs.Filling.{same_grant, is_among, brings}
+use Rattle.reg_priv.specs.Grants.{Grant, written, given, reaches, grants}
+use Rattle.reg_priv.specs.Holders.{grant_cmp, ordered_into, holders}
+use Rattle.reg_priv.proofs.Ordering.{in_put, put_sorted, one_list}
+use Rattle.reg_priv.proofs.Placed.{grant_total, one_place}
+use Rattle.reg_priv.proofs.Scoped.{any_grant}
+
+pub grouped : (new a b c : Bool) → new ≡ (a || b) → (new || c) ≡ (a || (b || c))
+grouped new true b c h = rw h refl
+grouped new false b c h = rw h refl
+
+pub or_none : (a b : Bool) → b ≡ false → a ≡ (a || b)
+or_none true b h = refl
+or_none false b h = sym h
+
+shifted : (s f r : Bool) → ((s || f) || r) ≡ (f || (s || r))
+shifted true true r = refl
+shifted true false r = refl
+shifted false true r = refl
+shifted false false r = refl
+
+-- one put, and the rest, are all
+pub step_in : (x g : Grant) (found new : List Grant) (rest whole : Bool) → new ≡ insert_key grant_cmp found g → (is_among x found || (same_grant x g || rest)) ≡ whole → (is_among x new || rest) ≡ whole
+step_in x g found new rest whole e h = ap (λ (gs : List Grant). is_among x gs || rest) e ∙ (ap (λ b. b || rest) (in_put grant_total x g found) ∙ (shifted (same_grant x g) (is_among x found) rest ∙ h))
+
+-- the same of what an inherit gives that has the scope and is for the object
+pub given_in : (x : Grant) (row : InheritRow) (o : Object) (s : Scope) (found new : List Grant) (rest whole : Bool) → new ≡ insert_key grant_cmp found (given row) → same_scope row.scope s ≡ true → is_of_kind row.kind o ≡ true
+    → (is_among x found || (brings o s x row || rest)) ≡ whole → (is_among x new || rest) ≡ whole
+given_in x row o s found new rest whole e scope kind h = step_in x (given row) found new rest whole e (sym (ap (λ b. is_among x found || (b || rest)) (rw scope (rw kind refl))) ∙ h)
+
+-- grants put in order are those before and these
+ordered_in : (x : Grant) (found gs : List Grant) → is_among x (ordered_into found gs) ≡ (is_among x found || is_among x gs)
+ordered_in x found [] = or_none (is_among x found) false refl
+ordered_in x found (g ∷ gs) = ordered_in x (insert_key grant_cmp found g) gs ∙ (ap (λ b. b || is_among x gs) (in_put grant_total x g found) ∙ shifted (same_grant x g) (is_among x found) (is_among x gs))
+
+ordered_sorted : (found gs : List Grant) → IsStrictlySortedBy grant_cmp found → IsStrictlySortedBy grant_cmp (ordered_into found gs)
+ordered_sorted found [] h = h
+ordered_sorted found (g ∷ gs) h = ordered_sorted (insert_key grant_cmp found g) gs (put_sorted grant_total g found h)
+
+none_sorted : IsStrictlySortedBy grant_cmp []
+unfolding IsStrictlySortedBy
+none_sorted = tt
+
+-- a list in order that has the direct grants and the inherited ones is the holders
+pub are_holders : (o : Object) (f : Lists) (list : List Grant) → IsStrictlySortedBy grant_cmp list
+    → ((x : Grant) → is_among x list ≡ (list_any (λ (row : GrantRow). same_grant x (written row)) (grants_on o f.grants) || list_any (λ (row : InheritRow). reaches o f row && same_grant x (given row)) f.inherits))
+    → list ≡ holders o f
+are_holders o f list sorted has = one_list grant_total one_place list (holders o f) sorted (ordered_sorted [] (grants o f) none_sorted) (λ x. has x ∙ sym (ordered_in x [] (grants o f) ∙ any_grant o f (same_grant x)))

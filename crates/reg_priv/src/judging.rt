@@ -1,0 +1,126 @@
+// What a caller may do.
+ghost use Rattle.std.specs.Prelude.{◌≡◌, IfOk};
+ghost use Rattle.std.specs.Option.{option_copied};
+ghost use Rattle.reg_terms.specs.declared.kinds.Object.TheVariants.{Attr};
+ghost use Rattle.reg_facts.specs.Rows.{attribute_row};
+ghost use Rattle.reg_priv.specs.May.{is_root, granted, judged, may, visible, privileges_of};
+
+use crate::Who;
+use crate::climbing::any_inherited;
+use crate::granting::any_written;
+use reg_base::{AttrId, Privilege};
+use reg_effect::Kept;
+use reg_facts::{AttributeRow, Facts, Object};
+use reg_terms::{Privileges, all_privileges, privilege_kind};
+use std::alloc::{AllocError, Global};
+
+/// The group whose members may do everything.
+const WHEEL: &str = "etc:sysadmingroup";
+
+/// Whether a caller may do everything: GrouperSystem, and who is in the group that is named
+/// `etc:sysadmingroup` now. It takes no memory.
+pub fn is_root<K: Kept>(facts: &Facts, kept: &K, who: &Who) -> bool
+    ensures { result ≡ is_root (K.held kept.now) facts.now who.now }
+{
+    match who {
+        Who::System => true,
+        Who::Person(person) => match facts.group_id(WHEEL) {
+            Some(group) => kept.is_member(group, *person),
+            None => false,
+        },
+    }
+}
+
+/// Whether some grant on the object, direct or inherited, allows it.
+fn granted<K: Kept>(
+    facts: &Facts,
+    kept: &K,
+    who: &Who,
+    object: &Object,
+    privilege: Privilege,
+) -> bool
+    ensures { result ≡ granted (K.held kept.now) facts.now who.now object.now privilege }
+{
+    let rows = facts.grants_of(object);
+    any_written(kept, who, privilege, rows) || any_inherited(facts, kept, who, privilege, object)
+}
+
+/// The attribute of this id.
+fn attribute(facts: &Facts, id: AttrId) -> Option<&AttributeRow>
+    ensures { option_copied result ≡ attribute_row id facts.now.attributes }
+{
+    for row in facts.attributes() {
+        if row.id.number() == id.number() {
+            return Some(row);
+        }
+    }
+    None
+}
+
+/// The object whose grants count for an attribute.
+fn judged_attribute(facts: &Facts, id: AttrId) -> Object
+    ensures { result ≡ judged (Attr id) facts.now }
+{
+    match attribute(facts, id) {
+        Some(row) => Object::Def(row.definition),
+        None => Object::Attr(id),
+    }
+}
+
+/// The object whose grants count: of an attribute its definition.
+fn judged(facts: &Facts, object: &Object) -> Object
+    ensures { result ≡ judged object.now facts.now }
+{
+    match object {
+        Object::Attr(id) => judged_attribute(facts, *id),
+        Object::Folder(_) | Object::Group(_) | Object::Def(_) | Object::Subject(_) => *object,
+    }
+}
+
+/// Whether a caller has a privilege on an object; of an attribute it is asked of the definition.
+/// It takes no memory. It costs the grants on the object and the inherits on the folders above it,
+/// each with one look into the kept memberships at most.
+pub fn may<K: Kept>(
+    facts: &Facts,
+    kept: &K,
+    who: &Who,
+    object: &Object,
+    privilege: Privilege,
+) -> bool
+    ensures { result ≡ may (K.held kept.now) facts.now who.now object.now privilege }
+{
+    let object = judged(facts, object);
+    object.is_of(privilege_kind(privilege))
+        && (is_root(facts, kept, who) || granted(facts, kept, who, &object, privilege))
+}
+
+/// Whether a caller sees an object: every folder and subject, a group with VIEW, and a definition
+/// and its attributes with attrView. It takes no memory.
+pub fn is_visible<K: Kept>(facts: &Facts, kept: &K, who: &Who, object: &Object) -> bool
+    ensures { result ≡ visible (K.held kept.now) facts.now who.now object.now }
+{
+    match object {
+        Object::Folder(_) | Object::Subject(_) => true,
+        Object::Group(_) => may(facts, kept, who, object, Privilege::View),
+        Object::Def(_) | Object::Attr(_) => may(facts, kept, who, object, Privilege::AttrView),
+    }
+}
+
+/// All privileges that a caller has on an object, by code. The only error is out of memory.
+pub fn privileges_of<K: Kept>(
+    alloc: Global,
+    facts: &Facts,
+    kept: &K,
+    who: &Who,
+    object: &Object,
+) -> Result<Privileges, AllocError>
+    ensures { IfOk result (λ list. list ≡ privileges_of (K.held kept.now) facts.now who.now object.now) }
+{
+    let mut list = Privileges::new(alloc);
+    for privilege in all_privileges() {
+        if may(facts, kept, who, object, *privilege) {
+            list.push(*privilege)?;
+        }
+    }
+    Ok(list)
+}

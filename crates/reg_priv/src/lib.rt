@@ -1,0 +1,14 @@
+//! Privileges: who a caller is, what a caller may do, and who holds what on an object.
+#![tactic(auto)]
+
+pub mod caller;
+mod climbing;
+mod gathered;
+mod granting;
+mod holding;
+mod judging;
+mod who;
+
+pub use holding::holders;
+pub use judging::{is_root, is_visible, may, privileges_of};
+pub use who::{Who, who_of};

@@ -1,0 +1,38 @@
+-- What is shown over the facts at the clock is what the view at the clock shows.
+use Rattle.std.proofs.Common.{◌≡◌, ℕ, List, Result, ◌∙◌, ap, sym, subst, IfOk, Ok, Err}
+use Rattle.reg_terms.specs.declared.command.Stamped.{Stamped}
+use Rattle.reg_terms.specs.declared.refusal.Refusal.{Refusal}
+use Rattle.reg_terms.specs.declared.query.Query.{Query}
+use Rattle.reg_terms.specs.declared.query.Answer.{Answer}
+use Rattle.reg_facts.specs.Lists.{Lists}
+use Rattle.reg_effect.specs.declared.live.Live.{Live}
+use Rattle.reg_machine.specs.History.{facts}
+use Rattle.reg_machine.specs.Live.{live}
+use Rattle.reg_view.specs.AtClock.{view}
+use Rattle.reg_view.specs.Show.{show}
+use Rattle.reg_view.specs.Telling.{IfRefused, TellsOf, names_of}
+use Rattle.reg_view.specs.Unseen.{IsUnseen}
+use Rattle.reg_view.specs.View.{View, view_of}
+use Rattle.reg_view.proofs.Tellings.{show_says}
+
+pub at_clock : (history : List Stamped) (now : ℕ) (by : List ℕ) (q : Query) (L : Live) (f : Lists) (r : Result Answer Refusal) → L ≡ live now (facts history now) → f ≡ facts history now
+    → ((t : ℕ) → r ≡ show (view_of L f t by) q) → r ≡ show (view history now by) q
+unfolding view
+at_clock history now by q L f r live_is facts_is shown =
+    shown now
+    ∙ ap (λ l. show (view_of l f now by) q) live_is
+    ∙ ap (λ g. show (view_of (live now (facts history now)) g now by) q) facts_is
+
+-- a group that isn't seen at the clock isn't seen over the facts there
+pub unseen_at : (history : List Stamped) (now : ℕ) (by group : List ℕ) (L : Live) (f : Lists) → L ≡ live now (facts history now) → f ≡ facts history now
+    → IsUnseen (live now (facts history now)) (facts history now) by group → IsUnseen L f by group
+unseen_at history now by group L f live_is facts_is h =
+    subst (λ l. IsUnseen l f by group) (sym live_is) (subst (λ g. IsUnseen (live now (facts history now)) g by group) (sym facts_is) h)
+
+-- what is shown tells nothing else
+pub tells_at : (v : View) (q : Query) (r : Result Answer Refusal) → r ≡ show v q → IfRefused (TellsOf v (names_of q)) r
+tells_at v q r is = subst (λ x. IfRefused (TellsOf v (names_of q)) x) (sym is) (show_says v q)
+
+pub if_ok : {A E : Type 0} (r : Result A E) (P Q : A → Type 0) → ((x : A) → P x → Q x) → IfOk r P → IfOk r Q
+if_ok (Ok x) P Q goes h = goes x h
+if_ok (Err e) P Q goes h = tt

@@ -1,0 +1,50 @@
+-- What is shown of rows, factors and holders: by texts.
+use Rattle.std.specs.Prelude.{ℕ, ◌==◌, ◌++◌, List, [], ◌∷◌, Option, None, Some, option_map, codes}
+use Rattle.std.specs.List.{find}
+use Rattle.reg_facts.specs.Lists.{Lists}
+use Rattle.reg_facts.specs.Naming.{name_of}
+use Rattle.reg_facts.specs.Rows.{subject_row, attribute_row}
+use Rattle.reg_terms.specs.declared.kinds.Member.{Member}
+use Rattle.reg_terms.specs.declared.kinds.Member.TheVariants.{Person, Group}
+use Rattle.reg_terms.specs.declared.kinds.Holder.{Holder}
+use Rattle.reg_terms.specs.declared.kinds.Holder.TheVariants as holder
+use Rattle.reg_terms.specs.declared.kinds.Object.TheVariants as object
+use Rattle.reg_terms.specs.declared.rows.MemberRow.{MemberRow}
+use Rattle.reg_terms.specs.declared.rows.CompositeRow.{CompositeRow}
+use Rattle.reg_terms.specs.declared.rows.SubjectRow.{SubjectRow}
+use Rattle.reg_terms.specs.declared.rows.AttributeRow.{AttributeRow}
+use Rattle.reg_terms.specs.declared.shown.FactorsShown.{FactorsShown}
+use Rattle.reg_terms.specs.declared.shown.GrantShown.{GrantShown}
+use Rattle.reg_terms.specs.declared.shown.RowShown.{RowShown}
+use Rattle.reg_priv.specs.Grants.{Grant}
+
+-- the text of a member: a person's, and a group's name behind `g:gsa/`
+abbrev pub member_text : Member → Lists → List ℕ
+member_text (Person s) f = elim (subject_row s f.subjects) [ None ↦ [] | Some row ↦ row.text ]
+member_text (Group g) f = codes "g:gsa/" ++ name_of (object.Group g) f
+
+-- the text of a holder
+abbrev pub holder_text : Holder → Lists → List ℕ
+holder_text holder.Everyone f = codes "g:isa/GrouperAll"
+holder_text (holder.Person s) f = member_text (Person s) f
+holder_text (holder.Group g) f = member_text (Group g) f
+
+-- an immediate membership as it is shown
+abbrev pub row_shown : Lists → MemberRow → RowShown
+row_shown f row = record { from = row.from; member = member_text row.member f; until = row.until }
+
+-- the factors of a composite as they are shown
+abbrev pub factors_shown : Lists → CompositeRow → FactorsShown
+factors_shown f row = record { kind = row.op; left = name_of (object.Group row.left) f; right = name_of (object.Group row.right) f }
+
+-- the factors of a group, if it is a composite
+abbrev pub composite_shown : ℕ → Lists → Option FactorsShown
+composite_shown id f = option_map (factors_shown f) (find (λ (row : CompositeRow). row.group == id) f.composites)
+
+-- a grant as it is shown
+abbrev pub grant_shown : Lists → Grant → GrantShown
+grant_shown f g = record { holder = holder_text g.1 f; privilege = g.0 }
+
+-- the name of the definition of an attribute
+abbrev pub definition_name : Lists → AttributeRow → List ℕ
+definition_name f row = name_of (object.Def row.definition) f

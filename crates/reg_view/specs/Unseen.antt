@@ -1,0 +1,44 @@
+-- Groups that a caller doesn't see.
+use Rattle.std.specs.Prelude.{◌≡◌, ⊤, ℕ, List, false, Option, Some, None}
+use Rattle.reg_base.specs.declared.entity.Entity.{Entity}
+use Rattle.reg_base.specs.declared.entity.Entity.TheVariants as entity
+use Rattle.reg_terms.specs.declared.kinds.Object.TheVariants as object
+use Rattle.reg_terms.specs.declared.query.Query.{Query}
+use Rattle.reg_terms.specs.declared.query.Query.TheVariants as query
+use Rattle.reg_facts.specs.Lists.{Lists}
+use Rattle.reg_facts.specs.Naming.{group_id}
+use Rattle.reg_effect.specs.declared.live.Live.{Live}
+use Rattle.reg_priv.specs.declared.who.Who.{Who}
+use Rattle.reg_priv.specs.May.{visible}
+use Rattle.reg_view.specs.View.{caller_of}
+
+-- an entity is the group of this name
+abbrev pub IsGroup : List ℕ → Entity → Type 0
+IsGroup name (entity.Person text) = ⊥
+IsGroup name (entity.Group group) = group ≡ name
+IsGroup name entity.System = ⊥
+IsGroup name entity.Everyone = ⊥
+
+-- the query is of the group of this name
+abbrev pub AsksOf : List ℕ → Query → Type 0
+AsksOf name (query.GroupGet group) = group ≡ name
+AsksOf name (query.FolderList folder) = ⊥
+AsksOf name (query.Members group) = group ≡ name
+AsksOf name (query.Rows group) = group ≡ name
+AsksOf name (query.Groups subject) = IsGroup name subject
+AsksOf name (query.Grants text) = ⊥
+AsksOf name (query.May text e) = ⊥
+
+-- no group has this name, or the caller hasn't VIEW on it
+abbrev pub IsHidden : Live → Lists → Who → Option ℕ → Type 0
+IsHidden L f c None = ⊤
+IsHidden L f c (Some id) = visible L f c (object.Group id) ≡ false
+
+-- and of a caller that may not stand
+abbrev pub IsHiddenFrom : Live → Lists → Option Who → List ℕ → Type 0
+IsHiddenFrom L f None group = ⊥
+IsHiddenFrom L f (Some c) group = IsHidden L f c (group_id group f)
+
+-- a caller that stands doesn't see a group of this name, or there is none
+abbrev pub IsUnseen : Live → Lists → List ℕ → List ℕ → Type 0
+IsUnseen L f by group = IsHiddenFrom L f (caller_of by f) group

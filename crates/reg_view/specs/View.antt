@@ -1,0 +1,170 @@
+-- What a caller may see of the registry: all that an answer may tell. There are names in it and no ids, so that it is the same whatever else stands in the registry.
+use Rattle.std.specs.Prelude.{ℕ, ◌++◌, List, [], ◌∷◌, Bool, true, false, Option, Some, None, map, filter}
+use Rattle.reg_base.specs.Entities.{entity_of}
+use Rattle.reg_base.specs.declared.entity.Entity.{Entity}
+use Rattle.reg_base.specs.declared.privilege.Privilege.{Privilege}
+use Rattle.reg_base.specs.declared.privilege.Privilege.TheVariants as privilege
+use Rattle.reg_terms.specs.declared.kinds.Object.{Object}
+use Rattle.reg_terms.specs.declared.kinds.Object.TheVariants as object
+use Rattle.reg_terms.specs.declared.rows.FolderRow.{FolderRow}
+use Rattle.reg_terms.specs.declared.rows.GroupRow.{GroupRow}
+use Rattle.reg_terms.specs.declared.rows.SubjectRow.{SubjectRow}
+use Rattle.reg_terms.specs.declared.rows.DefinitionRow.{DefinitionRow}
+use Rattle.reg_terms.specs.declared.rows.AttributeRow.{AttributeRow}
+use Rattle.reg_terms.specs.declared.shown.FactorsShown.{FactorsShown}
+use Rattle.reg_terms.specs.declared.shown.GrantShown.{GrantShown}
+use Rattle.reg_terms.specs.declared.shown.RowShown.{RowShown}
+use Rattle.reg_facts.specs.Lists.{Lists}
+use Rattle.reg_facts.specs.Members.{texts_where}
+use Rattle.reg_facts.specs.Naming.{name_of}
+use Rattle.reg_facts.specs.RowOrder.{rows_of}
+use Rattle.reg_effect.specs.declared.live.Live.{Live}
+use Rattle.reg_effect.specs.Member.{member}
+use Rattle.reg_priv.specs.declared.who.Who.{Who}
+use Rattle.reg_priv.specs.declared.who.Who.TheVariants as who
+use Rattle.reg_priv.specs.Holders.{holders}
+use Rattle.reg_priv.specs.May.{is_root, may, privileges_of, visible, who_of}
+use Rattle.reg_view.specs.Texts.{row_shown, composite_shown, grant_shown, definition_name}
+
+-- ---- the record
+
+-- a group that the caller sees
+pub record GroupSeen : Type 0 where
+  pub name : List ℕ
+  pub display : List ℕ
+
+-- an attribute that the caller sees, and its definition
+pub record AttributeSeen : Type 0 where
+  pub name : List ℕ
+  pub definition : List ℕ
+
+-- a group that the caller may read: its immediate memberships, its factors and its members
+pub record GroupRead : Type 0 where
+  pub name : List ℕ
+  pub rows : List RowShown
+  pub composite : Option FactorsShown
+  pub members : List (List ℕ)
+
+-- privileges, under the name or text of what has them
+pub record Powers : Type 0 where
+  pub name : List ℕ
+  pub privileges : List Privilege
+
+-- an object whose admin the caller is: the grants on it, and what GrouperSystem and each person may do with it
+pub record Administered : Type 0 where
+  pub name : List ℕ
+  pub grants : List GrantShown
+  pub system : List Privilege
+  pub persons : List Powers
+
+-- what a caller may see. A subject has no grants and no privileges are on it, so it is among the objects of neither list of privileges
+pub record View : Type 0 where
+  pub now : ℕ
+  pub caller : List ℕ
+  pub stands : Bool
+  pub is_root : Bool
+  pub folders : List (List ℕ)
+  pub subjects : List (List ℕ)
+  pub groups : List GroupSeen
+  pub definitions : List (List ℕ)
+  pub attributes : List AttributeSeen
+  pub readable : List GroupRead
+  pub administered : List Administered
+  pub own : List Powers
+
+-- who doesn't stand sees nothing
+abbrev pub blank : ℕ → List ℕ → View
+blank now by = record { now = now; caller = by; stands = false; is_root = false; folders = []; subjects = []; groups = []; definitions = []; attributes = []; readable = []; administered = []; own = [] }
+
+-- ---- what it holds
+
+-- the object that a row is of, kind by kind
+abbrev pub folder_object : FolderRow → Object
+folder_object row = object.Folder row.id
+
+abbrev pub group_object : GroupRow → Object
+group_object row = object.Group row.id
+
+abbrev pub definition_object : DefinitionRow → Object
+definition_object row = object.Def row.id
+
+abbrev pub attribute_object : AttributeRow → Object
+attribute_object row = object.Attr row.id
+
+-- all objects that have names
+abbrev pub objects : Lists → List Object
+objects f = map folder_object f.folders ++ map group_object f.groups ++ map definition_object f.definitions ++ map attribute_object f.attributes
+
+-- the rows whose objects pass a test, as they are shown
+abbrev pub shown_where : {R A : Type 0} → (R → Object) → (Object → Bool) → (R → A) → List R → List A
+shown_where object test show rows = map show (filter (λ r. test (object r)) rows)
+
+-- whether the caller is the admin of an object: of a subject root is
+abbrev pub is_admin : Live → Lists → Who → Object → Bool
+is_admin L f c (object.Folder d) = may L f c (object.Folder d) privilege.StemAdmin
+is_admin L f c (object.Group g) = may L f c (object.Group g) privilege.Admin
+is_admin L f c (object.Def a) = may L f c (object.Def a) privilege.AttrAdmin
+is_admin L f c (object.Attr a) = may L f c (object.Attr a) privilege.AttrAdmin
+is_admin L f c (object.Subject s) = is_root L f c
+
+-- whether the caller may read an object, as only a group can be
+abbrev pub is_readable : Live → Lists → Who → Object → Bool
+is_readable L f c o = may L f c o privilege.Read
+
+-- a group and an attribute, as they are seen
+abbrev pub group_seen : Lists → GroupRow → GroupSeen
+group_seen f row = record { name = name_of (object.Group row.id) f; display = row.display }
+
+abbrev pub attribute_seen : Lists → AttributeRow → AttributeSeen
+attribute_seen f row = record { name = name_of (object.Attr row.id) f; definition = definition_name f row }
+
+-- a group, as it is read
+abbrev pub group_read : Live → Lists → GroupRow → GroupRead
+group_read L f row = record {
+  name = name_of (object.Group row.id) f;
+  rows = map (row_shown f) (rows_of row.id f.rows);
+  composite = composite_shown row.id f;
+  members = texts_where (member L row.id) f.subjects;
+}
+
+-- what a person may do with an object
+abbrev pub person_powers : Live → Lists → Object → SubjectRow → Powers
+person_powers L f o row = record { name = row.text; privileges = privileges_of L f (who.Person row.id) o }
+
+-- an object, as its admin is told of it
+abbrev pub administered : Live → Lists → Object → Administered
+administered L f o = record {
+  name = name_of o f;
+  grants = map (grant_shown f) (holders o f);
+  system = privileges_of L f who.System o;
+  persons = map (person_powers L f o) f.subjects;
+}
+
+-- what the caller itself may do with an object
+abbrev pub own_powers : Live → Lists → Who → Object → Powers
+own_powers L f c o = record { name = name_of o f; privileges = privileges_of L f c o }
+
+-- what a caller that stands may see
+abbrev pub seen_by : Live → Lists → ℕ → List ℕ → Who → View
+seen_by L f now by c = record {
+  now = now;
+  caller = by;
+  stands = true;
+  is_root = is_root L f c;
+  folders = shown_where folder_object (visible L f c) (λ (row : FolderRow). name_of (object.Folder row.id) f) f.folders;
+  subjects = map (λ (row : SubjectRow). row.text) f.subjects;
+  groups = shown_where group_object (visible L f c) (group_seen f) f.groups;
+  definitions = shown_where definition_object (visible L f c) (λ (row : DefinitionRow). name_of (object.Def row.id) f) f.definitions;
+  attributes = shown_where attribute_object (visible L f c) (attribute_seen f) f.attributes;
+  readable = shown_where group_object (is_readable L f c) (group_read L f) f.groups;
+  administered = shown_where (λ (o : Object). o) (is_admin L f c) (administered L f) (objects f);
+  own = shown_where (λ (o : Object). o) (visible L f c) (own_powers L f c) (objects f);
+}
+
+-- who has this text as a caller, if someone who stands has it
+abbrev pub caller_of : List ℕ → Lists → Option Who
+caller_of by f = elim (entity_of by) [ None ↦ None | Some e ↦ who_of e f ]
+
+-- what is seen by a caller of this text where these are the facts
+abbrev pub view_of : Live → Lists → ℕ → List ℕ → View
+view_of L f now by = elim (caller_of by f) [ None ↦ blank now by | Some c ↦ seen_by L f now by c ]
