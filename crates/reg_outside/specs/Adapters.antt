@@ -10,3 +10,8 @@ pub record ReaderState : Type 0 where
 pub record WriterState : Type 0 where
   pub held : Option (List ℕ)
   pub faults : ℕ
+
+-- A port: the one that it listens on, and how often a call has failed.
+pub record PortState : Type 0 where
+  pub port : Option ℕ
+  pub faults : ℕ
