@@ -1,3 +1,2 @@
 pub mod Numbering
 pub mod Places
-pub mod Words

@@ -1,7 +1,6 @@
 // What an entry of the log says.
-use crate::EntryKind;
 use reg_base::Moment;
-use reg_terms::{Holder, Object};
+use reg_terms::{EntryKind, Holder, Object};
 
 /// An entry of the log.
 #[derive(Clone, Copy)]

@@ -4,10 +4,9 @@
 
 mod consumers;
 mod entries;
-mod kinds;
 mod log;
 
 pub use consumers::{Place, Places};
 pub use entries::{Entry, Line};
-pub use kinds::EntryKind;
 pub use log::ChangeLog;
+pub use reg_terms::EntryKind;

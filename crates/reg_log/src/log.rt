@@ -2,9 +2,9 @@
 ghost use Rattle.std.specs.Prelude.{◌≡◌, ◌++◌, ◌∷◌, [], length, IfOk, OnOk, OnErr};
 ghost use Rattle.reg_log.specs.Numbering.{entries_after, entry_of};
 
-use crate::{Entry, EntryKind, Line};
+use crate::{Entry, Line};
 use reg_base::Moment;
-use reg_terms::{Holder, Object};
+use reg_terms::{EntryKind, Holder, Object};
 use std::alloc::{AllocError, Global};
 use std::marker::Model;
 

@@ -2,3 +2,4 @@ pub mod Cutting
 mod Makes
 mod Lists
 mod Displays
+mod EntryKinds

@@ -6,8 +6,8 @@ use Rattle.reg_terms.specs.declared.kinds.InheritKind.{InheritKind}
 use Rattle.reg_terms.specs.declared.kinds.Scope.{Scope}
 use Rattle.reg_terms.specs.declared.kinds.SetOp.{SetOp}
 use Rattle.reg_terms.specs.declared.command.Command.{Command}
-use Rattle.reg_terms.specs.declared.command.Command.TheVariants.{FolderAdd, FolderRename, FolderMove, FolderDelete, SubjectAdd, GroupAdd, GroupRename, GroupMove, GroupDelete, MemberAdd, MemberRemove, MemberWindow, CompositeSet, CompositeClear, GrantAdd, GrantRemove, InheritAdd, InheritRemove}
-use Rattle.reg_terms.specs.declared.query.Query.TheVariants.{GroupGet, FolderList, Members, Rows, Groups, Grants, May}
+use Rattle.reg_terms.specs.declared.command.Command.TheVariants.{FolderAdd, FolderRename, FolderMove, FolderDelete, SubjectAdd, GroupAdd, GroupRename, GroupMove, GroupDelete, MemberAdd, MemberRemove, MemberWindow, CompositeSet, CompositeClear, GrantAdd, GrantRemove, InheritAdd, InheritRemove, ConsumerAdd, ConsumerAck}
+use Rattle.reg_terms.specs.declared.query.Query.TheVariants.{GroupGet, FolderList, Members, Rows, Groups, Grants, May, History, Log}
 use Rattle.reg_terms.specs.declared.request.Op.TheVariants as asked
 use Rattle.reg_terms.specs.declared.table.CommandKind.{CommandKind}
 use Rattle.reg_terms.specs.declared.table.CommandKind.TheVariants as command
@@ -37,6 +37,7 @@ Value kind.SetOp = SetOp
 Value kind.InheritKind = InheritKind
 Value kind.Scope = Scope
 Value kind.Privilege = Privilege
+Value (kind.Number least most) = ℕ
 
 -- a value as a field
 abbrev as_field : (k : FieldKind) → Value k → Field
@@ -51,6 +52,7 @@ as_field kind.SetOp v = field.SetOp v
 as_field kind.InheritKind v = field.InheritKind v
 as_field kind.Scope v = field.Scope v
 as_field kind.Privilege v = field.Privilege v
+as_field (kind.Number least most) v = field.Number v least most
 
 -- values of so many kinds
 abbrev Values : List FieldKind → Type 0
@@ -75,6 +77,7 @@ field_value (field.SetOp v) = (v, refl)
 field_value (field.InheritKind v) = (v, refl)
 field_value (field.Scope v) = (v, refl)
 field_value (field.Privilege v) = (v, refl)
+field_value (field.Number v least most) = (v, refl)
 
 -- fields are values of these kinds
 record AreValues (ks : List FieldKind) (fields : List Field) : Type 0 where
@@ -116,16 +119,20 @@ makes command.GrantAdd v = record { command = GrantAdd _ _ _; made_so = refl; is
 makes command.GrantRemove v = record { command = GrantRemove _ _ _; made_so = refl; is_kind = refl; has_these = refl }
 makes command.InheritAdd v = record { command = InheritAdd _ _ _ _ _; made_so = refl; is_kind = refl; has_these = refl }
 makes command.InheritRemove v = record { command = InheritRemove _ _ _ _ _; made_so = refl; is_kind = refl; has_these = refl }
+makes command.ConsumerAdd v = record { command = ConsumerAdd _; made_so = refl; is_kind = refl; has_these = refl }
+makes command.ConsumerAck v = record { command = ConsumerAck _ _; made_so = refl; is_kind = refl; has_these = refl }
 
 query_makes : (k : QueryKind) (v : Values (field_kinds (query_row k))) → IsMade (op.Query k) (as_fields (field_kinds (query_row k)) v)
 unfolding next_as
 query_makes query.GroupGet v = record { op = asked.Query (GroupGet _); made_so = refl; is_kind = refl; has_these = refl }
 query_makes query.FolderList v = record { op = asked.Query (FolderList _); made_so = refl; is_kind = refl; has_these = refl }
-query_makes query.Members v = record { op = asked.Query (Members _); made_so = refl; is_kind = refl; has_these = refl }
+query_makes query.Members v = record { op = asked.Query (Members _ _); made_so = refl; is_kind = refl; has_these = refl }
 query_makes query.Rows v = record { op = asked.Query (Rows _); made_so = refl; is_kind = refl; has_these = refl }
-query_makes query.Groups v = record { op = asked.Query (Groups _); made_so = refl; is_kind = refl; has_these = refl }
+query_makes query.Groups v = record { op = asked.Query (Groups _ _); made_so = refl; is_kind = refl; has_these = refl }
 query_makes query.Grants v = record { op = asked.Query (Grants _); made_so = refl; is_kind = refl; has_these = refl }
 query_makes query.May v = record { op = asked.Query (May _ _); made_so = refl; is_kind = refl; has_these = refl }
+query_makes query.History v = record { op = asked.Query (History _); made_so = refl; is_kind = refl; has_these = refl }
+query_makes query.Log v = record { op = asked.Query (Log _ _); made_so = refl; is_kind = refl; has_these = refl }
 
 pub command_apart : (c : Command) → IsApart c
 unfolding next_as
@@ -147,6 +154,8 @@ command_apart (GrantAdd a b c) = record { few = lit≤ tt; kinds = refl; again =
 command_apart (GrantRemove a b c) = record { few = lit≤ tt; kinds = refl; again = refl; coded_so = refl }
 command_apart (InheritAdd a b c d e) = record { few = lit≤ tt; kinds = refl; again = refl; coded_so = refl }
 command_apart (InheritRemove a b c d e) = record { few = lit≤ tt; kinds = refl; again = refl; coded_so = refl }
+command_apart (ConsumerAdd a) = record { few = lit≤ tt; kinds = refl; again = refl; coded_so = refl }
+command_apart (ConsumerAck a b) = record { few = lit≤ tt; kinds = refl; again = refl; coded_so = refl }
 
 -- ---- all ops
 

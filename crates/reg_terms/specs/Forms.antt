@@ -56,6 +56,7 @@ is_field (field.SetOp kind) = true
 is_field (field.InheritKind kind) = true
 is_field (field.Scope scope) = true
 is_field (field.Privilege privilege) = true
+is_field (field.Number value least most) = nat_le least value && nat_le value most
 
 -- whether each field of a command has its form
 unfoldable pub has_form : Command → Bool

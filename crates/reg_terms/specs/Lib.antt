@@ -1,3 +1,4 @@
+pub mod EntryWords
 pub mod Kinds
 pub mod Links
 pub mod Limits

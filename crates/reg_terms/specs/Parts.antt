@@ -31,6 +31,7 @@ field_kind (field.SetOp v) = kind.SetOp
 field_kind (field.InheritKind v) = kind.InheritKind
 field_kind (field.Scope v) = kind.Scope
 field_kind (field.Privilege v) = kind.Privilege
+field_kind (field.Number v least most) = kind.Number least most
 
 -- the name, if the field is one
 abbrev pub as_name : Field → Option (List ℕ)
@@ -87,6 +88,11 @@ abbrev pub as_privilege : Field → Option Privilege
 as_privilege (field.Privilege v) = Some v
 as_privilege _ = None
 
+-- the number, if the field is one
+abbrev pub as_number : Field → Option ℕ
+as_number (field.Number v least most) = Some v
+as_number _ = None
+
 -- the field that is seen, if one is
 abbrev pub seen : FieldRef → List Field
 seen reference.Nothing = []
@@ -101,6 +107,7 @@ seen (reference.SetOp v) = field.SetOp v ∷ []
 seen (reference.InheritKind v) = field.InheritKind v ∷ []
 seen (reference.Scope v) = field.Scope v ∷ []
 seen (reference.Privilege v) = field.Privilege v ∷ []
+seen (reference.Number v least most) = field.Number v least most ∷ []
 
 -- the fields that are seen
 abbrev pub seen_all : List FieldRef → List Field
@@ -161,6 +168,10 @@ scope_in fields = next_as as_scope fields
 -- a privilege from the front
 abbrev pub privilege_in : List Field → Option (Privilege × List Field)
 privilege_in fields = next_as as_privilege fields
+
+-- a number from the front
+abbrev pub number_in : List Field → Option (ℕ × List Field)
+number_in fields = next_as as_number fields
 
 -- what was made, where no field is left
 abbrev pub whole : {A : Type 0} → A → List Field → Option A

@@ -2,9 +2,9 @@
 use Rattle.std.specs.Prelude.{◌≡◌, ◌≤◌, ℕ, List, [], ◌∷◌, ◌==◌, if◌then◌else◌, Option, Some, None, option_map, codes, map, length}
 use Rattle.std.specs.Str.{bytes_eq}
 use Rattle.reg_terms.specs.declared.command.Command.{Command}
-use Rattle.reg_terms.specs.declared.command.Command.TheVariants.{FolderAdd, FolderRename, FolderMove, FolderDelete, SubjectAdd, GroupAdd, GroupRename, GroupMove, GroupDelete, MemberAdd, MemberRemove, MemberWindow, CompositeSet, CompositeClear, GrantAdd, GrantRemove, InheritAdd, InheritRemove}
+use Rattle.reg_terms.specs.declared.command.Command.TheVariants.{FolderAdd, FolderRename, FolderMove, FolderDelete, SubjectAdd, GroupAdd, GroupRename, GroupMove, GroupDelete, MemberAdd, MemberRemove, MemberWindow, CompositeSet, CompositeClear, GrantAdd, GrantRemove, InheritAdd, InheritRemove, ConsumerAdd, ConsumerAck}
 use Rattle.reg_terms.specs.declared.query.Query.{Query}
-use Rattle.reg_terms.specs.declared.query.Query.TheVariants.{GroupGet, FolderList, Members, Rows, Groups, Grants, May}
+use Rattle.reg_terms.specs.declared.query.Query.TheVariants.{GroupGet, FolderList, Members, Rows, Groups, Grants, May, History, Log}
 use Rattle.reg_terms.specs.declared.request.Op.{Op}
 use Rattle.reg_terms.specs.declared.request.Op.TheVariants as asked
 use Rattle.reg_terms.specs.declared.table.CommandKind.{CommandKind}
@@ -17,7 +17,7 @@ use Rattle.reg_terms.specs.declared.field.FieldKind.{FieldKind}
 use Rattle.reg_terms.specs.declared.field.FieldKind.TheVariants as kind
 use Rattle.reg_terms.specs.declared.field.Field.{Field}
 use Rattle.reg_terms.specs.declared.field.Field.TheVariants as field
-use Rattle.reg_terms.specs.Parts.{◌>>=◌, field_kind, name_in, folder_in, extension_in, display_in, entity_in, object_in, moment_in, set_op_in, inherit_kind_in, scope_in, privilege_in, whole}
+use Rattle.reg_terms.specs.Parts.{◌>>=◌, field_kind, name_in, folder_in, extension_in, display_in, entity_in, object_in, moment_in, set_op_in, inherit_kind_in, scope_in, privilege_in, number_in, whole}
 
 -- ---- the table
 
@@ -51,16 +51,20 @@ command_row command.GrantAdd = record { code = 15; op = record { word = codes "g
 command_row command.GrantRemove = record { code = 16; op = record { word = codes "grant.remove"; fields = (codes "object", kind.Object) ∷ (codes "privilege", kind.Privilege) ∷ (codes "holder", kind.Entity) ∷ [] } }
 command_row command.InheritAdd = record { code = 17; op = record { word = codes "inherit.add"; fields = (codes "folder", kind.Folder) ∷ (codes "kind", kind.InheritKind) ∷ (codes "scope", kind.Scope) ∷ (codes "privilege", kind.Privilege) ∷ (codes "holder", kind.Entity) ∷ [] } }
 command_row command.InheritRemove = record { code = 18; op = record { word = codes "inherit.remove"; fields = (codes "folder", kind.Folder) ∷ (codes "kind", kind.InheritKind) ∷ (codes "scope", kind.Scope) ∷ (codes "privilege", kind.Privilege) ∷ (codes "holder", kind.Entity) ∷ [] } }
+command_row command.ConsumerAdd = record { code = 36; op = record { word = codes "consumer.add"; fields = (codes "consumer", kind.Extension) ∷ [] } }
+command_row command.ConsumerAck = record { code = 37; op = record { word = codes "consumer.ack"; fields = (codes "consumer", kind.Extension) ∷ (codes "seq", kind.Number 0 18446744073709551615) ∷ [] } }
 
 -- the row of a query
 abbrev pub query_row : QueryKind → Row
 query_row query.GroupGet = record { word = codes "group.get"; fields = (codes "group", kind.Name) ∷ [] }
 query_row query.FolderList = record { word = codes "folder.list"; fields = (codes "folder", kind.Folder) ∷ [] }
-query_row query.Members = record { word = codes "members"; fields = (codes "group", kind.Name) ∷ [] }
+query_row query.Members = record { word = codes "members"; fields = (codes "group", kind.Name) ∷ (codes "at", kind.OptionalMoment) ∷ [] }
 query_row query.Rows = record { word = codes "rows"; fields = (codes "group", kind.Name) ∷ [] }
-query_row query.Groups = record { word = codes "groups"; fields = (codes "subject", kind.Entity) ∷ [] }
+query_row query.Groups = record { word = codes "groups"; fields = (codes "subject", kind.Entity) ∷ (codes "at", kind.OptionalMoment) ∷ [] }
 query_row query.Grants = record { word = codes "grants"; fields = (codes "object", kind.Object) ∷ [] }
 query_row query.May = record { word = codes "may"; fields = (codes "object", kind.Object) ∷ (codes "entity", kind.Entity) ∷ [] }
+query_row query.History = record { word = codes "history"; fields = (codes "group", kind.Name) ∷ [] }
+query_row query.Log = record { word = codes "log"; fields = (codes "consumer", kind.Extension) ∷ (codes "max", kind.Number 1 1000) ∷ [] }
 
 -- the row of an op
 abbrev pub row_of : OpKind → Row
@@ -69,11 +73,11 @@ row_of (op.Query k) = query_row k
 
 -- every command
 abbrev pub commands : List CommandKind
-commands = command.FolderAdd ∷ command.FolderRename ∷ command.FolderMove ∷ command.FolderDelete ∷ command.SubjectAdd ∷ command.GroupAdd ∷ command.GroupRename ∷ command.GroupMove ∷ command.GroupDelete ∷ command.MemberAdd ∷ command.MemberRemove ∷ command.MemberWindow ∷ command.CompositeSet ∷ command.CompositeClear ∷ command.GrantAdd ∷ command.GrantRemove ∷ command.InheritAdd ∷ command.InheritRemove ∷ []
+commands = command.FolderAdd ∷ command.FolderRename ∷ command.FolderMove ∷ command.FolderDelete ∷ command.SubjectAdd ∷ command.GroupAdd ∷ command.GroupRename ∷ command.GroupMove ∷ command.GroupDelete ∷ command.MemberAdd ∷ command.MemberRemove ∷ command.MemberWindow ∷ command.CompositeSet ∷ command.CompositeClear ∷ command.GrantAdd ∷ command.GrantRemove ∷ command.InheritAdd ∷ command.InheritRemove ∷ command.ConsumerAdd ∷ command.ConsumerAck ∷ []
 
 -- every query
 abbrev pub queries : List QueryKind
-queries = query.GroupGet ∷ query.FolderList ∷ query.Members ∷ query.Rows ∷ query.Groups ∷ query.Grants ∷ query.May ∷ []
+queries = query.GroupGet ∷ query.FolderList ∷ query.Members ∷ query.Rows ∷ query.Groups ∷ query.Grants ∷ query.May ∷ query.History ∷ query.Log ∷ []
 
 -- the kinds of a row's fields
 abbrev pub field_kinds : Row → List FieldKind
@@ -123,16 +127,20 @@ apart (GrantAdd object privilege holder) = (command.GrantAdd, field.Object objec
 apart (GrantRemove object privilege holder) = (command.GrantRemove, field.Object object ∷ field.Privilege privilege ∷ field.Entity holder ∷ [])
 apart (InheritAdd folder kind scope privilege holder) = (command.InheritAdd, field.Folder folder ∷ field.InheritKind kind ∷ field.Scope scope ∷ field.Privilege privilege ∷ field.Entity holder ∷ [])
 apart (InheritRemove folder kind scope privilege holder) = (command.InheritRemove, field.Folder folder ∷ field.InheritKind kind ∷ field.Scope scope ∷ field.Privilege privilege ∷ field.Entity holder ∷ [])
+apart (ConsumerAdd consumer) = (command.ConsumerAdd, field.Extension consumer ∷ [])
+apart (ConsumerAck consumer seq) = (command.ConsumerAck, field.Extension consumer ∷ field.Number seq 0 18446744073709551615 ∷ [])
 
 -- a query: which one, and its fields in order
 abbrev pub query_apart : Query → QueryKind × List Field
 query_apart (GroupGet group) = (query.GroupGet, field.Name group ∷ [])
 query_apart (FolderList folder) = (query.FolderList, field.Folder folder ∷ [])
-query_apart (Members group) = (query.Members, field.Name group ∷ [])
+query_apart (Members group at) = (query.Members, field.Name group ∷ field.OptionalMoment at ∷ [])
 query_apart (Rows group) = (query.Rows, field.Name group ∷ [])
-query_apart (Groups subject) = (query.Groups, field.Entity subject ∷ [])
+query_apart (Groups subject at) = (query.Groups, field.Entity subject ∷ field.OptionalMoment at ∷ [])
 query_apart (Grants object) = (query.Grants, field.Object object ∷ [])
 query_apart (May object entity) = (query.May, field.Object object ∷ field.Entity entity ∷ [])
+query_apart (History group) = (query.History, field.Name group ∷ [])
+query_apart (Log consumer max) = (query.Log, field.Extension consumer ∷ field.Number max 1 1000 ∷ [])
 
 -- which command it is
 abbrev pub kind_of : Command → CommandKind
@@ -243,6 +251,13 @@ made_command command.InheritRemove fields = do
   privilege ← privilege_in scope.1
   holder ← entity_in privilege.1
   whole (InheritRemove folder.0 kind.0 scope.0 privilege.0 holder.0) holder.1
+made_command command.ConsumerAdd fields = do
+  consumer ← extension_in fields
+  whole (ConsumerAdd consumer.0) consumer.1
+made_command command.ConsumerAck fields = do
+  consumer ← extension_in fields
+  seq ← number_in consumer.1
+  whole (ConsumerAck consumer.0 seq.0) seq.1
 
 -- the query that fields make
 abbrev pub made_query : QueryKind → List Field → Option Query
@@ -254,13 +269,15 @@ made_query query.FolderList fields = do
   whole (FolderList folder.0) folder.1
 made_query query.Members fields = do
   group ← name_in fields
-  whole (Members group.0) group.1
+  at ← moment_in group.1
+  whole (Members group.0 at.0) at.1
 made_query query.Rows fields = do
   group ← name_in fields
   whole (Rows group.0) group.1
 made_query query.Groups fields = do
   subject ← entity_in fields
-  whole (Groups subject.0) subject.1
+  at ← moment_in subject.1
+  whole (Groups subject.0 at.0) at.1
 made_query query.Grants fields = do
   object ← object_in fields
   whole (Grants object.0) object.1
@@ -268,6 +285,13 @@ made_query query.May fields = do
   object ← object_in fields
   entity ← entity_in object.1
   whole (May object.0 entity.0) entity.1
+made_query query.History fields = do
+  group ← name_in fields
+  whole (History group.0) group.1
+made_query query.Log fields = do
+  consumer ← extension_in fields
+  max ← number_in consumer.1
+  whole (Log consumer.0 max.0) max.1
 
 -- the op that fields make
 abbrev pub made : OpKind → List Field → Option Op

@@ -1,6 +1,6 @@
 // A field of a command or a query, and the kinds of fields.
 ghost use Rattle.std.specs.Prelude.{◌≡◌};
-ghost use Rattle.reg_terms.specs.Parts.{as_name, as_folder, as_extension, as_display, as_entity, as_object, as_moment, as_set_op, as_inherit_kind, as_scope, as_privilege};
+ghost use Rattle.reg_terms.specs.Parts.{as_name, as_folder, as_extension, as_display, as_entity, as_object, as_moment, as_set_op, as_inherit_kind, as_scope, as_privilege, as_number};
 
 use crate::{InheritKind, Scope, SetOp};
 use reg_base::{Entity, Moment, Name, Privilege, Text};
@@ -31,6 +31,8 @@ pub enum FieldKind {
     Scope,
     /// A privilege by its name.
     Privilege,
+    /// A whole number from `least` to `most`.
+    Number { least: u64, most: u64 },
 }
 
 /// A field of a command or a query.
@@ -47,6 +49,8 @@ pub enum Field {
     InheritKind(InheritKind),
     Scope(Scope),
     Privilege(Privilege),
+    /// A number, and the least and the greatest that may stand here.
+    Number { value: u64, least: u64, most: u64 },
 }
 
 impl Field {
@@ -156,6 +160,16 @@ impl Field {
     {
         match self {
             Field::Privilege(privilege) => Some(*privilege),
+            _ => None,
+        }
+    }
+
+    /// The number, if it is one.
+    pub fn number(&self) -> Option<u64>
+        ensures { result ≡ as_number self.now }
+    {
+        match self {
+            Field::Number { value, .. } => Some(*value),
             _ => None,
         }
     }

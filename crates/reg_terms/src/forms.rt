@@ -97,6 +97,7 @@ fn is_field(field: &FieldRef<'_>) -> bool
         FieldRef::Entity(entity) => is_entity(entity),
         FieldRef::Object(text) => is_object_text(text.bytes()),
         FieldRef::OptionalMoment(moment) => is_optional_moment(*moment),
+        FieldRef::Number { value, least, most } => *least <= *value && *value <= *most,
     }
 }
 

@@ -3,7 +3,9 @@
 #![tactic(auto)]
 
 mod attr_values;
+mod changes_shown;
 mod command;
+mod entry_kinds;
 mod event;
 mod field;
 mod forms;
@@ -24,7 +26,9 @@ mod table;
 mod texts;
 
 pub use attr_values::AttrValues;
+pub use changes_shown::{EntriesShown, EntryShown, SpanShown, SpansShown};
 pub use command::{Command, Stamped};
+pub use entry_kinds::EntryKind;
 pub use event::Event;
 pub use field::{Field, FieldKind};
 pub use forms::{has_form, is_folder_text, is_object_text};
@@ -33,8 +37,8 @@ pub use kinds::{
 };
 pub use laws::{law_commands, law_ops};
 pub use limits::{
-    MAX_DISPLAY, MAX_FOLDERS, MAX_GRANTS, MAX_GROUPS, MAX_HISTORY, MAX_INHERITS, MAX_LINE,
-    MAX_NAME, MAX_ROWS, MAX_SUBJECTS,
+    MAX_CONSUMERS, MAX_DISPLAY, MAX_FOLDERS, MAX_GRANTS, MAX_GROUPS, MAX_HISTORY, MAX_INHERITS,
+    MAX_LINE, MAX_NAME, MAX_ROWS, MAX_SUBJECTS,
 };
 pub use making::{made, made_command};
 pub use parts::{FieldRef, fields_of, kind_of};

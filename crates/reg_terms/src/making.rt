@@ -1,6 +1,6 @@
 // Commands and queries made of fields.
 ghost use Rattle.std.specs.Prelude.{◌≡◌};
-ghost use Rattle.reg_terms.specs.Parts.{Took, name_in, folder_in, extension_in, display_in, entity_in, object_in, moment_in, set_op_in, inherit_kind_in, scope_in, privilege_in, whole};
+ghost use Rattle.reg_terms.specs.Parts.{Took, name_in, folder_in, extension_in, display_in, entity_in, object_in, moment_in, set_op_in, inherit_kind_in, scope_in, privilege_in, number_in, whole};
 ghost use Rattle.reg_terms.specs.Table.{made_command, made_query, made};
 ghost use Rattle.reg_terms.specs.declared.table.CommandKind.TheVariants as command;
 ghost use Rattle.reg_terms.specs.declared.table.QueryKind.TheVariants as query;
@@ -91,6 +91,14 @@ fn privilege(fields: &mut VecDeque<Field>) -> Option<Privilege>
 {
     let field = fields.pop_front()?;
     field.privilege()
+}
+
+#[tactic(auto, unfolding(crate::specs::Parts::next_as))]
+fn number(fields: &mut VecDeque<Field>) -> Option<u64>
+    ensures { Took result fields.new.items (number_in fields.old.items) }
+{
+    let field = fields.pop_front()?;
+    field.number()
 }
 
 fn whole<T: Drop>(op: T, fields: VecDeque<Field>) -> Option<T>
@@ -290,6 +298,25 @@ fn inherit_remove(mut fields: VecDeque<Field>) -> Option<Command>
     whole(command, fields)
 }
 
+fn consumer_add(mut fields: VecDeque<Field>) -> Option<Command>
+    ensures { result ≡ made_command command.ConsumerAdd fields.items }
+{
+    let command = Command::ConsumerAdd {
+        consumer: extension(&mut fields)?,
+    };
+    whole(command, fields)
+}
+
+fn consumer_ack(mut fields: VecDeque<Field>) -> Option<Command>
+    ensures { result ≡ made_command command.ConsumerAck fields.items }
+{
+    let command = Command::ConsumerAck {
+        consumer: extension(&mut fields)?,
+        seq: number(&mut fields)?,
+    };
+    whole(command, fields)
+}
+
 fn group_get(mut fields: VecDeque<Field>) -> Option<Query>
     ensures { result ≡ made_query query.GroupGet fields.items }
 {
@@ -313,6 +340,7 @@ fn members(mut fields: VecDeque<Field>) -> Option<Query>
 {
     let query = Query::Members {
         group: name(&mut fields)?,
+        at: moment(&mut fields)?,
     };
     whole(query, fields)
 }
@@ -331,6 +359,7 @@ fn groups(mut fields: VecDeque<Field>) -> Option<Query>
 {
     let query = Query::Groups {
         subject: entity(&mut fields)?,
+        at: moment(&mut fields)?,
     };
     whole(query, fields)
 }
@@ -350,6 +379,25 @@ fn may(mut fields: VecDeque<Field>) -> Option<Query>
     let query = Query::May {
         object: object(&mut fields)?,
         entity: entity(&mut fields)?,
+    };
+    whole(query, fields)
+}
+
+fn history(mut fields: VecDeque<Field>) -> Option<Query>
+    ensures { result ≡ made_query query.History fields.items }
+{
+    let query = Query::History {
+        group: name(&mut fields)?,
+    };
+    whole(query, fields)
+}
+
+fn log(mut fields: VecDeque<Field>) -> Option<Query>
+    ensures { result ≡ made_query query.Log fields.items }
+{
+    let query = Query::Log {
+        consumer: extension(&mut fields)?,
+        max: number(&mut fields)?,
     };
     whole(query, fields)
 }
@@ -377,6 +425,8 @@ pub fn made_command(kind: CommandKind, fields: VecDeque<Field>) -> Option<Comman
         CommandKind::GrantRemove => grant_remove(fields),
         CommandKind::InheritAdd => inherit_add(fields),
         CommandKind::InheritRemove => inherit_remove(fields),
+        CommandKind::ConsumerAdd => consumer_add(fields),
+        CommandKind::ConsumerAck => consumer_ack(fields),
     }
 }
 
@@ -391,6 +441,8 @@ fn made_query(kind: QueryKind, fields: VecDeque<Field>) -> Option<Query>
         QueryKind::Groups => groups(fields),
         QueryKind::Grants => grants(fields),
         QueryKind::May => may(fields),
+        QueryKind::History => history(fields),
+        QueryKind::Log => log(fields),
     }
 }
 

@@ -22,6 +22,7 @@ pub enum FieldRef<'a> {
     InheritKind(InheritKind),
     Scope(Scope),
     Privilege(Privilege),
+    Number { value: u64, least: u64, most: u64 },
 }
 
 /// Which command it is.
@@ -47,6 +48,8 @@ pub fn kind_of(command: &Command) -> CommandKind
         Command::GrantRemove { .. } => CommandKind::GrantRemove,
         Command::InheritAdd { .. } => CommandKind::InheritAdd,
         Command::InheritRemove { .. } => CommandKind::InheritRemove,
+        Command::ConsumerAdd { .. } => CommandKind::ConsumerAdd,
+        Command::ConsumerAck { .. } => CommandKind::ConsumerAck,
     }
 }
 
@@ -232,6 +235,26 @@ pub fn fields_of<'a>(command: &'a Command) -> [FieldRef<'a>; 6]
             FieldRef::Scope(*scope),
             FieldRef::Privilege(*privilege),
             FieldRef::Entity(holder),
+            FieldRef::Nothing,
+        ],
+        Command::ConsumerAdd { consumer } => [
+            FieldRef::Extension(consumer),
+            FieldRef::Nothing,
+            FieldRef::Nothing,
+            FieldRef::Nothing,
+            FieldRef::Nothing,
+            FieldRef::Nothing,
+        ],
+        Command::ConsumerAck { consumer, seq } => [
+            FieldRef::Extension(consumer),
+            FieldRef::Number {
+                value: *seq,
+                least: 0,
+                most: u64::MAX,
+            },
+            FieldRef::Nothing,
+            FieldRef::Nothing,
+            FieldRef::Nothing,
             FieldRef::Nothing,
         ],
     }

@@ -1,6 +1,6 @@
 // Queries and their answers.
-use crate::{FactorsShown, GrantsShown, Privileges, RowsShown, Texts};
-use reg_base::{Entity, Name, Text};
+use crate::{EntriesShown, FactorsShown, GrantsShown, Privileges, RowsShown, SpansShown, Texts};
+use reg_base::{Entity, Moment, Name, Text};
 
 /// A question that changes nothing (`docs/REQUESTS.md`). A folder is named by its name, or `:` for the root.
 #[derive(Debug, Drop)]
@@ -9,16 +9,20 @@ pub enum Query {
     GroupGet { group: Name },
     /// What stands directly in the folder of this name.
     FolderList { folder: Text },
-    /// The effective members of the group of this name.
-    Members { group: Name },
+    /// The effective members of the group of this name, now or at a moment before now.
+    Members { group: Name, at: Option<Moment> },
     /// The immediate memberships and the factors of the group of this name.
     Rows { group: Name },
-    /// The groups that have a person as an effective member.
-    Groups { subject: Entity },
+    /// The groups that have a person as an effective member, now or at a moment before now.
+    Groups { subject: Entity, at: Option<Moment> },
     /// The privileges granted on an object, written on it or inherited, and their holders.
     Grants { object: Text },
     /// The privileges that an entity has on an object.
     May { object: Text, entity: Entity },
+    /// Who was an effective member of the group of this name, from when and until when.
+    History { group: Name },
+    /// The entries of the change log after the place of a consumer, at most `max`.
+    Log { consumer: Text, max: u64 },
 }
 
 /// What a query is answered.
@@ -56,5 +60,15 @@ pub enum Answer {
     /// By their codes, and with what they give.
     May {
         privileges: Privileges,
+    },
+    /// By the moments at which they began, then in the order of the subjects.
+    History {
+        history: SpansShown,
+    },
+    /// By their numbers, with the number of the last entry of the log and the consumer's place.
+    Log {
+        entries: EntriesShown,
+        last: u64,
+        place: u64,
     },
 }

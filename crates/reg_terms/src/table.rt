@@ -25,6 +25,8 @@ pub enum CommandKind {
     GrantRemove,
     InheritAdd,
     InheritRemove,
+    ConsumerAdd,
+    ConsumerAck,
 }
 
 /// Which query.
@@ -37,6 +39,8 @@ pub enum QueryKind {
     Groups,
     Grants,
     May,
+    History,
+    Log,
 }
 
 /// Which command or query.
@@ -61,7 +65,7 @@ pub struct CommandRow {
 }
 
 /// Every command.
-const COMMANDS: [CommandKind; 18] = [
+const COMMANDS: [CommandKind; 20] = [
     CommandKind::FolderAdd,
     CommandKind::FolderRename,
     CommandKind::FolderMove,
@@ -80,10 +84,12 @@ const COMMANDS: [CommandKind; 18] = [
     CommandKind::GrantRemove,
     CommandKind::InheritAdd,
     CommandKind::InheritRemove,
+    CommandKind::ConsumerAdd,
+    CommandKind::ConsumerAck,
 ];
 
 /// Every query.
-const QUERIES: [QueryKind; 7] = [
+const QUERIES: [QueryKind; 9] = [
     QueryKind::GroupGet,
     QueryKind::FolderList,
     QueryKind::Members,
@@ -91,6 +97,8 @@ const QUERIES: [QueryKind; 7] = [
     QueryKind::Groups,
     QueryKind::Grants,
     QueryKind::May,
+    QueryKind::History,
+    QueryKind::Log,
 ];
 
 /// An op's row by its word and fields.
@@ -247,6 +255,25 @@ pub fn command_row(kind: CommandKind) -> CommandRow
                 ("holder", FieldKind::Entity),
             ],
         ),
+        CommandKind::ConsumerAdd => command(
+            36,
+            "consumer.add",
+            &[("consumer", FieldKind::Extension)],
+        ),
+        CommandKind::ConsumerAck => command(
+            37,
+            "consumer.ack",
+            &[
+                ("consumer", FieldKind::Extension),
+                (
+                    "seq",
+                    FieldKind::Number {
+                        least: 0,
+                        most: u64::MAX,
+                    },
+                ),
+            ],
+        ),
     }
 }
 
@@ -259,13 +286,39 @@ pub fn query_row(kind: QueryKind) -> Row
     match kind {
         QueryKind::GroupGet => op("group.get", &[("group", FieldKind::Name)]),
         QueryKind::FolderList => op("folder.list", &[("folder", FieldKind::Folder)]),
-        QueryKind::Members => op("members", &[("group", FieldKind::Name)]),
+        QueryKind::Members => op(
+            "members",
+            &[
+                ("group", FieldKind::Name),
+                ("at", FieldKind::OptionalMoment),
+            ],
+        ),
         QueryKind::Rows => op("rows", &[("group", FieldKind::Name)]),
-        QueryKind::Groups => op("groups", &[("subject", FieldKind::Entity)]),
+        QueryKind::Groups => op(
+            "groups",
+            &[
+                ("subject", FieldKind::Entity),
+                ("at", FieldKind::OptionalMoment),
+            ],
+        ),
         QueryKind::Grants => op("grants", &[("object", FieldKind::Object)]),
         QueryKind::May => op(
             "may",
             &[("object", FieldKind::Object), ("entity", FieldKind::Entity)],
+        ),
+        QueryKind::History => op("history", &[("group", FieldKind::Name)]),
+        QueryKind::Log => op(
+            "log",
+            &[
+                ("consumer", FieldKind::Extension),
+                (
+                    "max",
+                    FieldKind::Number {
+                        least: 1,
+                        most: 1_000,
+                    },
+                ),
+            ],
         ),
     }
 }

@@ -1,6 +1,7 @@
-// The kinds of entries.
-ghost use Rattle.std.specs.Prelude.{◌≡◌};
-ghost use Rattle.reg_log.specs.Words.{word_of};
+// The kinds of entries of the change log.
+ghost use Rattle.std.specs.Prelude.{◌≡◌, Some, IfSome};
+ghost use Rattle.reg_terms.specs.declared.entry_kinds.EntryKind.{EntryKind};
+ghost use Rattle.reg_terms.specs.EntryWords.{word_of, kind_worded};
 
 /// What was changed, or which effective membership began or ended.
 #[derive(Clone, Copy, Debug, PartialEq, Eq)]
@@ -38,6 +39,42 @@ pub enum EntryKind {
     MemberBegin,
     MemberEnd,
 }
+
+/// Every kind.
+const KINDS: [EntryKind; 32] = [
+    EntryKind::FolderAdd,
+    EntryKind::FolderRename,
+    EntryKind::FolderMove,
+    EntryKind::FolderDelete,
+    EntryKind::SubjectAdd,
+    EntryKind::GroupAdd,
+    EntryKind::GroupRename,
+    EntryKind::GroupMove,
+    EntryKind::GroupDelete,
+    EntryKind::RowAdd,
+    EntryKind::RowRemove,
+    EntryKind::RowWindow,
+    EntryKind::CompositeSet,
+    EntryKind::CompositeClear,
+    EntryKind::GrantAdd,
+    EntryKind::GrantRemove,
+    EntryKind::InheritAdd,
+    EntryKind::InheritRemove,
+    EntryKind::DefinitionAdd,
+    EntryKind::DefinitionDelete,
+    EntryKind::AttributeAdd,
+    EntryKind::AttributeDelete,
+    EntryKind::AssignAdd,
+    EntryKind::AssignRemove,
+    EntryKind::ValueAdd,
+    EntryKind::ValueRemove,
+    EntryKind::RuleAdd,
+    EntryKind::RuleDelete,
+    EntryKind::JobAdd,
+    EntryKind::JobDelete,
+    EntryKind::MemberBegin,
+    EntryKind::MemberEnd,
+];
 
 impl EntryKind {
     /// The word that is printed for it, as `folder.add`.
@@ -79,4 +116,21 @@ impl EntryKind {
             EntryKind::MemberEnd => "member.end",
         }
     }
+
+    /// The kind whose word it is. None exactly where no kind has that word.
+    pub fn parse(word: &str) -> Option<EntryKind>
+        ensures kind { result ≡ kind_worded word.now }
+        ensures has { IfSome result (λ k. word_of k ≡ word.now) }
+        ensures own { (k : EntryKind) → word.now ≡ word_of k → result ≡ Some k }
+    {
+        worded(word)
+    }
+}
+
+/// The first kind whose word it is.
+#[tactic(auto, unfolding(crate::specs::EntryWords::kind_worded))]
+fn worded(word: &str) -> Option<EntryKind>
+    ensures { result ≡ kind_worded word.now }
+{
+    KINDS.iter().copied().find(|kind| kind.word() == word)
 }
