@@ -1,7 +1,7 @@
 -- Commands are read exactly as they are written, by the kinds of their fields.
-use Rattle.std.proofs.Common.{◌≡◌, ℕ, Bool, true, eqb, List, [], ◌∷◌, ◌++◌, map, Option, Some, refl, sym, ap, subst, ◌∙◌, append_assoc, inl, inr, arith}
+use Rattle.std.proofs.Common.{◌≡◌, ℕ, Bool, true, eqb, leb, List, [], ◌∷◌, ◌++◌, map, Option, Some, refl, sym, ap, subst, ◌∙◌, append_assoc, inl, inr, arith}
 use Rattle.std.specs.List.{list_all, flat_map}
-use Rattle.std.proofs.lemmas.Bool.{and_parts, and_from, eqb-true}
+use Rattle.std.proofs.lemmas.Bool.{and_parts, and_from, eqb-true, leb-true}
 use Rattle.std.proofs.lemmas.Option.{same_Some}
 use Rattle.reg_base.specs.Names.{is_extension, is_name}
 use Rattle.reg_base.specs.declared.entity.Entity.{Entity}
@@ -10,6 +10,7 @@ use Rattle.reg_terms.specs.declared.kinds.InheritKind.{InheritKind}
 use Rattle.reg_terms.specs.declared.kinds.Scope.{Scope}
 use Rattle.reg_terms.specs.declared.kinds.SetOp.{SetOp}
 use Rattle.reg_terms.specs.declared.command.Command.{Command}
+use Rattle.reg_terms.specs.declared.command.Command.TheVariants.{ConsumerAck}
 use Rattle.reg_terms.specs.declared.table.CommandKind.{CommandKind}
 use Rattle.reg_terms.specs.declared.field.FieldKind.{FieldKind}
 use Rattle.reg_terms.specs.declared.field.FieldKind.TheVariants as kind
@@ -20,9 +21,9 @@ use Rattle.reg_terms.specs.Parts.{◌>>=◌, field_kind}
 use Rattle.reg_terms.specs.Table.{command_row, field_kinds, commands, coded, kind_of, fields_of, code_of, made_command, IsMadeCommand, IsApart}
 use Rattle.reg_wire.specs.Fields.{field_bytes}
 use Rattle.reg_wire.specs.Payload.{fields_bytes, command_bytes}
-use Rattle.reg_wire.specs.Reading.{byte_at, name_at, folder_at, extension_at, display_at, entity_at, object_at, optional_moment_at, set_op_at, inherit_kind_at, scope_at, privilege_at, stands, field_at, fields_at, command_at, command_of}
+use Rattle.reg_wire.specs.Reading.{byte_at, name_at, folder_at, extension_at, display_at, entity_at, object_at, optional_moment_at, ranged_at, set_op_at, inherit_kind_at, scope_at, privilege_at, stands, field_at, fields_at, command_at, command_of}
 use Rattle.reg_wire.proofs.Texts.{name_short, folder_short, extension_short, display_short}
-use Rattle.reg_wire.proofs.Exact.{IsExact, bind_some, tested_exact, optional_exact, set_op_exact}
+use Rattle.reg_wire.proofs.Exact.{IsExact, bind_some, tested_exact, optional_exact, set_op_exact, ranged_takes, ranged_again}
 use Rattle.reg_wire.proofs.Entities.{chosen, entity_exact}
 use Rattle.reg_wire.proofs.Objects.{object_short}
 use Rattle.reg_wire.proofs.Grants.{inherit_kind_exact, scope_exact, privilege_exact, byte_takes}
@@ -76,20 +77,30 @@ field_takes kind.SetOp bytes x e = taken kind.SetOp (λ (v : SetOp). field.SetOp
 field_takes kind.InheritKind bytes x e = taken kind.InheritKind (λ (v : InheritKind). field.InheritKind v) inherit_kind_at (λ v. refl) inherit_kind_exact bytes x e
 field_takes kind.Scope bytes x e = taken kind.Scope (λ (v : Scope). field.Scope v) scope_at (λ v. refl) scope_exact bytes x e
 field_takes kind.Privilege bytes x e = taken kind.Privilege (λ (v : Privilege). field.Privilege v) privilege_at (λ v. refl) privilege_exact bytes x e
+field_takes (kind.Number least most) bytes x e =
+    let v = bind_some (ranged_at least most bytes) (λ value. Some (field.Number value.0 least most, value.1)) x e in
+    let t = ranged_takes least most bytes v.0 v.1 in
+    subst (IsTaken (kind.Number least most) bytes) (same_Some (field.Number v.0.0 least most, v.0.1) x v.2) (record { is_kind = refl; parts = t.0; fits = t.1 })
+
+-- a number whose greatest value has 64 bits, or another field
+abbrev is_wide : Field → Bool
+is_wide (field.Number value least most) = leb most 18446744073709551615
+is_wide _ = true
 
 -- and a field is read again
-field_again : (f : Field) (rest : List ℕ) → is_field f ≡ true → field_at (field_kind f) (field_bytes f ++ rest) ≡ Some (f, rest)
-field_again (field.Name v) rest h = rw (name_exact.again v rest h) refl
-field_again (field.Folder v) rest h = rw (folder_exact.again v rest h) refl
-field_again (field.Extension v) rest h = rw (extension_exact.again v rest h) refl
-field_again (field.Display v) rest h = rw (display_exact.again v rest h) refl
-field_again (field.Entity v) rest h = rw (entity_exact.again v rest h) refl
-field_again (field.Object v) rest h = rw (object_exact.again v rest h) refl
-field_again (field.OptionalMoment v) rest h = rw (optional_exact.again v rest h) refl
-field_again (field.SetOp v) rest h = rw (set_op_exact.again v rest h) refl
-field_again (field.InheritKind v) rest h = rw (inherit_kind_exact.again v rest h) refl
-field_again (field.Scope v) rest h = rw (scope_exact.again v rest h) refl
-field_again (field.Privilege v) rest h = rw (privilege_exact.again v rest h) refl
+field_again : (f : Field) (rest : List ℕ) → is_field f ≡ true → is_wide f ≡ true → field_at (field_kind f) (field_bytes f ++ rest) ≡ Some (f, rest)
+field_again (field.Name v) rest h wide = rw (name_exact.again v rest h) refl
+field_again (field.Folder v) rest h wide = rw (folder_exact.again v rest h) refl
+field_again (field.Extension v) rest h wide = rw (extension_exact.again v rest h) refl
+field_again (field.Display v) rest h wide = rw (display_exact.again v rest h) refl
+field_again (field.Entity v) rest h wide = rw (entity_exact.again v rest h) refl
+field_again (field.Object v) rest h wide = rw (object_exact.again v rest h) refl
+field_again (field.OptionalMoment v) rest h wide = rw (optional_exact.again v rest h) refl
+field_again (field.SetOp v) rest h wide = rw (set_op_exact.again v rest h) refl
+field_again (field.InheritKind v) rest h wide = rw (inherit_kind_exact.again v rest h) refl
+field_again (field.Scope v) rest h wide = rw (scope_exact.again v rest h) refl
+field_again (field.Privilege v) rest h wide = rw (privilege_exact.again v rest h) refl
+field_again (field.Number v least most) rest h wide = rw (ranged_again least most v rest h (leb-true _ _ wide)) refl
 
 -- ---- fields one behind the other
 
@@ -98,6 +109,10 @@ bytes_of fs = flat_map field_bytes fs
 
 abbrev pub all_fit : List Field → Bool
 all_fit fs = list_all is_field fs
+
+-- all are wide
+abbrev are_wide : List Field → Bool
+are_wide fs = list_all is_wide fs
 
 record AreTaken (ks : List FieldKind) (bytes : List ℕ) (x : List Field × List ℕ) : Type 0 where
   pub are_kinds : map field_kind x.0 ≡ ks
@@ -118,11 +133,12 @@ fields_take (k ∷ ks) bytes x e =
       fits = and_from _ _ t.fits u.fits;
     })
 
-fields_again : (fs : List Field) (rest : List ℕ) → all_fit fs ≡ true → fields_at (map field_kind fs) (bytes_of fs ++ rest) ≡ Some (fs, rest)
-fields_again [] rest fits = refl
-fields_again (f ∷ fs) rest fits =
+fields_again : (fs : List Field) (rest : List ℕ) → all_fit fs ≡ true → are_wide fs ≡ true → fields_at (map field_kind fs) (bytes_of fs ++ rest) ≡ Some (fs, rest)
+fields_again [] rest fits wide = refl
+fields_again (f ∷ fs) rest fits wide =
     let both = and_parts (is_field f) (all_fit fs) fits in
-    ap (fields_at (map field_kind (f ∷ fs))) (append_assoc (field_bytes f) (bytes_of fs) rest) ∙ rw (field_again f (bytes_of fs ++ rest) both.0, fields_again fs rest both.1) refl
+    let wides = and_parts (is_wide f) (are_wide fs) wide in
+    ap (fields_at (map field_kind (f ∷ fs))) (append_assoc (field_bytes f) (bytes_of fs) rest) ∙ rw (field_again f (bytes_of fs ++ rest) both.0 wides.0, fields_again fs rest both.1 wides.1) refl
 
 -- ---- commands
 
@@ -147,11 +163,16 @@ at_takes makes k bytes x e =
       fits = ap all_fit has ∙ t.fits;
     })
 
+-- so are the fields of every command
+commands_wide : (c : Command) → are_wide (fields_of c) ≡ true
+commands_wide (ConsumerAck consumer seq) = refl
+commands_wide _ = refl
+
 at_again : TableParts → (c : Command) (rest : List ℕ) → has_form c ≡ true → command_at (kind_of c) (bytes_of (fields_of c) ++ rest) ≡ Some (c, rest)
 unfolding command_at has_form
 at_again parts c rest fits =
     let p = parts c in
-    let read : fields_at (field_kinds (command_row (kind_of c)).op) (bytes_of (fields_of c) ++ rest) ≡ Some (fields_of c, rest) = ap (λ (ks : List FieldKind). fields_at ks (bytes_of (fields_of c) ++ rest)) (sym p.kinds) ∙ fields_again (fields_of c) rest fits in
+    let read : fields_at (field_kinds (command_row (kind_of c)).op) (bytes_of (fields_of c) ++ rest) ≡ Some (fields_of c, rest) = ap (λ (ks : List FieldKind). fields_at ks (bytes_of (fields_of c) ++ rest)) (sym p.kinds) ∙ fields_again (fields_of c) rest fits (commands_wide c) in
     rw (read, p.again) refl
 
 -- ---- with the code in front

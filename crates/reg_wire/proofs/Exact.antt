@@ -12,8 +12,8 @@ use Rattle.reg_terms.specs.declared.kinds.SetOp.TheVariants.{Intersection, Compl
 use Rattle.reg_terms.specs.Forms.{is_moment, is_optional_moment}
 use Rattle.reg_terms.specs.Limits.{max_moment}
 use Rattle.reg_terms.specs.Parts.{◌>>=◌}
-use Rattle.reg_wire.specs.Fields.{text_bytes, moment_bytes, optional_moment_bytes, set_op_bytes}
-use Rattle.reg_wire.specs.Reading.{is_byte, number_at, text_at, tested_at, moment_at, optional_moment_at, set_op_at}
+use Rattle.reg_wire.specs.Fields.{text_bytes, moment_bytes, number_bytes, optional_moment_bytes, set_op_bytes}
+use Rattle.reg_wire.specs.Reading.{is_byte, number_at, text_at, tested_at, moment_at, ranged_at, optional_moment_at, set_op_at}
 
 -- a reading takes exactly what is written
 pub record IsExact {A : Type 0} (write : A → List ℕ) (fits : A → Bool) (read : List ℕ → Option (A × List ℕ)) : Type 0 where
@@ -140,6 +140,26 @@ moment_exact = record {
       let upto : moment ≤ max_moment = leb-true _ _ good in
       rw (number_again w64 (2 ^ 64) wide64 moment rest (omega arith), good) refl;
 }
+
+-- ---- numbers of a range
+
+pub ranged_takes : (least most : ℕ) (bytes : List ℕ) (x : ℕ × List ℕ) → ranged_at least most bytes ≡ Some x → (bytes ≡ number_bytes x.0 ++ x.1) × ((leb least x.0 && leb x.0 most) ≡ true)
+unfolding ranged_at
+ranged_takes least most bytes x e =
+    let b = bind_some (number_at w64 bytes) (λ number. cond (leb least number.0 && leb number.0 most) (Some (number.0, number.1)) None) x e in
+    let n = number_takes w64 (2 ^ 64) wide64 bytes b.0 b.1 in
+    let found : ℕ × List ℕ = (b.0.0, b.0.1) in
+    let g = cond_some (leb least b.0.0 && leb b.0.0 most) found x b.2 in
+    subst (λ (y : ℕ × List ℕ). (bytes ≡ number_bytes y.0 ++ y.1) × ((leb least y.0 && leb y.0 most) ≡ true)) g.1 (n.0, g.0)
+
+-- a number of 64 bits is read again
+pub ranged_again : (least most value : ℕ) (rest : List ℕ) → (leb least value && leb value most) ≡ true → most ≤ 18446744073709551615 → ranged_at least most (number_bytes value ++ rest) ≡ Some (value, rest)
+unfolding ranged_at
+ranged_again least most value rest good wide =
+    let upto : value ≤ most = leb-true _ _ (and_parts (leb least value) (leb value most) good).1 in
+    rw (number_again w64 (2 ^ 64) wide64 value rest (omega arith), good) refl
+
+-- ---- moments that may be left out
 
 optional_takes : (bytes : List ℕ) (x : Option ℕ × List ℕ) → optional_moment_at bytes ≡ Some x → (bytes ≡ optional_moment_bytes x.0 ++ x.1) × (is_optional_moment x.0 ≡ true)
 unfolding optional_moment_at

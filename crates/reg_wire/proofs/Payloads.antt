@@ -117,6 +117,7 @@ field_short (field.SetOp kind) h = set_op_short kind
 field_short (field.InheritKind kind) h = inherit_kind_short kind
 field_short (field.Scope scope) h = scope_short scope
 field_short (field.Privilege privilege) h = lit≤ tt
+field_short (field.Number value least most) h = lit≤ tt
 
 fields_short : (fs : List Field) → list_all is_field fs ≡ true → length (flat_map field_bytes fs) ≤ 1008 * length fs
 fields_short [] h = lit≤ tt

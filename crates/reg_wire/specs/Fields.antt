@@ -29,6 +29,10 @@ text_bytes text = to_le_bytes w16 (length text) ++ text
 abbrev pub moment_bytes : ℕ → List ℕ
 moment_bytes moment = to_le_bytes w64 moment
 
+-- eight bytes, the least first
+abbrev pub number_bytes : ℕ → List ℕ
+number_bytes number = to_le_bytes w64 number
+
 -- 0, or 1 and the moment
 abbrev pub optional_moment_bytes : Option ℕ → List ℕ
 optional_moment_bytes None = 0 ∷ []
@@ -67,3 +71,4 @@ field_bytes (field.SetOp kind) = set_op_bytes kind
 field_bytes (field.InheritKind kind) = inherit_kind_bytes kind
 field_bytes (field.Scope scope) = scope_bytes scope
 field_bytes (field.Privilege privilege) = privilege_bytes privilege
+field_bytes (field.Number value least most) = number_bytes value

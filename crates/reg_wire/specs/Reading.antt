@@ -83,6 +83,12 @@ moment_at bytes = do
   number ← number_at w64 bytes
   if is_moment number.0 then Some (number.0, number.1) else None
 
+-- a number from `least` to `most`
+unfoldable pub ranged_at : ℕ → ℕ → List ℕ → Option (ℕ × List ℕ)
+ranged_at least most bytes = do
+  number ← number_at w64 bytes
+  if nat_le least number.0 && nat_le number.0 most then Some (number.0, number.1) else None
+
 -- 0, or 1 and a moment
 unfoldable pub optional_moment_at : List ℕ → Option (Option ℕ × List ℕ)
 optional_moment_at [] = None
@@ -145,6 +151,7 @@ field_at kind.SetOp bytes = stands (λ v. field.SetOp v) (set_op_at bytes)
 field_at kind.InheritKind bytes = stands (λ v. field.InheritKind v) (inherit_kind_at bytes)
 field_at kind.Scope bytes = stands (λ v. field.Scope v) (scope_at bytes)
 field_at kind.Privilege bytes = stands (λ v. field.Privilege v) (privilege_at bytes)
+field_at (kind.Number least most) bytes = stands (λ v. field.Number v least most) (ranged_at least most bytes)
 
 -- fields of so many kinds
 abbrev pub fields_at : List FieldKind → List ℕ → Option (List Field × List ℕ)

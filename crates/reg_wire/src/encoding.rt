@@ -4,7 +4,7 @@ ghost use Rattle.std.specs.List.{flat_map, list_all};
 ghost use Rattle.reg_terms.specs.Forms.{is_entity, is_field, has_form};
 ghost use Rattle.reg_terms.specs.Parts.{seen, seen_all};
 ghost use Rattle.reg_terms.specs.Table.{code_of};
-ghost use Rattle.reg_wire.specs.Fields.{entity_text, field_bytes, text_bytes, moment_bytes, optional_moment_bytes, set_op_bytes, inherit_kind_bytes, scope_bytes, privilege_bytes};
+ghost use Rattle.reg_wire.specs.Fields.{entity_text, field_bytes, text_bytes, moment_bytes, number_bytes, optional_moment_bytes, set_op_bytes, inherit_kind_bytes, scope_bytes, privilege_bytes};
 ghost use Rattle.reg_wire.specs.Payload.{fields_bytes, command_bytes, payload, IsWritable};
 
 use crate::fields::{COMPLEMENT, DEFINITION, FOLDER, GROUP, INTERSECTION, ONE, SUB};
@@ -50,6 +50,12 @@ fn put_moment(out: &mut Vec<u8>, moment: Moment) -> Result<(), AllocError>
     ensures { OnOk result (out.new.items ≡ out.old.items ++ moment_bytes moment) }
 {
     out.extend_from_slice(&moment.micros().to_le_bytes())
+}
+
+fn put_number(out: &mut Vec<u8>, number: u64) -> Result<(), AllocError>
+    ensures { OnOk result (out.new.items ≡ out.old.items ++ number_bytes number) }
+{
+    out.extend_from_slice(&number.to_le_bytes())
 }
 
 fn put_optional_moment(out: &mut Vec<u8>, moment: Option<Moment>) -> Result<(), AllocError>
@@ -124,6 +130,7 @@ fn put_field(out: &mut Vec<u8>, field: &FieldRef<'_>) -> Result<(), AllocError>
         FieldRef::InheritKind(kind) => put_inherit_kind(out, *kind),
         FieldRef::Scope(scope) => put_scope(out, *scope),
         FieldRef::Privilege(privilege) => put_privilege(out, *privilege),
+        FieldRef::Number { value, .. } => put_number(out, *value),
     }
 }
 

@@ -2,7 +2,7 @@
 ghost use Rattle.std.specs.Prelude.{◌≡◌};
 ghost use Rattle.std.specs.Int.{w16, w64};
 ghost use Rattle.reg_wire.specs.Steps.{Gives};
-ghost use Rattle.reg_wire.specs.Reading.{byte_at, number_at, text_at, name_at, folder_at, extension_at, display_at, entity_at, moment_at, object_at, optional_moment_at, set_op_at, inherit_kind_at, scope_at, privilege_at};
+ghost use Rattle.reg_wire.specs.Reading.{byte_at, number_at, text_at, name_at, folder_at, extension_at, display_at, entity_at, moment_at, ranged_at, object_at, optional_moment_at, set_op_at, inherit_kind_at, scope_at, privilege_at};
 
 use crate::fault::ReadFault;
 use reg_base::{Entity, Moment, Name, Privilege, Text, is_extension};
@@ -175,6 +175,19 @@ pub fn moment_at(bytes: &[u8]) -> Result<(Moment, &[u8]), ReadFault>
     match Moment::new(number) {
         Some(moment) => Ok((moment, rest)),
         None => Err(ReadFault::Malformed),
+    }
+}
+
+/// A number from `least` to `most`.
+#[tactic(auto, unfolding(crate::specs::Reading::ranged_at))]
+pub fn ranged_at(least: u64, most: u64, bytes: &[u8]) -> Result<(u64, &[u8]), ReadFault>
+    ensures { Gives (λ x. (x.0, x.1.now)) result (ranged_at least most bytes.now) }
+{
+    let (number, rest) = u64_at(bytes)?;
+    if least <= number && number <= most {
+        Ok((number, rest))
+    } else {
+        Err(ReadFault::Malformed)
     }
 }
 

@@ -6,7 +6,7 @@ ghost use Rattle.reg_wire.specs.Reading.{field_at, fields_at, command_at, comman
 use crate::fault::ReadFault;
 use crate::fields::{
     byte_at, display_at, entity_at, extension_at, folder_at, inherit_kind_at, name_at, object_at,
-    optional_moment_at, privilege_at, scope_at, set_op_at,
+    optional_moment_at, privilege_at, ranged_at, scope_at, set_op_at,
 };
 use reg_terms::{Command, CommandKind, Field, FieldKind, command_coded, command_row, made_command};
 use std::alloc::Global;
@@ -58,6 +58,10 @@ fn field_at(alloc: Global, kind: FieldKind, bytes: &[u8]) -> Result<(Field, &[u8
         },
         FieldKind::Privilege => match privilege_at(bytes) {
             Ok((privilege, rest)) => Ok((Field::Privilege(privilege), rest)),
+            Err(fault) => Err(fault),
+        },
+        FieldKind::Number { least, most } => match ranged_at(least, most, bytes) {
+            Ok((value, rest)) => Ok((Field::Number { value, least, most }, rest)),
             Err(fault) => Err(fault),
         },
     }
