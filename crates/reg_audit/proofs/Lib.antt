@@ -1,0 +1,4 @@
+pub mod Keys
+pub mod Living
+pub mod Stepping
+pub mod Worked

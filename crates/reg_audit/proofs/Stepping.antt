@@ -1,0 +1,135 @@
+-- What one step more leaves.
+use Rattle.std.proofs.Common.{◌≡◌, ◌≤◌, ◌++◌, ℕ, List, [], ◌∷◌, Bool, true, false, Option, Some, None, map, filter_map, flat_map, nat_le, if◌then◌else◌, arith, refl, sym, ap, ◌∙◌, inl, inr, subst}
+use Rattle.std.proofs.lemmas.Bool.{cases_Bool, le-leb}
+use Rattle.std.proofs.lemmas.Bool.Decides.{nat_tests}
+use Rattle.std.proofs.lemmas.List.{append-nil, append-assoc}
+use Rattle.std.specs.List.{cons_option}
+use Rattle.std.specs.Option.{option_or}
+use Rattle.reg_terms.specs.Kinds.{as_group}
+use Rattle.reg_terms.specs.declared.kinds.Object.{Object}
+use Rattle.reg_facts.specs.Lists.{Lists}
+use Rattle.reg_effect.specs.declared.live.Live.{Live}
+use Rattle.reg_effect.specs.Member.{member}
+use Rattle.reg_effect.specs.Turned.{after_turns, turns}
+use Rattle.reg_log.specs.declared.entries.Line.{Line}
+use Rattle.reg_pit.specs.Past.{was_member, NotedBy}
+use Rattle.reg_audit.specs.Audit.{IsAudit}
+use Rattle.reg_audit.specs.Kept.{life_in, name_in, named_in}
+use Rattle.reg_audit.specs.Lines.{lines_of, log_of, turn_line}
+use Rattle.reg_audit.specs.Lives.{begun, ended, life_after, life_from, first_life, life_of, gone_from, leaving, all_gone, groups_of, gone_of, last_name, gone_name, named_or, last_named, gone_named}
+use Rattle.reg_audit.specs.Notes.{StepNotes, notes_of}
+use Rattle.reg_audit.specs.Steps.{Step, FollowsOn, last_by, last_of, moment_of, left_by, last_moment, last_live, live_by}
+use Rattle.reg_audit.specs.declared.audit.Audit.{Audit}
+use Rattle.reg_audit.specs.declared.gone.Gone.{Gone}
+
+-- ---- lists over one more step
+
+flat_more : {X A : Type 0} (f : X → List A) (xs : List X) (x : X) → flat_map f (xs ++ x ∷ []) ≡ flat_map f xs ++ f x
+flat_more f [] x = append-nil (f x)
+flat_more f (y ∷ ys) x = ap (λ rest. f y ++ rest) (flat_more f ys x) ∙ sym (append-assoc (f y) (flat_map f ys) (f x))
+
+pub log_more : (steps : List Step) (step : Step) → log_of (steps ++ step ∷ []) ≡ log_of steps ++ lines_of step
+unfolding log_of
+log_more steps step = flat_more lines_of steps step
+
+gone_more : (steps : List Step) (step : Step) → all_gone (steps ++ step ∷ []) ≡ all_gone steps ++ leaving step.before step.events
+gone_more steps step = flat_more (λ (s : Step). leaving s.before s.events) steps step
+
+cons_more : (o : Option ℕ) (a b c : List ℕ) → a ≡ b ++ c → cons_option o a ≡ cons_option o b ++ c
+cons_more None a b c e = e
+cons_more (Some g) a b c e = ap (λ rest. g ∷ rest) e
+
+groups_more : (xs ys : List Gone) → groups_of (xs ++ ys) ≡ groups_of xs ++ groups_of ys
+groups_more [] ys = refl
+groups_more (x ∷ xs) ys = cons_more (as_group (Some x.object)) (groups_of (xs ++ ys)) (groups_of xs) (groups_of ys) (groups_more xs ys)
+
+-- ---- lives
+
+pub life_more : (life : Option (ℕ × Option ℕ)) (o : Object) (steps : List Step) (step : Step) → life_from life o (steps ++ step ∷ []) ≡ life_after step o (life_from life o steps)
+life_more life o [] step = refl
+life_more life o (s ∷ ss) step = life_more (life_after s o life) o ss step
+
+objects_leaving : (before : Lists) (objects : List Object) → map (λ (g : Gone). g.object) (map (gone_from before) objects) ≡ objects
+objects_leaving before [] = refl
+objects_leaving before (o ∷ os) = ap (λ rest. o ∷ rest) (objects_leaving before os)
+
+-- ---- names
+
+pub name_more : (o : Object) (known : Option (List ℕ)) (xs ys : List Gone) → last_name o known (xs ++ ys) ≡ last_name o (last_name o known xs) ys
+name_more o known [] ys = refl
+name_more o known (x ∷ xs) ys = name_more o _ xs ys
+
+pub named_more : (name : List ℕ) (known : Option ℕ) (xs ys : List Gone) → last_named name known (xs ++ ys) ≡ last_named name (last_named name known xs) ys
+named_more name known [] ys = refl
+named_more name known (x ∷ xs) ys = named_more name (named_or name known x) xs ys
+
+-- ---- the last step
+
+pub last_more : (steps : List Step) (step : Step) → last_of (steps ++ step ∷ []) ≡ Some step
+last_more [] step = refl
+last_more (s ∷ ss) step = rw (last_more ss step) refl
+
+pub last_by_more : (t : ℕ) (steps : List Step) (step : Step) → last_by t (steps ++ step ∷ []) ≡ (if nat_le step.at t then Some step else last_by t steps)
+last_by_more t [] step = refl
+last_by_more t (s ∷ ss) step = rw (last_by_more t ss step) (elim (cases_Bool (nat_le step.at t)) [ inl y ↦ rw y refl | inr n ↦ rw n refl ])
+
+some_last : (step : Step) (steps : List Step) → (s : Step) × (last_of (step ∷ steps) ≡ Some s)
+some_last step [] = (step, refl)
+some_last step (s ∷ ss) = let r = some_last s ss in (r.0, rw r.1 refl)
+
+-- a moment from the last step's on has seen them all
+pub all_seen : (t : ℕ) (steps : List Step) → last_moment steps ≤ t → last_by t steps ≡ last_of steps
+all_seen t [] h = refl
+all_seen t (s ∷ []) h = let y : nat_le s.at t ≡ true = grind (arith, nat_tests, h) in rw y refl
+all_seen t (s ∷ u ∷ us) h =
+    let r = some_last u us in
+    let later : last_moment (u ∷ us) ≤ t = rw r.1 at h in
+    let rest : last_by t (u ∷ us) ≡ Some r.0 = all_seen t (u ∷ us) later ∙ r.1 in
+    rw (rest, r.1) refl
+
+-- ---- memberships
+
+-- who was a member before the step, at a moment from it on, is who is one by the step's live data
+before_step : (steps : List Step) (step : Step) (audit : Audit) (t g s : ℕ) → IsAudit steps audit → FollowsOn steps step → step.at ≤ t → was_member audit.past g s t ≡ member step.live g s
+before_step steps step audit t g s h f w =
+    let seen : last_by t steps ≡ last_of steps = all_seen t steps (omega (arith, f.later, w)) in
+    h.members t g s ∙ ap (λ (o : Option Step). member (left_by o) g s) seen ∙ sym (f.members g s)
+
+member_more : (steps : List Step) (step : Step) (audit new : Audit) (turned : List (ℕ × ℕ × Bool)) (t g s : ℕ) → IsAudit steps audit → FollowsOn steps step → turned ≡ turns step.live step.live_after
+    → ((L N : Live) (x y : ℕ) → after_turns (turns L N) x y (member L x y) ≡ member N x y)
+    → was_member new.past g s t ≡ (if nat_le step.at t then after_turns turned g s (was_member audit.past g s t) else was_member audit.past g s t)
+    → was_member new.past g s t ≡ member (live_by t (steps ++ step ∷ [])) g s
+member_more steps step audit new turned t g s h f e law noted = elim (cases_Bool (nat_le step.at t)) [
+  | inl y ↦
+      let w : step.at ≤ t = grind (arith, nat_tests, y) in
+      let last : last_by t (steps ++ step ∷ []) ≡ Some step = last_by_more t steps step ∙ rw y refl in
+      noted ∙ (rw (y, e, before_step steps step audit t g s h f w) (law step.live step.live_after g s)) ∙ ap (λ (o : Option Step). member (left_by o) g s) (sym last)
+  | inr n ↦
+      let last : last_by t (steps ++ step ∷ []) ≡ last_by t steps = last_by_more t steps step ∙ rw n refl in
+      noted ∙ (rw n (h.members t g s)) ∙ ap (λ (o : Option Step). member (left_by o) g s) (sym last)
+]
+
+-- ---- all of it
+
+-- an audit after a step, by what was noted
+pub record Noted (notes : StepNotes) (turned : List (ℕ × ℕ × Bool)) (old new : Audit) : Type 0 where
+  pub log : new.records.log ≡ old.records.log ++ (notes.lines ++ map (turn_line notes.at) turned)
+  pub lives : (o : Object) → life_in new.records.lives o ≡ ended notes.at (map (λ (g : Gone). g.object) notes.gone) o (begun notes.at notes.made o (life_in old.records.lives o))
+  pub names : (o : Object) → name_in new.records.departed o ≡ last_name o (name_in old.records.departed o) notes.gone
+  pub named : (name : List ℕ) → named_in new.records.departed name ≡ last_named name (named_in old.records.departed name) notes.gone
+  pub groups : new.records.departed.groups.items ≡ old.records.departed.groups.items ++ groups_of notes.gone
+  pub members : (g s t : ℕ) → was_member new.past g s t ≡ (if nat_le notes.at t then after_turns turned g s (was_member old.past g s t) else was_member old.past g s t)
+  pub last : NotedBy notes.at new.past
+
+pub audit_more : (old new : Audit) (turned : List (ℕ × ℕ × Bool)) (steps : List Step) (step : Step) → ((L N : Live) (x y : ℕ) → after_turns (turns L N) x y (member L x y) ≡ member N x y)
+    → IsAudit steps old → FollowsOn steps step → turned ≡ turns step.live step.live_after → Noted (notes_of step.at step.before step.events) turned old new → IsAudit (steps ++ step ∷ []) new
+unfolding life_of gone_of gone_name gone_named
+audit_more old new turned steps step law h f e n = record {
+  log = n.log ∙ rw (h.log, e) (sym (log_more steps step));
+  lives = λ o. n.lives o ∙ rw (h.lives o, objects_leaving step.before _) (sym (life_more (first_life o) o steps step));
+  gone = n.groups ∙ rw h.gone (sym (ap groups_of (gone_more steps step) ∙ groups_more (all_gone steps) (leaving step.before step.events)));
+  names = λ o. n.names o ∙ rw (h.names o) (sym (ap (λ xs. last_name o None xs) (gone_more steps step) ∙ name_more o None (all_gone steps) (leaving step.before step.events)));
+  named = λ name. n.named name ∙ rw (h.named name) (sym (ap (λ xs. last_named name None xs) (gone_more steps step) ∙ named_more name None (all_gone steps) (leaving step.before step.events)));
+  members = λ t g s. member_more steps step old new turned t g s h f e law (n.members g s t);
+  noted = rw (last_more steps step) n.last;
+}

@@ -1,0 +1,93 @@
+-- Worked examples computed: the log of a membership that begins, ends and begins again at one moment, a deleted group's
+-- entries, life and last name, and a root that was always there.
+use Rattle.std.proofs.Common.{◌≡◌, ◌++◌, ℕ, List, [], ◌∷◌, Some, None, codes, map, refl}
+use Rattle.reg_terms.specs.declared.event.Event.{Event}
+use Rattle.reg_terms.specs.declared.event.Event.TheVariants.{SubjectMade, GroupMade, GroupGone, RowAdded, RowRemoved}
+use Rattle.reg_terms.specs.declared.kinds.Member.TheVariants.{Person}
+use Rattle.reg_terms.specs.declared.kinds.Object.TheVariants.{Folder, Group}
+use Rattle.reg_facts.specs.Lists.{Lists, start}
+use Rattle.reg_facts.specs.Events.{all_happened}
+use Rattle.reg_facts.specs.Naming.{name_of, extensions, placed, path}
+use Rattle.reg_effect.specs.declared.live.Live.{Live}
+use Rattle.reg_effect.specs.Changes.{nothing}
+use Rattle.reg_effect.specs.Member.{member}
+use Rattle.reg_effect.specs.Turned.{turns}
+use Rattle.reg_log.specs.declared.entries.Line.{Line}
+use Rattle.reg_terms.specs.declared.entry_kinds.EntryKind.TheVariants.{SubjectAdd, GroupAdd, GroupDelete, RowAdd, RowRemove, MemberBegin, MemberEnd}
+use Rattle.reg_audit.specs.Lines.{log_of}
+use Rattle.reg_audit.specs.Lives.{life_of, gone_of, gone_name, gone_named}
+use Rattle.reg_audit.specs.Steps.{Step}
+
+-- a step of these events, which leads from live data to live data
+step : ℕ → Lists → List Event → Live → Live → Step
+step at before events live live_after = record { at = at; before = before; events = events; after = all_happened events before; live = live; live_after = live_after }
+
+-- ann (1) is in the group staff (1)
+with_ann : Live
+with_ann = record { rows = (1, Person 1) ∷ []; composites = [] }
+
+ann : List Event
+ann = SubjectMade (record { id = 1; text = codes "isa/ann"; display = [] }) ∷ []
+
+staff : List Event
+staff = GroupMade (record { id = 1; folder = 0; extension = codes "staff"; display = [] }) ∷ []
+
+row_comes : List Event
+row_comes = RowAdded (record { group = 1; member = Person 1; from = 5; until = None }) ∷ []
+
+row_goes : List Event
+row_goes = RowRemoved 1 (Person 1) ∷ []
+
+with_staff : Lists
+with_staff = all_happened (ann ++ staff) start
+
+-- all at the moment 5
+at_one_moment : List Step
+at_one_moment =
+    step 5 start ann nothing nothing
+    ∷ step 5 (all_happened ann start) staff nothing nothing
+    ∷ step 5 with_staff row_comes nothing with_ann
+    ∷ step 5 (all_happened row_comes with_staff) row_goes with_ann nothing
+    ∷ step 5 with_staff row_comes nothing with_ann
+    ∷ []
+
+pub told_each_time : map (λ (l : Line). l.kind) (log_of at_one_moment) ≡ SubjectAdd ∷ GroupAdd ∷ RowAdd ∷ MemberBegin ∷ RowRemove ∷ MemberEnd ∷ RowAdd ∷ MemberBegin ∷ []
+unfolding log_of turns member at_one_moment step ann staff row_comes row_goes with_ann
+told_each_time = refl
+
+-- the group goes at 7, and its row with it
+group_goes : List Event
+group_goes = RowRemoved 1 (Person 1) ∷ GroupGone 1 ∷ []
+
+deleted : List Step
+deleted = step 5 (all_happened ann start) staff nothing nothing ∷ step 7 (all_happened row_comes with_staff) group_goes with_ann nothing ∷ []
+
+-- of the deletion only what goes itself is told, and the membership that ends
+pub deletion_told : map (λ (l : Line). l.kind) (log_of deleted) ≡ GroupAdd ∷ GroupDelete ∷ MemberEnd ∷ []
+unfolding log_of turns member deleted step staff group_goes with_ann
+deletion_told = refl
+
+pub group_lived : life_of (Group 1) deleted ≡ Some (5, Some 7)
+unfolding life_of deleted step staff group_goes
+group_lived = refl
+
+pub root_lives : life_of (Folder 0) [] ≡ Some (0, None)
+unfolding life_of
+root_lives = refl
+
+pub never_made : life_of (Group 2) deleted ≡ None
+unfolding life_of deleted step staff group_goes
+never_made = refl
+
+pub group_gone : gone_of deleted ≡ 1 ∷ []
+unfolding gone_of deleted step staff group_goes
+group_gone = refl
+
+-- its name is the one from before the step
+pub name_kept : gone_name (Group 1) deleted ≡ Some (codes "staff")
+unfolding gone_name deleted step staff group_goes name_of extensions placed path with_staff ann row_comes
+name_kept = refl
+
+pub found_by_name : gone_named (codes "staff") deleted ≡ Some 1
+unfolding gone_named deleted step staff group_goes name_of extensions placed path with_staff ann row_comes
+found_by_name = refl

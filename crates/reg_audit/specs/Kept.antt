@@ -1,0 +1,26 @@
+-- What the kept maps tell.
+use Rattle.std.specs.Prelude.{ℕ, List, Option}
+use Rattle.std.specs.Option.{option_or}
+use Rattle.std.specs.BTreeMap.{get_by, get_by_text}
+use Rattle.std.specs.declared.cmp.Ordering.{Ordering}
+use Rattle.reg_terms.specs.contracts.kinds.ObjectOrd.TheImpl as object_ord
+use Rattle.reg_terms.specs.declared.kinds.Object.{Object}
+use Rattle.reg_audit.specs.Lives.{first_life}
+use Rattle.reg_audit.specs.declared.lives.Lives.{Lives}
+use Rattle.reg_audit.specs.declared.departed.Departed.{Departed}
+
+-- the order of objects: by kind, and then by number
+abbrev pub object_cmp : Object → Object → Ordering
+object_cmp = (object_ord.ghosts).cmp
+
+-- the life of an object
+abbrev pub life_in : Lives → Object → Option (ℕ × Option ℕ)
+life_in lives o = option_or (get_by (object_cmp o) lives.lives) (first_life o)
+
+-- the last name of an object that is gone
+abbrev pub name_in : Departed → Object → Option (List ℕ)
+name_in departed o = get_by (object_cmp o) departed.names
+
+-- the group that went last with a name
+abbrev pub named_in : Departed → List ℕ → Option ℕ
+named_in departed name = get_by_text departed.by_name name

@@ -1,0 +1,85 @@
+-- The entries that a step makes in the change log: what was changed directly, and the memberships that began and ended.
+use Rattle.std.specs.Prelude.{ℕ, ◌||◌, List, ◌++◌, Bool, not, Option, Some, None, map, filter, filter_map, flat_map, if◌then◌else◌}
+use Rattle.std.specs.List.{list_any}
+use Rattle.reg_base.specs.declared.privilege.Privilege.{Privilege}
+use Rattle.reg_terms.specs.Privileges.{code}
+use Rattle.reg_terms.specs.declared.event.Event.{Event}
+use Rattle.reg_terms.specs.declared.event.Event.TheVariants.{FolderMade, FolderRenamed, FolderMoved, FolderGone, SubjectMade, GroupMade, GroupRenamed, GroupMoved, GroupGone, RowAdded, RowRemoved, RowRedated, Composed, Decomposed, GrantAdded, GrantRemoved, InheritAdded, InheritRemoved, ConsumerAdded, ConsumerAcked}
+use Rattle.reg_terms.specs.declared.kinds.Holder.{Holder}
+use Rattle.reg_terms.specs.declared.kinds.Holder.TheVariants as holder
+use Rattle.reg_terms.specs.declared.kinds.Member.{Member}
+use Rattle.reg_terms.specs.declared.kinds.Member.TheVariants as member
+use Rattle.reg_terms.specs.declared.kinds.Object.{Object}
+use Rattle.reg_terms.specs.declared.kinds.Object.TheVariants as object
+use Rattle.reg_effect.specs.declared.live.Live.{Live}
+use Rattle.reg_effect.specs.Turned.{turns}
+use Rattle.reg_log.specs.declared.entries.Line.{Line}
+use Rattle.reg_terms.specs.declared.entry_kinds.EntryKind.{EntryKind}
+use Rattle.reg_terms.specs.declared.entry_kinds.EntryKind.TheVariants as kind
+use Rattle.reg_audit.specs.Objects.{is_deletion}
+use Rattle.reg_audit.specs.Steps.{Step}
+
+-- an entry of an object alone
+abbrev pub object_line : ℕ → EntryKind → Object → Line
+object_line at k o = record { at = at; kind = k; object = Some o; entity = None; number = 0 }
+
+-- a member as an entity
+abbrev pub entity_of : Member → Holder
+entity_of (member.Person s) = holder.Person s
+entity_of (member.Group g) = holder.Group g
+
+-- an entry of a row of a group
+abbrev pub row_line : ℕ → EntryKind → ℕ → Member → Line
+row_line at k g m = record { at = at; kind = k; object = Some (object.Group g); entity = Some (entity_of m); number = 0 }
+
+-- an entry of a privilege of a holder on an object, with the privilege's code
+abbrev pub grant_line : ℕ → EntryKind → Object → Holder → Privilege → Line
+grant_line at k o h p = record { at = at; kind = k; object = Some o; entity = Some h; number = code p }
+
+-- the entry of an event, if it makes one
+abbrev pub line_of : ℕ → Event → Option Line
+line_of at (FolderMade row) = Some (object_line at kind.FolderAdd (object.Folder row.id))
+line_of at (FolderRenamed d extension) = Some (object_line at kind.FolderRename (object.Folder d))
+line_of at (FolderMoved d to) = Some (object_line at kind.FolderMove (object.Folder d))
+line_of at (FolderGone d) = Some (object_line at kind.FolderDelete (object.Folder d))
+line_of at (SubjectMade row) = Some (object_line at kind.SubjectAdd (object.Subject row.id))
+line_of at (GroupMade row) = Some (object_line at kind.GroupAdd (object.Group row.id))
+line_of at (GroupRenamed g extension) = Some (object_line at kind.GroupRename (object.Group g))
+line_of at (GroupMoved g to) = Some (object_line at kind.GroupMove (object.Group g))
+line_of at (GroupGone g) = Some (object_line at kind.GroupDelete (object.Group g))
+line_of at (RowAdded row) = Some (row_line at kind.RowAdd row.group row.member)
+line_of at (RowRemoved g m) = Some (row_line at kind.RowRemove g m)
+line_of at (RowRedated g m from until) = Some (row_line at kind.RowWindow g m)
+line_of at (Composed row) = Some (object_line at kind.CompositeSet (object.Group row.group))
+line_of at (Decomposed g) = Some (object_line at kind.CompositeClear (object.Group g))
+line_of at (GrantAdded row) = Some (grant_line at kind.GrantAdd row.object row.holder row.privilege)
+line_of at (GrantRemoved row) = Some (grant_line at kind.GrantRemove row.object row.holder row.privilege)
+line_of at (InheritAdded row) = Some (grant_line at kind.InheritAdd (object.Folder row.folder) row.holder row.privilege)
+line_of at (InheritRemoved row) = Some (grant_line at kind.InheritRemove (object.Folder row.folder) row.holder row.privilege)
+line_of at (ConsumerAdded row) = None
+line_of at (ConsumerAcked consumer seq) = None
+
+-- whether an event makes an entry beside others, of which some delete an object or none does: what goes together with a
+-- deleted object makes none
+abbrev pub is_told : Bool → Event → Bool
+is_told deletion e = is_deletion e || not deletion
+
+-- what is changed directly
+abbrev pub direct_lines : ℕ → List Event → List Line
+direct_lines at events = filter_map (line_of at) (filter (is_told (list_any is_deletion events)) events)
+
+-- a membership begins or ends
+abbrev pub turn_line : ℕ → ℕ × ℕ × Bool → Line
+turn_line at turn = row_line at (if turn.2 then kind.MemberBegin else kind.MemberEnd) turn.0 (member.Person turn.1)
+
+-- the memberships that begin and end from live data L to N, by group and person
+abbrev pub turn_lines : ℕ → Live → Live → List Line
+turn_lines at L N = map (turn_line at) (turns L N)
+
+-- the entries of a step
+abbrev pub lines_of : Step → List Line
+lines_of step = direct_lines step.at step.events ++ turn_lines step.at step.live step.live_after
+
+-- the change log: the entries of each step, one step after another; an entry's number is its place, from 1
+unfoldable pub log_of : List Step → List Line
+log_of steps = flat_map lines_of steps

@@ -1,0 +1,25 @@
+-- What a step changes itself, taken from the facts before it.
+use Rattle.std.specs.Prelude.{ℕ, List, filter_map}
+use Rattle.reg_terms.specs.declared.event.Event.{Event}
+use Rattle.reg_terms.specs.declared.kinds.Object.{Object}
+use Rattle.reg_facts.specs.Lists.{Lists}
+use Rattle.reg_log.specs.declared.entries.Line.{Line}
+use Rattle.reg_audit.specs.Consumers.{consumer_note}
+use Rattle.reg_audit.specs.Lines.{direct_lines}
+use Rattle.reg_audit.specs.Lives.{leaving}
+use Rattle.reg_audit.specs.Objects.{made_by}
+use Rattle.reg_audit.specs.declared.consumers.ConsumerNote.{ConsumerNote}
+use Rattle.reg_audit.specs.declared.gone.Gone.{Gone}
+
+-- the moment, the entries of what is changed directly, the objects that are made, those that go with their names, and what
+-- happens to consumers
+pub record StepNotes : Type 0 where
+  pub at : ℕ
+  pub lines : List Line
+  pub made : List Object
+  pub gone : List Gone
+  pub consumers : List ConsumerNote
+
+-- what events at a moment change, by the facts before them
+abbrev pub notes_of : ℕ → Lists → List Event → StepNotes
+notes_of at before events = record { at = at; lines = direct_lines at events; made = made_by events; gone = leaving before events; consumers = filter_map consumer_note events }

@@ -1,0 +1,119 @@
+// What the steps leave for later.
+ghost use Rattle.std.specs.Prelude.{◌≡◌, ◌++◌, ◌∷◌, [], ℕ, List, IfOk};
+ghost use Rattle.std.specs.Option.{option_copied};
+ghost use Rattle.reg_effect.specs.Member.{member};
+ghost use Rattle.reg_effect.specs.Turned.{turns};
+ghost use Rattle.reg_facts.specs.Consumers.{consumer_place};
+ghost use Rattle.reg_log.specs.Places.{place_of};
+ghost use Rattle.reg_pit.specs.Past.{was_member, NotedBy};
+ghost use Rattle.reg_audit.specs.Lines.{log_of};
+ghost use Rattle.reg_audit.specs.Lives.{life_of, gone_of, gone_name, gone_named};
+ghost use Rattle.reg_audit.specs.Notes.{notes_of};
+ghost use Rattle.reg_audit.specs.Steps.{Step, FollowsOn, consumers_by, live_by, last_moment};
+
+use crate::Notes;
+use crate::noting::note_turns;
+use crate::records::Records;
+use reg_base::{GroupId, Moment, SubjectId, Text};
+use reg_log::{ChangeLog, Places};
+use reg_pit::Past;
+use reg_terms::Object;
+use std::alloc::{AllocError, Global};
+
+/// What the steps of a registry leave for later: the change log, the past of effective memberships,
+/// when objects were made and went, the last names of what is gone, and the places of consumers.
+#[derive(Drop)]
+pub struct Audit {
+    records: Records,
+    past: Past,
+}
+
+impl Audit {
+    ghost use Rattle.reg_audit.specs.Audit.{IsAudit};
+
+    /// No step yet: only the root folder was made. Takes no memory.
+    pub fn start(alloc: Global) -> Audit
+        ensures { IsAudit [] result }
+    {
+        Audit {
+            records: Records::start(alloc),
+            past: Past::start(alloc),
+        }
+    }
+
+    /// One step more, by what it changes itself and the memberships that it turns. Out of memory all
+    /// is given up.
+    pub fn note(
+        self,
+        alloc: Global,
+        notes: Notes,
+        turned: &[(GroupId, SubjectId, bool)],
+    ) -> Result<Audit, AllocError>
+        requires { NotedBy notes.at self.past }
+        ensures { IfOk result (λ audit. (steps : List Step) (step : Step) → IsAudit steps self → FollowsOn steps step → notes ≡ notes_of step.at step.before step.events → turned.now ≡ turns step.live step.live_after → IsAudit (steps ++ step ∷ []) audit) }
+    {
+        reg_effect::law_turns();
+        let Audit { mut records, past } = self;
+        records.note(alloc, &notes, turned)?;
+        let past = note_turns(past, turned, notes.at)?;
+        Ok(Audit { records, past })
+    }
+
+    /// The next step may be noted: nothing was noted later than its moment. It does nothing.
+    pub fn law_follows(&self)
+        ensures { (steps : List Step) (step : Step) → IsAudit steps self.now → FollowsOn steps step → NotedBy step.at self.now.past }
+    {
+        self.past.law_noted_later();
+    }
+
+    /// The change log. Takes no memory.
+    pub fn log(&self) -> &ChangeLog
+        ensures { (steps : List Step) → IsAudit steps self.now → result.now ≡ log_of steps }
+    {
+        &self.records.log
+    }
+
+    /// How far each consumer has read. Takes no memory.
+    pub fn places(&self) -> &Places
+        ensures { (steps : List Step) → IsAudit steps self.now → (name : List ℕ) → place_of result.now name ≡ consumer_place name (consumers_by steps) }
+    {
+        &self.records.places
+    }
+
+    /// Who was an effective member at each moment. Takes no memory.
+    pub fn past(&self) -> &Past
+        ensures members { (steps : List Step) → IsAudit steps self.now → (t g s : ℕ) → was_member result.now g s t ≡ member (live_by t steps) g s }
+        ensures noted { (steps : List Step) → IsAudit steps self.now → NotedBy (last_moment steps) result.now }
+    {
+        &self.past
+    }
+
+    /// When an object was made and when it went: none if it was never made. The root folder was made
+    /// at 0. Takes no memory.
+    pub fn life(&self, object: Object) -> Option<(Moment, Option<Moment>)>
+        ensures { (steps : List Step) → IsAudit steps self.now → result ≡ life_of object steps }
+    {
+        self.records.lives.life(object)
+    }
+
+    /// The groups that are gone, in the order in which they went. Takes no memory.
+    pub fn gone(&self) -> &[GroupId]
+        ensures { (steps : List Step) → IsAudit steps self.now → result.now ≡ gone_of steps }
+    {
+        self.records.departed.groups()
+    }
+
+    /// The name that an object had when it went: none if it isn't gone. Takes no memory.
+    pub fn gone_name(&self, object: Object) -> Option<&Text>
+        ensures { (steps : List Step) → IsAudit steps self.now → option_copied result ≡ gone_name object steps }
+    {
+        self.records.departed.name(object)
+    }
+
+    /// The group that went last with this name. Takes no memory.
+    pub fn gone_named(&self, name: &str) -> Option<GroupId>
+        ensures { (steps : List Step) → IsAudit steps self.now → result ≡ gone_named name.now steps }
+    {
+        self.records.departed.named(name)
+    }
+}

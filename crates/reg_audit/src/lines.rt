@@ -1,0 +1,141 @@
+// The entry of an event.
+ghost use Rattle.std.specs.Prelude.{◌≡◌};
+ghost use Rattle.reg_audit.specs.Lines.{line_of, object_line, row_line, grant_line, entity_of, turn_line};
+ghost use Rattle.reg_terms.specs.declared.kinds.Object.TheVariants as object;
+
+use reg_base::{FolderId, GroupId, Moment, Privilege, SubjectId};
+use reg_log::{EntryKind, Line};
+use reg_terms::{Event, GrantRow, Holder, InheritRow, Member, Object, privilege_code};
+
+/// An entry of an object alone.
+fn object_line(at: Moment, kind: EntryKind, object: Object) -> Line
+    ensures { result ≡ object_line at kind object }
+{
+    Line {
+        at,
+        kind,
+        object: Some(object),
+        entity: None,
+        number: 0,
+    }
+}
+
+/// An entry of a folder alone.
+fn folder_line(at: Moment, kind: EntryKind, folder: FolderId) -> Line
+    ensures { result ≡ object_line at kind (object.Folder folder) }
+{
+    object_line(at, kind, Object::Folder(folder))
+}
+
+/// An entry of a group alone.
+fn group_line(at: Moment, kind: EntryKind, group: GroupId) -> Line
+    ensures { result ≡ object_line at kind (object.Group group) }
+{
+    object_line(at, kind, Object::Group(group))
+}
+
+/// A member as an entity.
+fn entity_of(member: &Member) -> Holder
+    ensures { result ≡ entity_of member.now }
+{
+    match member {
+        Member::Person(id) => Holder::Person(*id),
+        Member::Group(id) => Holder::Group(*id),
+    }
+}
+
+/// An entry of a row of a group.
+fn row_line(at: Moment, kind: EntryKind, group: GroupId, member: &Member) -> Line
+    ensures { result ≡ row_line at kind group member.now }
+{
+    Line {
+        at,
+        kind,
+        object: Some(Object::Group(group)),
+        entity: Some(entity_of(member)),
+        number: 0,
+    }
+}
+
+/// An entry of a privilege of a holder on an object.
+fn privilege_line(
+    at: Moment,
+    kind: EntryKind,
+    object: Object,
+    holder: Holder,
+    privilege: Privilege,
+) -> Line
+    ensures { result ≡ grant_line at kind object holder privilege }
+{
+    Line {
+        at,
+        kind,
+        object: Some(object),
+        entity: Some(holder),
+        number: privilege_code(privilege) as u64,
+    }
+}
+
+/// An entry of a grant.
+fn grant_line(at: Moment, kind: EntryKind, row: &GrantRow) -> Line
+    ensures { result ≡ grant_line at kind row.now.object row.now.holder row.now.privilege }
+{
+    privilege_line(at, kind, row.object, row.holder, row.privilege)
+}
+
+/// An entry of an inherit.
+fn inherit_line(at: Moment, kind: EntryKind, row: &InheritRow) -> Line
+    ensures { result ≡ grant_line at kind (object.Folder row.now.folder) row.now.holder row.now.privilege }
+{
+    privilege_line(
+        at,
+        kind,
+        Object::Folder(row.folder),
+        row.holder,
+        row.privilege,
+    )
+}
+
+/// The entry of an event, if it makes one.
+pub fn line_of(at: Moment, event: &Event) -> Option<Line>
+    ensures { result ≡ line_of at event.now }
+{
+    let line = match event {
+        Event::FolderMade { row } => folder_line(at, EntryKind::FolderAdd, row.id),
+        Event::FolderRenamed { folder, .. } => folder_line(at, EntryKind::FolderRename, *folder),
+        Event::FolderMoved { folder, .. } => folder_line(at, EntryKind::FolderMove, *folder),
+        Event::FolderGone { folder } => folder_line(at, EntryKind::FolderDelete, *folder),
+        Event::SubjectMade { row } => {
+            object_line(at, EntryKind::SubjectAdd, Object::Subject(row.id))
+        }
+        Event::GroupMade { row } => group_line(at, EntryKind::GroupAdd, row.id),
+        Event::GroupRenamed { group, .. } => group_line(at, EntryKind::GroupRename, *group),
+        Event::GroupMoved { group, .. } => group_line(at, EntryKind::GroupMove, *group),
+        Event::GroupGone { group } => group_line(at, EntryKind::GroupDelete, *group),
+        Event::RowAdded { row } => row_line(at, EntryKind::RowAdd, row.group, &row.member),
+        Event::RowRemoved { group, member } => row_line(at, EntryKind::RowRemove, *group, member),
+        Event::RowRedated { group, member, .. } => {
+            row_line(at, EntryKind::RowWindow, *group, member)
+        }
+        Event::Composed { row } => group_line(at, EntryKind::CompositeSet, row.group),
+        Event::Decomposed { group } => group_line(at, EntryKind::CompositeClear, *group),
+        Event::GrantAdded { row } => grant_line(at, EntryKind::GrantAdd, row),
+        Event::GrantRemoved { row } => grant_line(at, EntryKind::GrantRemove, row),
+        Event::InheritAdded { row } => inherit_line(at, EntryKind::InheritAdd, row),
+        Event::InheritRemoved { row } => inherit_line(at, EntryKind::InheritRemove, row),
+        Event::ConsumerAdded { .. } | Event::ConsumerAcked { .. } => return None,
+    };
+    Some(line)
+}
+
+/// The entry of a membership that begins or ends.
+pub fn turn_line(at: Moment, group: GroupId, person: SubjectId, begins: bool) -> Line
+    ensures { result ≡ turn_line at (group, person, begins) }
+{
+    let kind = if begins {
+        EntryKind::MemberBegin
+    } else {
+        EntryKind::MemberEnd
+    };
+    row_line(at, kind, group, &Member::Person(person))
+}

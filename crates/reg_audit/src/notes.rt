@@ -1,0 +1,162 @@
+// What a step changes itself.
+ghost use Rattle.std.specs.Prelude.{◌≡◌, IfOk, map, filter_map, Some};
+ghost use Rattle.reg_terms.specs.Kinds.{as_group};
+ghost use Rattle.reg_facts.specs.Naming.{name_of};
+ghost use Rattle.std.specs.List.{list_any};
+ghost use Rattle.reg_audit.specs.Lines.{direct_lines, is_told};
+ghost use Rattle.reg_audit.specs.Lives.{gone_from, leaving};
+ghost use Rattle.reg_audit.specs.Notes.{notes_of};
+ghost use Rattle.reg_audit.specs.Objects.{object_made, object_gone, is_deletion, made_by, gone_by};
+
+use crate::consumers::consumer_notes;
+use crate::lines::line_of;
+use crate::{ConsumerNote, Gone};
+use reg_base::{Moment, Text};
+use reg_facts::Facts;
+use reg_log::Line;
+use reg_names::name_of;
+use reg_terms::{Event, Object};
+use std::alloc::{AllocError, Global};
+use std::marker::Model;
+
+/// What a step changes itself, taken before it is carried out: its moment, the entries of what it
+/// changes directly, what it makes, what goes with its names, and what it does to consumers.
+#[derive(Drop)]
+pub struct Notes {
+    pub(crate) at: Moment,
+    pub(crate) lines: Vec<Line>,
+    pub(crate) made: Vec<Object>,
+    pub(crate) gone: Vec<Gone>,
+    pub(crate) consumers: Vec<ConsumerNote>,
+}
+
+impl Model for Notes {
+    ghost use Rattle.reg_audit.specs.Notes.{StepNotes};
+
+    ghost Value = { StepNotes };
+
+    ghost view = { λ n. record {
+      at = n.at;
+      lines = n.lines.items;
+      made = n.made.items;
+      gone = n.gone.items;
+      consumers = n.consumers.items;
+    } };
+}
+
+/// The object that an event makes.
+fn object_made(event: &Event) -> Option<Object>
+    ensures { result ≡ object_made event.now }
+{
+    match event {
+        Event::FolderMade { row } => Some(Object::Folder(row.id)),
+        Event::SubjectMade { row } => Some(Object::Subject(row.id)),
+        Event::GroupMade { row } => Some(Object::Group(row.id)),
+        _ => None,
+    }
+}
+
+/// The object that goes by an event.
+fn object_gone(event: &Event) -> Option<Object>
+    ensures { result ≡ object_gone event.now }
+{
+    match event {
+        Event::FolderGone { folder } => Some(Object::Folder(*folder)),
+        Event::GroupGone { group } => Some(Object::Group(*group)),
+        _ => None,
+    }
+}
+
+/// Whether an object goes by an event.
+fn is_deletion(event: &Event) -> bool
+    ensures { result ≡ is_deletion event.now }
+{
+    object_gone(event).is_some()
+}
+
+/// Whether an object goes by some of the events.
+fn has_deletion(events: &[Event]) -> bool
+    ensures { result ≡ list_any is_deletion events.now }
+{
+    events.iter().any(is_deletion)
+}
+
+/// Whether an event makes an entry beside others, of which some delete an object or none does.
+fn is_told(deletion: bool, event: &Event) -> bool
+    ensures { result ≡ is_told deletion event.now }
+{
+    is_deletion(event) || !deletion
+}
+
+/// The entries of what is changed directly: what goes together with a deleted object makes none.
+fn direct_lines(alloc: Global, at: Moment, events: &[Event]) -> Result<Vec<Line>, AllocError>
+    ensures { IfOk result (λ lines. lines.items ≡ direct_lines at events.now) }
+{
+    let deletion = has_deletion(events);
+    let mut lines = Vec::new(alloc);
+    for event in events {
+        if is_told(deletion, event) {
+            if let Some(line) = line_of(at, event) {
+                lines.push(line)?;
+            }
+        }
+    }
+    Ok(lines)
+}
+
+/// The objects that events make.
+fn made_by(alloc: Global, events: &[Event]) -> Result<Vec<Object>, AllocError>
+    ensures { IfOk result (λ made. made.items ≡ made_by events.now) }
+{
+    events.iter().filter_map(object_made).collect(alloc)
+}
+
+/// The name of an object; `:` for what has no name.
+fn name_before(alloc: Global, facts: &Facts, object: &Object) -> Result<Text, AllocError>
+    ensures { IfOk result (λ text. text ≡ name_of object.now facts.now) }
+{
+    match facts.place_of(object) {
+        Some(_) => name_of(alloc, facts, object),
+        None => Text::new(alloc, ":"),
+    }
+}
+
+/// An object that goes, with the name that it has.
+fn gone_from(alloc: Global, facts: &Facts, object: Object) -> Result<Gone, AllocError>
+    ensures { IfOk result (λ gone. gone ≡ gone_from facts.now object) }
+{
+    let name = name_before(alloc, facts, &object)?;
+    Ok(Gone { object, name })
+}
+
+/// The objects that go by events, each with its name before them.
+fn leaving(alloc: Global, facts: &Facts, events: &[Event]) -> Result<Vec<Gone>, AllocError>
+    ensures { IfOk result (λ gone. gone.items ≡ leaving facts.now events.now) }
+{
+    let mut gone = Vec::new(alloc);
+    for event in events {
+        if let Some(object) = object_gone(event) {
+            gone.push(gone_from(alloc, facts, object)?)?;
+        }
+    }
+    Ok(gone)
+}
+
+/// What events at a moment change themselves, by the facts before them. The only error is out of
+/// memory.
+pub fn notes_of(
+    alloc: Global,
+    at: Moment,
+    facts: &Facts,
+    events: &[Event],
+) -> Result<Notes, AllocError>
+    ensures { IfOk result (λ notes. notes ≡ notes_of at facts.now events.now) }
+{
+    Ok(Notes {
+        at,
+        lines: direct_lines(alloc, at, events)?,
+        made: made_by(alloc, events)?,
+        gone: leaving(alloc, facts, events)?,
+        consumers: consumer_notes(alloc, events)?,
+    })
+}
