@@ -7,7 +7,7 @@ use Rattle.std.proofs.lemmas.Bool.{cases_Bool, or_parts, or_left, true≢false}
 use Rattle.std.proofs.lemmas.List.Folds.{list_any-append}
 use Rattle.std.proofs.lemmas.Slice.Eq.{bytes_eq-Decides}
 use Rattle.reg_terms.specs.declared.event.Event.{Event}
-use Rattle.reg_terms.specs.declared.event.Event.TheVariants.{FolderMade, FolderRenamed, FolderMoved, FolderGone, SubjectMade, GroupMade, GroupRenamed, GroupMoved, GroupGone, RowAdded, RowRemoved, RowRedated, Composed, Decomposed, GrantAdded, GrantRemoved, InheritAdded, InheritRemoved}
+use Rattle.reg_terms.specs.declared.event.Event.TheVariants.{FolderMade, FolderRenamed, FolderMoved, FolderGone, SubjectMade, GroupMade, GroupRenamed, GroupMoved, GroupGone, RowAdded, RowRemoved, RowRedated, Composed, Decomposed, GrantAdded, GrantRemoved, InheritAdded, InheritRemoved, ConsumerAdded, ConsumerAcked}
 use Rattle.reg_terms.specs.declared.kinds.Holder.{Holder}
 use Rattle.reg_terms.specs.declared.kinds.Holder.TheVariants as holder
 use Rattle.reg_terms.specs.declared.kinds.Object.{Object}
@@ -193,3 +193,5 @@ happened_held (GrantAdded row) f suits h = notes_held f (f.grants ++ row ∷ [])
 happened_held (GrantRemoved row) f suits h = notes_held f _ f.inherits (all_filter (λ (r : GrantRow). GrantStands f.made f.subjects f.groups r) (λ (other : GrantRow). not (same_grant row other)) f.grants h.grants_stand) h.inherits_stand h
 happened_held (InheritAdded row) f suits h = notes_held f f.grants (f.inherits ++ row ∷ []) h.grants_stand (all_push (λ (r : InheritRow). HolderStands f.subjects f.groups r.holder) f.inherits row h.inherits_stand suits.0) h
 happened_held (InheritRemoved row) f suits h = notes_held f f.grants _ h.grants_stand (all_filter (λ (r : InheritRow). HolderStands f.subjects f.groups r.holder) (λ (other : InheritRow). not (same_inherit row other)) f.inherits h.inherits_stand) h
+happened_held (ConsumerAdded row) f suits h = others_held f (happened (ConsumerAdded row) f) refl refl refl refl refl h
+happened_held (ConsumerAcked name seq) f suits h = others_held f (happened (ConsumerAcked name seq) f) refl refl refl refl refl h

@@ -3,9 +3,9 @@ use Rattle.std.specs.Prelude.{ℕ, ◌+◌, ◌==◌, List, [], ◌∷◌, ◌++
 use Rattle.reg_base.specs.NameParts.{extension_of}
 use Rattle.reg_base.specs.declared.entity.Entity.{Entity}
 use Rattle.reg_terms.specs.declared.command.Command.{Command}
-use Rattle.reg_terms.specs.declared.command.Command.TheVariants.{FolderAdd, FolderRename, FolderMove, FolderDelete, SubjectAdd, GroupAdd, GroupRename, GroupMove, GroupDelete, MemberAdd, MemberRemove, MemberWindow, CompositeSet, CompositeClear, GrantAdd, GrantRemove, InheritAdd, InheritRemove}
+use Rattle.reg_terms.specs.declared.command.Command.TheVariants.{FolderAdd, FolderRename, FolderMove, FolderDelete, SubjectAdd, GroupAdd, GroupRename, GroupMove, GroupDelete, MemberAdd, MemberRemove, MemberWindow, CompositeSet, CompositeClear, GrantAdd, GrantRemove, InheritAdd, InheritRemove, ConsumerAdd, ConsumerAck}
 use Rattle.reg_terms.specs.declared.event.Event.{Event}
-use Rattle.reg_terms.specs.declared.event.Event.TheVariants.{FolderMade, FolderRenamed, FolderMoved, FolderGone, SubjectMade, GroupMade, GroupRenamed, GroupMoved, GroupGone, RowAdded, RowRemoved, RowRedated, Composed, Decomposed, GrantAdded, GrantRemoved, InheritAdded, InheritRemoved}
+use Rattle.reg_terms.specs.declared.event.Event.TheVariants.{FolderMade, FolderRenamed, FolderMoved, FolderGone, SubjectMade, GroupMade, GroupRenamed, GroupMoved, GroupGone, RowAdded, RowRemoved, RowRedated, Composed, Decomposed, GrantAdded, GrantRemoved, InheritAdded, InheritRemoved, ConsumerAdded, ConsumerAcked}
 use Rattle.reg_terms.specs.declared.kinds.Member.{Member}
 use Rattle.reg_terms.specs.declared.kinds.Object.TheVariants.{Folder, Group}
 use Rattle.reg_terms.specs.declared.rows.FolderRow.{FolderRow}
@@ -17,6 +17,7 @@ use Rattle.reg_terms.specs.declared.rows.GrantRow.{GrantRow}
 use Rattle.reg_terms.specs.declared.rows.InheritRow.{InheritRow}
 use Rattle.reg_base.specs.declared.privilege.Privilege.TheVariants.{Admin, StemAdmin}
 use Rattle.reg_facts.specs.Edits.{member_of, is_row, is_composite, the_id, person_text, from_or, folder_renamed, folder_moved, group_renamed, group_moved, windowed, without_notes}
+use Rattle.reg_facts.specs.Consumers.{acknowledged}
 use Rattle.reg_facts.specs.Grants.{same_grant, same_inherit, grant_of, inherit_of, makers_grant}
 use Rattle.reg_facts.specs.Lists.{Lists}
 use Rattle.reg_facts.specs.Naming.{folder_id, group_id, home_id}
@@ -42,6 +43,8 @@ happened (GrantAdded row) f = record f { grants = f.grants ++ row ∷ [] }
 happened (GrantRemoved row) f = record f { grants = filter (λ (other : GrantRow). not (same_grant row other)) f.grants }
 happened (InheritAdded row) f = record f { inherits = f.inherits ++ row ∷ [] }
 happened (InheritRemoved row) f = record f { inherits = filter (λ (other : InheritRow). not (same_inherit row other)) f.inherits }
+happened (ConsumerAdded row) f = record f { consumers = f.consumers ++ row ∷ [] }
+happened (ConsumerAcked name seq) f = record f { consumers = map (acknowledged name seq) f.consumers }
 
 -- the facts after some events, one after another
 abbrev pub all_happened : List Event → Lists → Lists
@@ -104,6 +107,8 @@ events_of at by (GrantAdd object privilege holder) f = on_grant (λ row. GrantAd
 events_of at by (GrantRemove object privilege holder) f = on_grant (λ row. GrantRemoved row) (grant_of object privilege holder f)
 events_of at by (InheritAdd folder kind scope privilege holder) f = on_inherit (λ row. InheritAdded row) (inherit_of folder kind scope privilege holder f)
 events_of at by (InheritRemove folder kind scope privilege holder) f = on_inherit (λ row. InheritRemoved row) (inherit_of folder kind scope privilege holder f)
+events_of at by (ConsumerAdd consumer) f = ConsumerAdded (record { name = consumer; place = 0 }) ∷ []
+events_of at by (ConsumerAck consumer seq) f = ConsumerAcked consumer seq ∷ []
 
 -- the facts after a command that acts at a moment, by a caller
 abbrev pub edit : ℕ → Entity → Command → Lists → Lists

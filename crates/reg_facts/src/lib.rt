@@ -7,6 +7,7 @@ mod by_id;
 mod child_names;
 mod children;
 mod climbing;
+mod consumers;
 mod editing;
 mod facts;
 mod grant_rows;

@@ -4,9 +4,10 @@ ghost use Rattle.reg_facts.specs.Lists.{Lists, start};
 ghost use Rattle.reg_facts.specs.Edits.{has_row, is_composite};
 ghost use Rattle.reg_facts.specs.Grants.{has_grant, has_inherit};
 ghost use Rattle.reg_facts.specs.Events.{happened};
-ghost use Rattle.reg_terms.specs.declared.event.Event.TheVariants.{FolderMade, FolderRenamed, FolderMoved, FolderGone, SubjectMade, GroupMade, GroupRenamed, GroupMoved, GroupGone, RowAdded, RowRemoved, RowRedated, Composed, Decomposed, GrantAdded, GrantRemoved, InheritAdded, InheritRemoved};
+ghost use Rattle.reg_terms.specs.declared.event.Event.TheVariants.{FolderMade, FolderRenamed, FolderMoved, FolderGone, SubjectMade, GroupMade, GroupRenamed, GroupMoved, GroupGone, RowAdded, RowRemoved, RowRedated, Composed, Decomposed, GrantAdded, GrantRemoved, InheritAdded, InheritRemoved, ConsumerAdded, ConsumerAcked};
 ghost use Rattle.reg_facts.specs.Ascending.{FoldersAscend, GroupsAscend};
 
+use crate::consumers::acknowledge;
 use crate::grant_rows::GrantRows;
 use crate::inherit_rows::InheritRows;
 use crate::member_rows::MemberRows;
@@ -266,5 +267,20 @@ impl Tables {
         ensures { self.new ≡ happened (InheritRemoved row.now) self.old }
     {
         self.inherit_rows.remove(row);
+    }
+
+    /// Adds a consumer of the change log.
+    pub fn push_consumer(&mut self, row: ConsumerRow) -> Result<(), AllocError>
+        ensures { OnOk result (self.new ≡ happened (ConsumerAdded row) self.old) }
+    {
+        self.consumer_rows.push(row)?;
+        Ok(())
+    }
+
+    /// The consumer of a name has read up to a number.
+    pub fn acknowledge(&mut self, name: &Text, seq: u64)
+        ensures { self.new ≡ happened (ConsumerAcked name.now seq) self.old }
+    {
+        acknowledge(self.consumer_rows.as_mut_slice(), name.as_str(), seq);
     }
 }

@@ -2,11 +2,11 @@
 ghost use Rattle.std.specs.Prelude.{◌≡◌, IfOk, Some, true, false};
 ghost use Rattle.reg_facts.specs.Events.{happened};
 ghost use Rattle.reg_facts.specs.Suiting.{Suits};
-ghost use Rattle.reg_terms.specs.declared.event.Event.TheVariants.{FolderMade, FolderRenamed, FolderMoved, FolderGone, SubjectMade, GroupMade, GroupRenamed, GroupMoved, GroupGone, RowAdded, RowRemoved, RowRedated, Composed, Decomposed, GrantAdded, GrantRemoved, InheritAdded, InheritRemoved};
+ghost use Rattle.reg_terms.specs.declared.event.Event.TheVariants.{FolderMade, FolderRenamed, FolderMoved, FolderGone, SubjectMade, GroupMade, GroupRenamed, GroupMoved, GroupGone, RowAdded, RowRemoved, RowRedated, Composed, Decomposed, GrantAdded, GrantRemoved, InheritAdded, InheritRemoved, ConsumerAdded, ConsumerAcked};
 
 use crate::{
-    CompositeRow, Event, Facts, FolderRow, GrantRow, GroupRow, InheritRow, Member, MemberRow,
-    Object, SubjectRow,
+    CompositeRow, ConsumerRow, Event, Facts, FolderRow, GrantRow, GroupRow, InheritRow, Member,
+    MemberRow, Object, SubjectRow,
 };
 use reg_base::{FolderId, GroupId, Moment, Text};
 use std::alloc::{AllocError, Global};
@@ -43,6 +43,8 @@ impl Facts {
             Event::GrantRemoved { row } => Ok(self.grant_removed(&row)),
             Event::InheritAdded { row } => self.inherit_added(row),
             Event::InheritRemoved { row } => Ok(self.inherit_removed(&row)),
+            Event::ConsumerAdded { row } => self.consumer_added(row),
+            Event::ConsumerAcked { consumer, seq } => Ok(self.consumer_acked(&consumer, seq)),
         }
     }
 
@@ -294,6 +296,24 @@ impl Facts {
     {
         let mut facts = self;
         facts.tables.remove_inherit(row);
+        facts
+    }
+
+    fn consumer_added(self, row: ConsumerRow) -> Result<Facts, AllocError>
+        requires { Suits (ConsumerAdded row) self }
+        ensures { IfOk result (λ f. f ≡ happened (ConsumerAdded row) self) }
+    {
+        let mut facts = self;
+        facts.tables.push_consumer(row)?;
+        Ok(facts)
+    }
+
+    fn consumer_acked(self, consumer: &Text, seq: u64) -> Facts
+        requires { Suits (ConsumerAcked consumer.now seq) self }
+        ensures { result ≡ happened (ConsumerAcked consumer.now seq) self }
+    {
+        let mut facts = self;
+        facts.tables.acknowledge(consumer, seq);
         facts
     }
 }
