@@ -69,7 +69,7 @@ counted false b l m h = h
 
 module _ {K : Type 0} (R : K → K → Ordering) (o : IsTotalOrder R) where
   -- where the bounds are the first and the last place of two keys, the key alone decides
-  key_decides : (from to k : K) (end : ℕ) → end ≤ never → range_contains (place_cmp R) (Included (from, 0)) (Included (to, never)) (k, end) ≡ is_between R from to k
+  pub key_decides : (from to k : K) (end : ℕ) → end ≤ never → range_contains (place_cmp R) (Included (from, 0)) (Included (to, never)) (k, end) ≡ is_between R from to k
   key_decides from to k end h = rw (o.antisymm k to) (decides (R from k) (R to k) end h)
 
   alike_between : (from to k j : K) → R k j ≡ Equal → is_between R from to j ≡ is_between R from to k

@@ -9,3 +9,5 @@ pub mod Notes
 pub mod Pairs
 pub mod Held
 pub mod HeldOn
+pub mod Until
+pub mod Histories

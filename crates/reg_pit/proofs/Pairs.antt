@@ -12,7 +12,7 @@ use Rattle.reg_pit.specs.Runs.{spans_of, is_between}
 use Rattle.reg_pit.specs.Members.{pair_cmp, are_on, Lists, AreMirrored}
 use Rattle.reg_pit.proofs.Alone.{alone}
 
-same_pair : (a b x y : ℕ) → eq_by_cmp pair_cmp (a, b) (x, y) ≡ ((x == a) && (y == b))
+pub same_pair : (a b x y : ℕ) → eq_by_cmp pair_cmp (a, b) (x, y) ≡ ((x == a) && (y == b))
 same_pair a b x y = grind (arith, nat_tests, common_steps)
 
 pub pair_noted : (a b x y at t : ℕ) (on new old : Bool) → new ≡ (if eq_by_cmp pair_cmp (a, b) (x, y) && nat_le at t then on else old) → new ≡ (if ((x == a) && (y == b)) && nat_le at t then on else old)
@@ -47,7 +47,7 @@ module _ (a b at : ℕ) (on : Bool) (pairs reversed pairs_after reversed_after :
 
 -- ---- those with one first number
 
-between_one : (a top x y : ℕ) → is_between pair_cmp (a, 0) (a, top) (x, y) ≡ ((x == a) && nat_le y top)
+pub between_one : (a top x y : ℕ) → is_between pair_cmp (a, 0) (a, top) (x, y) ≡ ((x == a) && nat_le y top)
 between_one a top x y = grind (arith, nat_tests, common_steps)
 
 module _ (a : ℕ) where

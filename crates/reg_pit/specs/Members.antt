@@ -1,5 +1,5 @@
 -- Memberships as intervals.
-use Rattle.std.specs.Prelude.{◌≡◌, ◌≤◌, ◌^◌, ◌==◌, ℕ, List, Bool, false}
+use Rattle.std.specs.Prelude.{◌≡◌, ◌≤◌, ◌^◌, ◌==◌, ◌++◌, ℕ, List, [], ◌∷◌, Bool, false, Option, map}
 use Rattle.std.specs.Ordering.{nat_cmp, ordering_then}
 use Rattle.std.specs.List.{list_any}
 use Rattle.std.specs.List.Sorted.{IsStrictlySortedBy}
@@ -14,6 +14,11 @@ pair_cmp a b = ordering_then (nat_cmp a.0 b.0) (nat_cmp a.1 b.1)
 -- whether a pair was on at a moment
 abbrev pub are_on : List (((ℕ × ℕ) × ℕ) × ℕ) → ℕ → ℕ → ℕ → Bool
 are_on pairs x y t = covers (spans_of pair_cmp pairs (x, y)) t
+
+-- the intervals of a number with some others, each with the other number, one after another
+abbrev pub second_spans : List (((ℕ × ℕ) × ℕ) × ℕ) → ℕ → List ℕ → List (ℕ × ℕ × Option ℕ)
+second_spans pairs x [] = []
+second_spans pairs x (y ∷ ys) = map (λ (span : ℕ × Option ℕ). (y, span.0, span.1)) (spans_of pair_cmp pairs (x, y)) ++ second_spans pairs x ys
 
 -- the numbers that pass a test, ascending
 pub record Lists (test : ℕ → Bool) (numbers : List ℕ) : Type 0 where

@@ -5,7 +5,7 @@ use Rattle.reg_terms.specs.declared.kinds.Object.{Object}
 use Rattle.reg_terms.specs.declared.kinds.Holder.{Holder}
 use Rattle.reg_pit.specs.Spans.{NoLater}
 use Rattle.reg_pit.specs.Runs.{spans_of}
-use Rattle.reg_pit.specs.Members.{pair_cmp, are_on}
+use Rattle.reg_pit.specs.Members.{pair_cmp, are_on, second_spans}
 use Rattle.reg_pit.specs.Grants.{grant_cmp, is_granted}
 use Rattle.reg_pit.specs.Wheel.{noted_at, AreNotedBy}
 use Rattle.reg_pit.specs.declared.past.Past.{Past}
@@ -13,6 +13,10 @@ use Rattle.reg_pit.specs.declared.past.Past.{Past}
 -- the intervals in which the person was a member of the group
 abbrev pub member_spans : Past → ℕ → ℕ → List (ℕ × Option ℕ)
 member_spans past g s = spans_of pair_cmp past.memberships (g, s)
+
+-- the intervals in which some persons were members of the group, each with its person, person by person
+abbrev pub all_member_spans : Past → ℕ → List ℕ → List (ℕ × ℕ × Option ℕ)
+all_member_spans past g ids = second_spans past.memberships g ids
 
 -- whether the person was a member of the group at a moment
 abbrev pub was_member : Past → ℕ → ℕ → ℕ → Bool

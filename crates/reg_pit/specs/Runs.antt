@@ -1,7 +1,8 @@
 -- How intervals are kept: a start for each key and end.
-use Rattle.std.specs.Prelude.{◌≡◌, ◌≤◌, ◌<◌, ◌==◌, ◌&&◌, ⊤, Bool, nat_le, ℕ, suc, List, [], ◌∷◌, map, Option, Some, None, if◌then◌else◌}
-use Rattle.std.specs.Ordering.{nat_cmp, ordering_then, is_eq, is_le}
+use Rattle.std.specs.Prelude.{◌≡◌, ◌≤◌, ◌<◌, ◌==◌, ◌&&◌, ◌++◌, ⊤, Bool, true, nat_le, ℕ, suc, List, [], ◌∷◌, map, Option, Some, None, if◌then◌else◌}
+use Rattle.std.specs.Ordering.{nat_cmp, ordering_then, is_eq, is_le, eq_by_cmp}
 use Rattle.std.specs.declared.cmp.Ordering.{Ordering}
+use Rattle.std.specs.List.{list_any}
 use Rattle.std.specs.List.Sorted.{IsStrictlySortedBy}
 use Rattle.std.specs.Map.{keys_of}
 use Rattle.reg_pit.specs.Spans.{covers, NoLater}
@@ -46,3 +47,16 @@ pub record Switched {K : Type 0} (R : K → K → Ordering) (key : K) (at : ℕ)
 -- whether a key is one of those from one to another
 abbrev pub is_between : {K : Type 0} → (K → K → Ordering) → K → K → K → Bool
 is_between R from to k = is_le (R from k) && is_le (R k to)
+
+-- keys that tie are one
+abbrev pub TiesAreOne : {K : Type 0} → (K → K → Ordering) → Type 0
+TiesAreOne {K} R = (a b : K) → eq_by_cmp R a b ≡ true → a ≡ b
+
+-- of the keys that were ever on, these are those from one to another
+abbrev pub AreAllOn : {K : Type 0} → (K → K → Ordering) → K → K → List ((K × ℕ) × ℕ) → List K → Type 0
+AreAllOn {K} R from to es keys = (k : K) (t : ℕ) → covers (spans_of R es k) t ≡ true → list_any (eq_by_cmp R k) keys ≡ is_between R from to k
+
+-- the intervals of some keys, each with its key, key by key
+abbrev pub keyed_spans : {K : Type 0} → (K → K → Ordering) → List ((K × ℕ) × ℕ) → List K → List (K × ℕ × Option ℕ)
+keyed_spans R es [] = []
+keyed_spans {K} R es (k ∷ keys) = map (λ (span : ℕ × Option ℕ). (k, span.0, span.1)) (spans_of R es k) ++ keyed_spans R es keys

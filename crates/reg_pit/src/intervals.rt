@@ -3,8 +3,8 @@ ghost use Rattle.std.specs.Prelude.{Bool, List, Option, ◌≡◌, ◌≤◌, �
 ghost use Rattle.std.specs.Ordering.{eq_by_cmp, is_gt};
 ghost use Rattle.std.specs.List.{list_any};
 ghost use Rattle.std.specs.List.Sorted.{IsStrictlySortedBy};
-ghost use Rattle.reg_pit.specs.Spans.{covers, AreSpans, AreSpansOf, NoLater};
-ghost use Rattle.reg_pit.specs.Runs.{AreRuns, Switched, is_between, spans_of};
+ghost use Rattle.reg_pit.specs.Spans.{covers, AreSpans, AreSpansOf, NoLater, spans_until};
+ghost use Rattle.reg_pit.specs.Runs.{AreRuns, Switched, is_between, spans_of, TiesAreOne, AreAllOn, keyed_spans};
 
 use crate::ends::End;
 use reg_base::{Moment, Steps};
@@ -146,6 +146,24 @@ impl<K: Ord + Copy> Intervals<K> {
         Ok(rows)
     }
 
+    /// The intervals of all keys from `from` up to `to`, each with its key, by key and start. Costs
+    /// what was ever set between them.
+    pub fn rows_between(
+        &self,
+        from: K,
+        to: K,
+    ) -> Result<Vec<(K, Moment, Option<Moment>)>, AllocError>
+        requires { is_gt (K.cmp from to) ≡ false }
+        ensures { IfOk result (λ rows. TiesAreOne K.cmp → (keys : List K) → IsStrictlySortedBy K.cmp keys → AreAllOn K.cmp from to self.now keys → rows.items ≡ keyed_spans K.cmp self.now keys) }
+    {
+        let first = End::at(Moment::start());
+        let mut rows = Vec::new(self.alloc);
+        for (place, start) in self.starts.range((from, first)..=(to, End::never())) {
+            rows.push((place.0, *start, place.1.moment()))?;
+        }
+        Ok(rows)
+    }
+
     /// The keys from `from` up to `to` that are on at a moment, in order, each once. Costs what was
     /// ever set between them.
     pub fn on_between(&self, from: K, to: K, t: Moment) -> Result<Vec<K>, AllocError>
@@ -183,6 +201,14 @@ impl<K: Ord + Copy> Intervals<K> {
     /// starts ascend, and the last alone may have no end. It does nothing.
     pub fn law_rows_apart(&self)
         ensures { (k : K) → AreSpans (spans_of K.cmp self.now k) }
+    {
+        let _ = &self.starts;
+    }
+
+    /// The intervals of the moments up to a last one at which a test holds, put together moment by
+    /// moment, are the one list for these moments. It does nothing.
+    pub fn law_until(&self)
+        ensures { (test : ℕ → Bool) (now : ℕ) → AreSpansOf test now (spans_until test now) }
     {
         let _ = &self.starts;
     }

@@ -1,8 +1,11 @@
 // When each person was an effective member of each group.
-ghost use Rattle.std.specs.Prelude.{◌≡◌, ◌≤◌, ◌+◌, ◌*◌, ◌^◌, ◌==◌, ◌&&◌, ℕ, [], length, map, nat_le, IfOk, if◌then◌else◌};
+ghost use Rattle.std.specs.Prelude.{◌≡◌, ◌≤◌, ◌+◌, ◌*◌, ◌^◌, ◌==◌, ◌&&◌, ℕ, List, [], true, length, map, nat_le, IfOk, if◌then◌else◌};
+ghost use Rattle.std.specs.List.{list_any};
+ghost use Rattle.std.specs.List.Sorted.{IsStrictlySortedBy};
+ghost use Rattle.std.specs.Ordering.{nat_cmp};
 ghost use Rattle.reg_pit.specs.Spans.{covers, NoLater, AreSpans};
 ghost use Rattle.reg_pit.specs.Runs.{spans_of};
-ghost use Rattle.reg_pit.specs.Members.{pair_cmp, are_on, Lists};
+ghost use Rattle.reg_pit.specs.Members.{pair_cmp, are_on, Lists, second_spans};
 
 use crate::Intervals;
 use reg_base::{GroupId, Moment, Steps, SubjectId};
@@ -36,6 +39,18 @@ fn seconds<A: Copy, B: Copy>(alloc: Global, pairs: &[(A, B)]) -> Result<Vec<B>, 
     ensures { IfOk result (λ seconds. seconds.items ≡ map (λ pair. pair.1) pairs.now) }
 {
     pairs.iter().map(|pair| pair.1).collect(alloc)
+}
+
+/// The rows without the first of each pair.
+fn without_first<A: Copy, B: Copy>(
+    alloc: Global,
+    rows: &[((A, B), Moment, Option<Moment>)],
+) -> Result<Vec<(B, Moment, Option<Moment>)>, AllocError>
+    ensures { IfOk result (λ after. after.items ≡ map (λ row. (row.0.1, row.1, row.2)) rows.now) }
+{
+    rows.iter()
+        .map(|row| (row.0.1, row.1, row.2))
+        .collect(alloc)
 }
 
 impl Memberships {
@@ -105,6 +120,20 @@ impl Memberships {
     {
         let spans = self.by_group.rows((g, s))?;
         Ok(spans)
+    }
+
+    /// All intervals of all persons who were ever members of a group, by person and then start.
+    pub(crate) fn history(
+        &self,
+        g: GroupId,
+    ) -> Result<Vec<(SubjectId, Moment, Option<Moment>)>, AllocError>
+        ensures { IfOk result (λ rows. (ids : List ℕ) → IsStrictlySortedBy nat_cmp ids → ((s t : ℕ) → are_on self.now g s t ≡ true → list_any (λ x. x == s) ids ≡ true) → rows.items ≡ second_spans self.now g ids) }
+    {
+        let first = (g, SubjectId::new(0));
+        let last = (g, SubjectId::new(u32::MAX));
+        let pairs = self.by_group.rows_between(first, last)?;
+        let rows = without_first(self.alloc, &pairs)?;
+        Ok(rows)
     }
 
     /// Who was a member of a group at a moment, by id.

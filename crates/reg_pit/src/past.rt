@@ -1,11 +1,13 @@
 // What was the case at each moment.
-ghost use Rattle.std.specs.Prelude.{◌≡◌, ◌≤◌, ◌+◌, ◌*◌, ◌^◌, ◌==◌, ◌&&◌, ℕ, None, false, length, nat_le, IfOk, if◌then◌else◌};
+ghost use Rattle.std.specs.Prelude.{◌≡◌, ◌≤◌, ◌+◌, ◌*◌, ◌^◌, ◌==◌, ◌&&◌, Bool, List, ℕ, None, true, false, length, nat_le, IfOk, if◌then◌else◌};
+ghost use Rattle.std.specs.List.{list_any};
+ghost use Rattle.std.specs.Ordering.{nat_cmp};
 ghost use Rattle.std.specs.List.Sorted.{IsStrictlySortedBy};
 ghost use Rattle.reg_base.specs.declared.privilege.Privilege.{Privilege};
 ghost use Rattle.reg_terms.specs.Kinds.{same_object};
 ghost use Rattle.reg_terms.specs.declared.kinds.Object.{Object};
 ghost use Rattle.reg_terms.specs.declared.kinds.Holder.{Holder};
-ghost use Rattle.reg_pit.specs.Spans.{AreSpansOf};
+ghost use Rattle.reg_pit.specs.Spans.{AreSpansOf, spans_until};
 ghost use Rattle.reg_pit.specs.Members.{Lists};
 ghost use Rattle.reg_pit.specs.Grants.{has_grant, held_cmp};
 
@@ -26,7 +28,7 @@ pub struct Past {
 }
 
 impl Past {
-    ghost use Rattle.reg_pit.specs.Past.{was_member, member_spans, was_granted, grant_spans, wheel_at, NotedBy, KeepsMembers, KeepsGrants, KeepsWheel};
+    ghost use Rattle.reg_pit.specs.Past.{was_member, member_spans, all_member_spans, was_granted, grant_spans, wheel_at, NotedBy, KeepsMembers, KeepsGrants, KeepsWheel};
 
     /// Nothing was ever the case. Takes no memory.
     pub fn start(alloc: Global) -> Past
@@ -137,16 +139,30 @@ impl Past {
     }
 
     /// The intervals in which a person was a member of a group, in order: the one list that stands
-    /// for these moments.
+    /// for these moments. Where a test tells when the person was a member, up to the last note,
+    /// they are what the test gives moment by moment.
     pub fn spans(
         &self,
         g: GroupId,
         s: SubjectId,
     ) -> Result<Vec<(Moment, Option<Moment>)>, AllocError>
         ensures value { IfOk result (λ spans. spans.items ≡ member_spans self.now g s) }
+        ensures until { IfOk result (λ spans. (test : ℕ → Bool) (now : ℕ) → NotedBy now self.now → ((t : ℕ) → t ≤ now → was_member self.now g s t ≡ test t) → spans.items ≡ spans_until test now) }
         ensures one { IfOk result (λ spans. (now : ℕ) → NotedBy now self.now → AreSpansOf (was_member self.now g s) now spans.items) }
     {
-        self.memberships.spans(g, s)
+        let spans = self.memberships.spans(g, s)?;
+        Ok(spans)
+    }
+
+    /// All intervals of all persons who were ever members of a group, each with its person, by
+    /// person and then start. Costs what was ever noted of the group.
+    pub fn history_of(
+        &self,
+        g: GroupId,
+    ) -> Result<Vec<(SubjectId, Moment, Option<Moment>)>, AllocError>
+        ensures { IfOk result (λ rows. (ids : List ℕ) → IsStrictlySortedBy nat_cmp ids → ((s t : ℕ) → was_member self.now g s t ≡ true → list_any (λ x. x == s) ids ≡ true) → rows.items ≡ all_member_spans self.now g ids) }
+    {
+        self.memberships.history(g)
     }
 
     /// Who was a member of a group at a moment, by id. Costs what was ever noted of the group.
