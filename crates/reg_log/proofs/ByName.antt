@@ -1,5 +1,5 @@
 -- A map by names: what a change at one name leaves at any name.
-use Rattle.std.proofs.Common.{◌≡◌, ℕ, List, Bool, true, false, Option, Vec, if◌then◌else◌, sym, ◌∙◌, inl, inr}
+use Rattle.std.proofs.Common.{◌≡◌, ℕ, List, Bool, true, false, Option, None, Some, IsSome, Vec, option_map, if◌then◌else◌, refl, sym, subst, ◌∙◌, inl, inr}
 use Rattle.std.proofs.lemmas.Bool.{cases_Bool}
 use Rattle.std.proofs.lemmas.Cmp.{eq_by_cmp_equiv, nat_list_cmp_total, nat_list_eq_equiv}
 use Rattle.std.proofs.lemmas.Slice.Eq.{bytes_eq-Decides}
@@ -26,4 +26,15 @@ pub under_after : {Z : Type 0} (name : List ℕ) (m n : BTreeMap (Vec ℕ Z) ℕ
 under_after name m n w h other = elim (cases_Bool (bytes_eq name other)) [
   | inl y ↦ let same : name ≡ other = (bytes_eq-Decides name other).0 y in rw (y, ← same) h.1
   | inr f ↦ rw f (other_entries _ _ _ _ h.3 _ (λ x y. (eq_by_cmp_equiv nat_list_cmp_total).congr other x.items y.items) (λ k. apart name other k.items f))
+]
+
+moved_one : (w : ℕ) (place : Option ℕ) → IsSome place → Some w ≡ option_map (λ (p : ℕ). w) place
+moved_one w None h = cc
+moved_one w (Some p) h = refl
+
+-- a place that is there is moved
+pub moved : (name other : List ℕ) (w : ℕ) (place : List ℕ → Option ℕ) (new : Option ℕ) → IsSome (place name) → new ≡ (if bytes_eq name other then Some w else place other) → new ≡ (if bytes_eq name other then option_map (λ (p : ℕ). w) (place other) else place other)
+moved name other w place new h e = elim (cases_Bool (bytes_eq name other)) [
+  | inl y ↦ let same : name ≡ other = (bytes_eq-Decides name other).0 y in e ∙ rw y (moved_one w (place other) (subst (λ k. IsSome (place k)) same h))
+  | inr f ↦ e ∙ rw f refl
 ]

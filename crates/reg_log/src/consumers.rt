@@ -1,5 +1,5 @@
 // How far each consumer has read.
-ghost use Rattle.std.specs.Prelude.{◌≡◌, ℕ, List, None, Some, Ok, Err, IsSome, OnOk, OnErr, nat_lt, ◌||◌, if◌then◌else◌};
+ghost use Rattle.std.specs.Prelude.{◌≡◌, ℕ, List, None, Some, Ok, Err, IsSome, OnOk, OnErr, option_map, nat_lt, ◌||◌, if◌then◌else◌};
 ghost use Rattle.std.specs.Str.{bytes_eq};
 ghost use Rattle.reg_log.specs.Places.{place_of};
 
@@ -48,6 +48,16 @@ impl Places {
         ensures { result ≡ place_of self.now name.now }
     {
         self.places.get(name).copied()
+    }
+
+    /// Moves a consumer's place to a number, whichever it was at. Where no consumer has the name
+    /// nothing changes. Takes no memory.
+    pub fn set(&mut self, name: &[u8], seq: u64)
+        ensures { (n : List ℕ) → place_of self.new n ≡ (if bytes_eq name.now n then option_map (λ place. seq) (place_of self.old n) else place_of self.old n) }
+    {
+        if let Some(place) = self.places.get_mut(name) {
+            *place = seq;
+        }
     }
 
     /// A consumer has read up to a number, where `last` is the number of the last entry. A number
