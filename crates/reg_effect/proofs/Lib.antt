@@ -23,3 +23,4 @@ pub mod LiveLaws
 pub mod Standing
 pub mod Remembering
 pub mod NamedGroups
+pub mod Turning

@@ -27,4 +27,4 @@ pub use pairs::Pairs;
 pub use plain::Plain;
 pub use relink::link;
 pub use rows::Rows;
-pub use turned::Turned;
+pub use turned::{Turned, law_turns};
