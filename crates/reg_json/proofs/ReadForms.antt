@@ -1,5 +1,5 @@
 -- What is read has its form.
-use Rattle.std.proofs.Common.{◌≡◌, ◌≤◌, ℕ, List, [], ◌∷◌, Bool, true, false, length, map, Option, Some, None, Result, Ok, Err, IfOk, IfSome, refl, sym, ap, subst, ◌∙◌, codes, cond, ok_or, option_map, drop, nat_eq}
+use Rattle.std.proofs.Common.{◌≡◌, ◌≤◌, ℕ, List, [], ◌∷◌, Bool, true, false, length, map, Option, Some, None, Result, Ok, Err, IfOk, IfSome, refl, sym, ap, subst, ◌∙◌, codes, cond, ok_or, option_map, drop, nat_eq, option_and_then}
 use Rattle.std.specs.List.{list_all, starts_with}
 use Rattle.std.specs.Str.{IsUtf8, bytes_eq}
 use Rattle.std.proofs.lemmas.Bool.{and_from, le-leb}
@@ -23,10 +23,12 @@ use Rattle.reg_terms.specs.declared.refusal.Refusal.TheVariants.{BadMoment, BadN
 use Rattle.reg_terms.specs.declared.request.Op.{Op}
 use Rattle.reg_terms.specs.declared.request.Op.TheVariants as asked
 use Rattle.reg_terms.specs.declared.request.Request.{Request}
+use Rattle.reg_json.specs.declared.fields.Carrier.{Carrier}
+use Rattle.reg_json.specs.declared.fields.Carrier.TheVariants.{Line, Body}
 use Rattle.reg_json.specs.Steps.{◌>>=◌}
-use Rattle.reg_json.specs.Fields.{text_at, text_or_empty, optional_text_at, known_keys, no_other, display_at, set_op_at, inherit_kind_at, scope_at, privilege_at, name_from, folder_from, extension_from, object_from, entity_from, moment_from}
+use Rattle.reg_json.specs.Fields.{text_at, text_or_empty, optional_text_at, known_keys, no_other, display_at, set_op_at, inherit_kind_at, scope_at, privilege_at, whole_number, is_within, number_at, name_from, folder_from, extension_from, object_from, entity_from, moment_from}
 use Rattle.reg_json.specs.Ops.{form_at, all_stand, all_forms, fields_in, asked_in}
-use Rattle.reg_json.specs.Reading.{data_of, known_kind, request_in, reading_of}
+use Rattle.reg_json.specs.Reading.{data_of, known_kind, request_in, reading_of, body_in, body_reading_of}
 use Rattle.reg_json.specs.Forms.{IsFormed, ReadForm}
 use Rattle.reg_json.proofs.Moments.{read_within}
 use Rattle.reg_json.proofs.Options.{some_tested, either}
@@ -68,6 +70,12 @@ display_is text short utf8 = and_from _ _ (le-leb _ _ short) (is_utf8-from_IsUtf
 display_form : (key : List ℕ) (d : Data) → Keeps (λ display. is_display display ≡ true) (display_at key d)
 unfolding display_at
 display_form key d = pass (text_or_empty key (get key d)) (λ display. step (tested (is_display display) (λ _. is_display display ≡ true) true (BadRequest key) (λ e. e)) (λ short e. last e))
+
+number_form : (least most : ℕ) (key : List ℕ) (d : Data) → Keeps (λ value. is_within least most value ≡ true) (number_at least most key d)
+unfolding number_at
+number_form least most key d =
+    pass (ok_or (option_and_then whole_number (get key d)) (BadRequest key)) (λ value.
+    step (tested (is_within least most value) (λ _. is_within least most value ≡ true) true (BadRequest key) (λ e. e)) (λ within e. last e))
 
 folder_form : (field text : List ℕ) → Keeps (λ folder. is_folder_text folder ≡ true) (folder_from field text)
 unfolding folder_from
@@ -128,6 +136,7 @@ form_kept kind.SetOp key d = pass (set_op_at key d) (λ v. last (record { is_kin
 form_kept kind.InheritKind key d = pass (inherit_kind_at key d) (λ v. last (record { is_kind = refl; fits = refl }))
 form_kept kind.Scope key d = pass (scope_at key d) (λ v. last (record { is_kind = refl; fits = refl }))
 form_kept kind.Privilege key d = pass (privilege_at key d) (λ v. last (record { is_kind = refl; fits = refl }))
+form_kept (kind.Number least most) key d = step (number_form least most key d) (λ v e. last (record { is_kind = refl; fits = e }))
 
 record AreForms (ks : List FieldKind) (fs : List Field) : Type 0 where
   are_kinds : map field_kind fs ≡ ks
@@ -160,11 +169,11 @@ made_form table k fs q =
     let fits : op_has_form m.op ≡ true = form_is m.op ∙ ap (list_all is_field) m.has_these ∙ q.fit in
     subst (λ (found : Option Op). IfSome found ReadForm) (sym m.made_so) fits
 
-asked_kept : TableMakes → (k : OpKind) (d : Data) → Keeps ReadForm (asked_in k d)
+asked_kept : TableMakes → (carrier : Carrier) (k : OpKind) (d : Data) → Keeps ReadForm (asked_in carrier k d)
 unfolding asked_in fields_in
-asked_kept table k d =
+asked_kept table carrier k d =
     let fs = (row_of k).fields in
-    let read : Keeps (AreForms (field_kinds (row_of k))) (fields_in fs d) = pass (all_stand fs d) (λ stand. pass (no_other (known_keys fs) (as_object d)) (λ known. all_kept fs d)) in
+    let read : Keeps (AreForms (field_kinds (row_of k))) (fields_in carrier fs d) = pass (all_stand fs d) (λ stand. pass (no_other (known_keys carrier fs) (as_object d)) (λ known. all_kept fs d)) in
     step read (λ xs q. some_ok ReadForm (made k xs) (BadRequest []) (made_form table k xs q))
 
 request_kept : TableMakes → (d : Data) → Keeps IsFormed (request_in d)
@@ -173,7 +182,7 @@ request_kept table d =
     pass_text _ _ (λ word.
     pass (known_kind word) (λ known.
     pass_text _ _ (λ by.
-    step (asked_kept table known d) (λ o good. last good))))
+    step (asked_kept table Line known d) (λ o good. last good))))
 
 reading_kept : TableMakes → (line : List ℕ) → Keeps IsFormed (reading_of line)
 unfolding reading_of
@@ -185,3 +194,21 @@ reading_form table line = (reading_kept table line).kept
 -- the same of a request that is given
 pub read_formed : TableMakes → (line : List ℕ) (request : Request) → reading_of line ≡ Ok request → IsFormed request
 read_formed table line request e = rw e at (reading_form table line)
+
+body_kept : TableMakes → (by : List ℕ) (d : Data) → Keeps IsFormed (body_in by d)
+unfolding body_in
+body_kept table by d =
+    pass_text _ _ (λ word.
+    pass (known_kind word) (λ known.
+    step (asked_kept table Body known d) (λ o good. last good)))
+
+body_reading_kept : TableMakes → (by body : List ℕ) → Keeps IsFormed (body_reading_of by body)
+unfolding body_reading_of
+body_reading_kept table by body = pass (data_of body) (λ d. body_kept table by d)
+
+body_reading_form : TableMakes → (by body : List ℕ) → IfOk (body_reading_of by body) IsFormed
+body_reading_form table by body = (body_reading_kept table by body).kept
+
+-- and of a body's
+pub body_formed : TableMakes → (by body : List ℕ) (request : Request) → body_reading_of by body ≡ Ok request → IsFormed request
+body_formed table by body request e = rw e at (body_reading_form table by body)

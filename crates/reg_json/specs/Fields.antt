@@ -1,9 +1,9 @@
 -- The fields of a request: first that they are texts that may stand there, and later that the texts have their forms.
-use Rattle.std.specs.Prelude.{ℕ, List, [], ◌∷◌, Bool, true, Option, Some, None, Result, Ok, Err, codes, option_and_then, option_map, map, if◌then◌else◌, ok_or}
+use Rattle.std.specs.Prelude.{ℕ, List, [], ◌∷◌, Bool, true, Option, Some, None, Result, Ok, Err, codes, option_and_then, option_map, map, ◌&&◌, nat_le, if◌then◌else◌, ok_or}
 use Rattle.std.specs.List.{list_any}
 use Rattle.std.specs.Str.{bytes_eq}
 use Rattle.serde_json.specs.Data.{Data, Members, no_members, member}
-use Rattle.serde_json.specs.Find.{get, as_str}
+use Rattle.serde_json.specs.Find.{get, as_str, as_number, as_u64}
 use Rattle.reg_base.specs.Names.{is_extension, name_of}
 use Rattle.reg_base.specs.Entities.{entity_of}
 use Rattle.reg_base.specs.MomentText.{moment_of}
@@ -20,6 +20,8 @@ use Rattle.reg_terms.specs.declared.kinds.SetOp.{SetOp}
 use Rattle.reg_terms.specs.declared.kinds.SetOp.TheVariants.{Intersection, Complement}
 use Rattle.reg_terms.specs.declared.refusal.Refusal.{Refusal}
 use Rattle.reg_terms.specs.declared.refusal.Refusal.TheVariants.{BadRequest, BadName, BadMoment}
+use Rattle.reg_json.specs.declared.fields.Carrier.{Carrier}
+use Rattle.reg_json.specs.declared.fields.Carrier.TheVariants.{Line, Body}
 use Rattle.reg_json.specs.Steps.{◌>>=◌, ensured}
 
 -- an object's keys
@@ -31,9 +33,10 @@ key_list (member k d ms) = k ∷ key_list ms
 abbrev pub keys : List (List ℕ × FieldKind) → List (List ℕ)
 keys fields = map (λ (f : List ℕ × FieldKind). f.0) fields
 
--- the keys that an object of these fields may have
-unfoldable pub known_keys : List (List ℕ × FieldKind) → List (List ℕ)
-known_keys fields = codes "by" ∷ codes "op" ∷ keys fields
+-- the keys that an object of these fields may have: a line names its caller too, a body doesn't
+unfoldable pub known_keys : Carrier → List (List ℕ × FieldKind) → List (List ℕ)
+known_keys Line fields = codes "by" ∷ codes "op" ∷ keys fields
+known_keys Body fields = codes "op" ∷ keys fields
 
 -- the first key that isn't known
 abbrev pub other_key : List (List ℕ) → List (List ℕ) → Option (List ℕ)
@@ -112,6 +115,21 @@ unfoldable pub privilege_at : List ℕ → Data → Result Privilege Refusal
 privilege_at key d = do
   word ← text_at key d
   ok_or (privilege_named word) (BadRequest key)
+
+-- a whole number of 64 bits; a fraction, an exponent and `-0` make none
+abbrev pub whole_number : Data → Option ℕ
+whole_number d = option_and_then as_u64 (as_number d)
+
+-- a number is at least the one and at most the other
+abbrev pub is_within : ℕ → ℕ → ℕ → Bool
+is_within least most n = nat_le least n && nat_le n most
+
+-- a whole number from `least` to `most`, which has to be there
+unfoldable pub number_at : ℕ → ℕ → List ℕ → Data → Result ℕ Refusal
+number_at least most key d = do
+  value ← ok_or (option_and_then whole_number (get key d)) (BadRequest key)
+  within ← ensured (is_within least most value) key
+  Ok value
 
 -- the name that a field's text is
 unfoldable pub name_from : List ℕ → List ℕ → Result (List ℕ) Refusal

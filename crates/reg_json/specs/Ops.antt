@@ -11,8 +11,9 @@ use Rattle.reg_terms.specs.declared.request.Op.{Op}
 use Rattle.reg_terms.specs.declared.refusal.Refusal.{Refusal}
 use Rattle.reg_terms.specs.declared.refusal.Refusal.TheVariants.{BadRequest}
 use Rattle.reg_terms.specs.Table.{row_of, made}
+use Rattle.reg_json.specs.declared.fields.Carrier.{Carrier}
 use Rattle.reg_json.specs.Steps.{◌>>=◌}
-use Rattle.reg_json.specs.Fields.{known_keys, no_other, text_at, optional_text_at, display_at, set_op_at, inherit_kind_at, scope_at, privilege_at, name_from, folder_from, extension_from, entity_from, object_from, moment_from}
+use Rattle.reg_json.specs.Fields.{known_keys, no_other, text_at, optional_text_at, display_at, set_op_at, inherit_kind_at, scope_at, privilege_at, number_at, name_from, folder_from, extension_from, entity_from, object_from, moment_from}
 
 -- ---- by the kinds of fields
 
@@ -50,6 +51,9 @@ stands_at kind.Scope key d = do
   Ok true
 stands_at kind.Privilege key d = do
   word ← privilege_at key d
+  Ok true
+stands_at (kind.Number least most) key d = do
+  value ← number_at least most key d
   Ok true
 
 -- what stands there has its form
@@ -93,6 +97,9 @@ form_at kind.Scope key d = do
 form_at kind.Privilege key d = do
   privilege ← privilege_at key d
   Ok (field.Privilege privilege)
+form_at (kind.Number least most) key d = do
+  value ← number_at least most key d
+  Ok (field.Number value least most)
 
 -- each field stands there
 abbrev pub all_stand : List (List ℕ × FieldKind) → Data → Result Bool Refusal
@@ -112,14 +119,14 @@ all_forms (f ∷ fs) d = do
 -- ---- by the table
 
 -- the values of these fields, and no other key
-unfoldable pub fields_in : List (List ℕ × FieldKind) → Data → Result (List Field) Refusal
-fields_in fs d = do
+unfoldable pub fields_in : Carrier → List (List ℕ × FieldKind) → Data → Result (List Field) Refusal
+fields_in carrier fs d = do
   stand ← all_stand fs d
-  known ← no_other (known_keys fs) (as_object d)
+  known ← no_other (known_keys carrier fs) (as_object d)
   all_forms fs d
 
 -- what an object asks whose op is of a kind
-unfoldable pub asked_in : OpKind → Data → Result Op Refusal
-asked_in k d = do
-  fields ← fields_in (row_of k).fields d
+unfoldable pub asked_in : Carrier → OpKind → Data → Result Op Refusal
+asked_in carrier k d = do
+  fields ← fields_in carrier (row_of k).fields d
   ok_or (made k fields) (BadRequest [])

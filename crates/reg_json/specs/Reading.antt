@@ -1,4 +1,5 @@
--- What a line asks: a JSON object (RFC 8259) with `op`, `by` and the op's fields, and nothing else.
+-- What a line asks: a JSON object (RFC 8259) with `op`, `by` and the op's fields, and nothing else. A body has no `by`:
+-- who asks is told beside it.
 use Rattle.std.specs.Prelude.{ℕ, List, [], Option, Some, None, Result, Ok, Err, length, nat_le, codes, if◌then◌else◌, ok_or}
 use Rattle.std.specs.Str.{is_utf8}
 use Rattle.serde_json.specs.Data.{Data}
@@ -10,6 +11,7 @@ use Rattle.reg_terms.specs.declared.refusal.Refusal.{Refusal}
 use Rattle.reg_terms.specs.declared.refusal.Refusal.TheVariants.{BadRequest, TooLong}
 use Rattle.reg_terms.specs.Limits.{max_line}
 use Rattle.reg_terms.specs.Table.{kind_named}
+use Rattle.reg_json.specs.declared.fields.Carrier.TheVariants.{Line, Body}
 use Rattle.reg_json.specs.Steps.{◌>>=◌}
 use Rattle.reg_json.specs.Fields.{text_at}
 use Rattle.reg_json.specs.Ops.{asked_in}
@@ -38,7 +40,7 @@ request_in d = do
   word ← text_at (codes "op") d
   known ← known_kind word
   by ← text_at (codes "by") d
-  asked ← asked_in known d
+  asked ← asked_in Line known d
   Ok (record { by = by; op = asked })
 
 -- what a line asks, or why it is refused: first its length and its bytes count
@@ -46,3 +48,18 @@ unfoldable pub reading_of : List ℕ → Result Request Refusal
 reading_of line = do
   d ← data_of line
   request_in d
+
+-- what an object without `by` asks for this caller, or why it is refused: as that of a line, but `by` is a key that
+-- isn't known
+unfoldable pub body_in : List ℕ → Data → Result Request Refusal
+body_in by d = do
+  word ← text_at (codes "op") d
+  known ← known_kind word
+  asked ← asked_in Body known d
+  Ok (record { by = by; op = asked })
+
+-- what a body asks for this caller, or why it is refused
+unfoldable pub body_reading_of : List ℕ → List ℕ → Result Request Refusal
+body_reading_of by body = do
+  d ← data_of body
+  body_in by d

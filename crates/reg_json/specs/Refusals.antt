@@ -2,11 +2,13 @@
 use Rattle.std.specs.Prelude.{ℕ, List, codes}
 use Rattle.serde_json.specs.Data.{Data, member, no_members, number, unsigned, string}
 use Rattle.serde_json.specs.Data as json
+use Rattle.reg_base.specs.MomentText.{text_of}
 use Rattle.reg_terms.specs.declared.refusal.Refusal.{Refusal}
 use Rattle.reg_terms.specs.declared.refusal.Refusal.TheVariants as refusal
 
 -- what a refusal carries: nothing, a limit, a field or an object by its text, an object and the privilege that is
--- demanded on it, a use, or a kind of which there would be more than its limit
+-- demanded on it, the moment asked of and the clock's by their texts, a use, a kind of which there would be more than
+-- its limit, or the number that a consumer had and the log's last
 pub data Carries : Type 0 where
   nothing : Carries
   limit : ℕ → Carries
@@ -15,6 +17,8 @@ pub data Carries : Type 0 where
   demand : List ℕ → List ℕ → Carries
   used : List ℕ → Carries
   count : List ℕ → ℕ → Carries
+  moments : List ℕ → List ℕ → Carries
+  places : ℕ → ℕ → Carries
 
 -- a refusal by its number, its word and what it carries
 unfoldable pub refused : ℕ → List ℕ → Carries → Data
@@ -25,6 +29,8 @@ refused code word (object text) = json.object (member (codes "code") (number (un
 refused code word (demand name privilege) = json.object (member (codes "code") (number (unsigned code)) (member (codes "object") (string name) (member (codes "privilege") (string privilege) (member (codes "refused") (string word) no_members))))
 refused code word (used text) = json.object (member (codes "code") (number (unsigned code)) (member (codes "refused") (string word) (member (codes "use") (string text) no_members)))
 refused code word (count kind n) = json.object (member (codes "code") (number (unsigned code)) (member (codes "kind") (string kind) (member (codes "limit") (number (unsigned n)) (member (codes "refused") (string word) no_members))))
+refused code word (moments asked clock) = json.object (member (codes "asked") (string asked) (member (codes "clock") (string clock) (member (codes "code") (number (unsigned code)) (member (codes "refused") (string word) no_members))))
+refused code word (places kept last) = json.object (member (codes "code") (number (unsigned code)) (member (codes "kept") (number (unsigned kept)) (member (codes "last") (number (unsigned last)) (member (codes "refused") (string word) no_members))))
 
 -- each refusal as JSON data
 unfoldable pub refusal_data : Refusal → Data
@@ -35,6 +41,7 @@ refusal_data (refusal.BadMoment text) = refused 4 (codes "BadMoment") (field tex
 refusal_data refusal.NoCaller = refused 5 (codes "NoCaller") nothing
 refusal_data (refusal.NotFound name) = refused 6 (codes "NotFound") (object name)
 refusal_data (refusal.Denied name privilege) = refused 7 (codes "Denied") (demand name privilege)
+refusal_data (refusal.Future asked clock) = refused 8 (codes "Future") (moments (text_of asked) (text_of clock))
 refusal_data refusal.BadWindow = refused 9 (codes "BadWindow") nothing
 refusal_data (refusal.WrongKind text) = refused 10 (codes "WrongKind") (field text)
 refusal_data (refusal.Taken name) = refused 11 (codes "Taken") (object name)
@@ -45,4 +52,12 @@ refusal_data refusal.HasMembers = refused 15 (codes "HasMembers") nothing
 refusal_data (refusal.Circular name) = refused 16 (codes "Circular") (object name)
 refusal_data (refusal.InUse text) = refused 17 (codes "InUse") (used text)
 refusal_data refusal.NotEmpty = refused 18 (codes "NotEmpty") nothing
+refusal_data (refusal.Place kept last) = refused 25 (codes "Place") (places kept last)
 refusal_data (refusal.Full kind n) = refused 26 (codes "Full") (count kind n)
+refusal_data refusal.NoRoute = refused 30 (codes "NoRoute") nothing
+refusal_data refusal.NoMethod = refused 31 (codes "NoMethod") nothing
+refusal_data refusal.NoLength = refused 32 (codes "NoLength") nothing
+refusal_data refusal.Coding = refused 33 (codes "Coding") nothing
+refusal_data refusal.HeadTooLong = refused 34 (codes "HeadTooLong") nothing
+refusal_data refusal.NoCallerHeader = refused 35 (codes "NoCallerHeader") nothing
+refusal_data refusal.BadHead = refused 36 (codes "BadHead") nothing

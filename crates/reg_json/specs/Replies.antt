@@ -13,6 +13,9 @@ use Rattle.reg_terms.specs.declared.query.Answer.TheVariants as answer
 use Rattle.reg_terms.specs.declared.shown.FactorsShown.{FactorsShown}
 use Rattle.reg_terms.specs.declared.shown.GrantShown.{GrantShown}
 use Rattle.reg_terms.specs.declared.shown.RowShown.{RowShown}
+use Rattle.reg_terms.specs.EntryWords.{word_of}
+use Rattle.reg_terms.specs.declared.changes_shown.SpanShown.{SpanShown}
+use Rattle.reg_terms.specs.declared.changes_shown.EntryShown.{EntryShown}
 use Rattle.reg_terms.specs.declared.reply.Reply.{Reply}
 use Rattle.reg_terms.specs.declared.reply.Reply.TheVariants as reply
 use Rattle.reg_json.specs.Flat.{moment_data}
@@ -52,6 +55,22 @@ grant_items grants = items_of (map grant_data grants)
 abbrev pub names_of : List Privilege → List (List ℕ)
 names_of privileges = map (λ (p : Privilege). (line_of p).name) privileges
 
+-- a time in which a person was a member as JSON data
+abbrev pub span_data : SpanShown → Data
+span_data span = object (member (codes "from") (string (text_of span.from)) (member (codes "subject") (string span.subject) (member (codes "to") (moment_data span.to) no_members)))
+
+-- such times as an array's items
+abbrev pub span_items : List SpanShown → Items
+span_items spans = items_of (map span_data spans)
+
+-- an entry of the change log as JSON data
+abbrev pub entry_data : EntryShown → Data
+entry_data entry = object (member (codes "at") (string (text_of entry.at)) (member (codes "entity") (string entry.entity) (member (codes "kind") (string (word_of entry.kind)) (member (codes "number") (number (unsigned entry.number)) (member (codes "object") (string entry.object) (member (codes "seq") (number (unsigned entry.seq)) no_members))))))
+
+-- entries as an array's items
+abbrev pub entry_items : List EntryShown → Items
+entry_items entries = items_of (map entry_data entries)
+
 -- a query's answer as JSON data
 unfoldable pub answer_data : Answer → Data
 answer_data (answer.GroupGet display name) = object (member (codes "display") (string display) (member (codes "name") (string name) (member (codes "ok") (boolean true) no_members)))
@@ -61,6 +80,8 @@ answer_data (answer.Rows composite rows) = object (member (codes "composite") (f
 answer_data (answer.Groups groups) = object (member (codes "groups") (array (strings groups)) (member (codes "ok") (boolean true) no_members))
 answer_data (answer.Grants grants) = object (member (codes "grants") (array (grant_items grants)) (member (codes "ok") (boolean true) no_members))
 answer_data (answer.May privileges) = object (member (codes "ok") (boolean true) (member (codes "privileges") (array (strings (names_of privileges))) no_members))
+answer_data (answer.History history) = object (member (codes "history") (array (span_items history)) (member (codes "ok") (boolean true) no_members))
+answer_data (answer.Log entries last place) = object (member (codes "entries") (array (entry_items entries)) (member (codes "last") (number (unsigned last)) (member (codes "ok") (boolean true) (member (codes "place") (number (unsigned place)) no_members))))
 
 -- a reply as JSON data
 unfoldable pub reply_data : Reply → Data

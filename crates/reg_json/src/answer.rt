@@ -1,6 +1,6 @@
 // Answers to queries as JSON.
-ghost use Rattle.std.specs.Prelude.{◌≡◌, ◌++◌, ◌∷◌, [], OnOk, codes, true};
-ghost use Rattle.json.specs.Token.{key, boolean};
+ghost use Rattle.std.specs.Prelude.{◌≡◌, ◌++◌, ◌∷◌, [], OnOk, codes, decimal, true};
+ghost use Rattle.json.specs.Token.{key, boolean, number};
 ghost use Rattle.json.specs.Tree.{json_tokens};
 ghost use Rattle.serde_json.specs.Data.{array};
 ghost use Rattle.serde_json.specs.Written.{outline};
@@ -8,10 +8,12 @@ ghost use Rattle.reg_json.specs.Replies.{strings, answer_data};
 ghost use Rattle.reg_terms.specs.declared.query.Answer.TheVariants as answer;
 
 use crate::flat::{Scalar, put_object};
-use crate::shown::{put_factors, put_grants, put_privileges, put_rows};
+use crate::shown::{put_entries, put_factors, put_grants, put_privileges, put_rows, put_spans};
 use json::Writer;
 use reg_base::{Name, Text};
-use reg_terms::{Answer, FactorsShown, GrantsShown, Privileges, RowsShown, Texts};
+use reg_terms::{
+    Answer, EntriesShown, FactorsShown, GrantsShown, Privileges, RowsShown, SpansShown, Texts,
+};
 use std::alloc::AllocError;
 
 fn put_strings(out: &mut Writer, texts: &Texts) -> Result<(), AllocError>
@@ -139,6 +141,46 @@ fn put_may(out: &mut Writer, privileges: &Privileges) -> Result<(), AllocError>
     out.end_object()
 }
 
+#[tactic(auto, unfolding(crate::specs::Replies::answer_data))]
+fn put_history(out: &mut Writer, history: &SpansShown) -> Result<(), AllocError>
+    ensures ok { OnOk result (out.new.tokens ≡ out.old.tokens ++ json_tokens (outline (answer_data (answer.History history.now)))) }
+    ensures before { out.new.before ≡ out.old.before }
+{
+    out.begin_object()?;
+    out.key("history")?;
+    put_spans(out, history.list())?;
+    put_ok(out)?;
+    out.end_object()
+}
+
+/// A member that is a number.
+fn put_named_number(out: &mut Writer, name: &str, value: u64) -> Result<(), AllocError>
+    ensures ok { OnOk result (out.new.tokens ≡ out.old.tokens ++ key name.now ∷ (number (decimal value) ∷ [])) }
+    ensures before { out.new.before ≡ out.old.before }
+{
+    out.key(name)?;
+    out.u64(value)
+}
+
+#[tactic(auto, unfolding(crate::specs::Replies::answer_data))]
+fn put_log(
+    out: &mut Writer,
+    entries: &EntriesShown,
+    last: u64,
+    place: u64,
+) -> Result<(), AllocError>
+    ensures ok { OnOk result (out.new.tokens ≡ out.old.tokens ++ json_tokens (outline (answer_data (answer.Log entries.now last place)))) }
+    ensures before { out.new.before ≡ out.old.before }
+{
+    out.begin_object()?;
+    out.key("entries")?;
+    put_entries(out, entries.list())?;
+    put_named_number(out, "last", last)?;
+    put_ok(out)?;
+    put_named_number(out, "place", place)?;
+    out.end_object()
+}
+
 /// Writes what a query is answered. The only error is out of memory.
 pub fn put_answer(out: &mut Writer, answer: &Answer) -> Result<(), AllocError>
     ensures ok { OnOk result (out.new.tokens ≡ out.old.tokens ++ json_tokens (outline (answer_data answer.now))) }
@@ -157,5 +199,11 @@ pub fn put_answer(out: &mut Writer, answer: &Answer) -> Result<(), AllocError>
         Answer::Groups { groups } => put_groups(out, groups),
         Answer::Grants { grants } => put_granted(out, grants),
         Answer::May { privileges } => put_may(out, privileges),
+        Answer::History { history } => put_history(out, history),
+        Answer::Log {
+            entries,
+            last,
+            place,
+        } => put_log(out, entries, *last, *place),
     }
 }

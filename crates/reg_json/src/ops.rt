@@ -6,8 +6,8 @@ ghost use Rattle.reg_json.specs.Ops.{stands_at, form_at, all_stand, all_forms, f
 
 use crate::fault::{ReadFault, bad};
 use crate::fields::{
-    display_at, inherit_kind_at, no_other, optional_text_at, privilege_at, scope_at, set_op_at,
-    text_at,
+    Carrier, display_at, inherit_kind_at, no_other, number_at, optional_text_at, privilege_at,
+    scope_at, set_op_at, text_at,
 };
 use crate::forms::{entity_from, extension_from, folder_from, moment_from, name_from, object_from};
 use reg_base::Text;
@@ -49,6 +49,10 @@ fn stands_at(alloc: Global, value: &Value, key: &str, kind: FieldKind) -> Result
             Err(fault) => Err(fault),
         },
         FieldKind::Privilege => match privilege_at(alloc, value, key) {
+            Ok(_) => Ok(true),
+            Err(fault) => Err(fault),
+        },
+        FieldKind::Number { least, most } => match number_at(alloc, value, key, least, most) {
             Ok(_) => Ok(true),
             Err(fault) => Err(fault),
         },
@@ -110,6 +114,10 @@ fn form_at(alloc: Global, value: &Value, key: &str, kind: FieldKind) -> Result<F
             Ok(privilege) => Ok(Field::Privilege(privilege)),
             Err(fault) => Err(fault),
         },
+        FieldKind::Number { least, most } => match number_at(alloc, value, key, least, most) {
+            Ok(value) => Ok(Field::Number { value, least, most }),
+            Err(fault) => Err(fault),
+        },
     }
 }
 
@@ -158,22 +166,28 @@ fn all_forms(
 #[tactic(auto, unfolding(crate::specs::Ops::fields_in))]
 fn fields_in(
     alloc: Global,
+    carrier: Carrier,
     value: &Value,
     fields: &[(&'static str, FieldKind)],
 ) -> Result<VecDeque<Field>, ReadFault>
-    ensures { Gives (λ fs. fs.items) result (fields_in (map (λ f. (f.0.now, f.1)) fields.now) (view value.now)) }
+    ensures { Gives (λ fs. fs.items) result (fields_in carrier (map (λ f. (f.0.now, f.1)) fields.now) (view value.now)) }
 {
     all_stand(alloc, value, fields)?;
-    no_other(alloc, value, fields)?;
+    no_other(alloc, carrier, value, fields)?;
     all_forms(alloc, value, fields)
 }
 
 /// What an object asks whose op is of a kind.
 #[tactic(auto, unfolding(crate::specs::Ops::asked_in))]
-pub fn asked_in(alloc: Global, value: &Value, kind: OpKind) -> Result<Op, ReadFault>
-    ensures { Gives (λ o. o) result (asked_in kind (view value.now)) }
+pub fn asked_in(
+    alloc: Global,
+    carrier: Carrier,
+    value: &Value,
+    kind: OpKind,
+) -> Result<Op, ReadFault>
+    ensures { Gives (λ o. o) result (asked_in carrier kind (view value.now)) }
 {
-    let fields = fields_in(alloc, value, row_of(kind).fields)?;
+    let fields = fields_in(alloc, carrier, value, row_of(kind).fields)?;
     match made(kind, fields) {
         Some(op) => Ok(op),
         // no fields come here that make nothing, since each is of its kind

@@ -27,6 +27,7 @@ fn said(refusal: &Refusal) -> Said<'_>
             "Denied",
             Carried::Demand(object, privilege),
         ),
+        Refusal::Future { asked, clock } => Said::new(8, "Future", Carried::Moments(asked, clock)),
         Refusal::BadWindow => Said::new(9, "BadWindow", Carried::Nothing),
         Refusal::WrongKind { field } => Said::new(10, "WrongKind", Carried::Field(field)),
         Refusal::Taken { object } => Said::new(11, "Taken", Carried::Object(object)),
@@ -37,7 +38,15 @@ fn said(refusal: &Refusal) -> Said<'_>
         Refusal::Circular { object } => Said::new(16, "Circular", Carried::Object(object)),
         Refusal::InUse { used } => Said::new(17, "InUse", Carried::Use(used)),
         Refusal::NotEmpty => Said::new(18, "NotEmpty", Carried::Nothing),
+        Refusal::Place { kept, last } => Said::new(25, "Place", Carried::Places(*kept, *last)),
         Refusal::Full { kind, limit } => Said::new(26, "Full", Carried::Count(kind, *limit)),
+        Refusal::NoRoute => Said::new(30, "NoRoute", Carried::Nothing),
+        Refusal::NoMethod => Said::new(31, "NoMethod", Carried::Nothing),
+        Refusal::NoLength => Said::new(32, "NoLength", Carried::Nothing),
+        Refusal::Coding => Said::new(33, "Coding", Carried::Nothing),
+        Refusal::HeadTooLong => Said::new(34, "HeadTooLong", Carried::Nothing),
+        Refusal::NoCallerHeader => Said::new(35, "NoCallerHeader", Carried::Nothing),
+        Refusal::BadHead => Said::new(36, "BadHead", Carried::Nothing),
     }
 }
 

@@ -3,10 +3,10 @@ ghost use Rattle.std.specs.Prelude.{◌≡◌, IfOk};
 ghost use Rattle.serde_json.specs.View.{view};
 ghost use Rattle.reg_json.specs.Steps.{Gives};
 ghost use Rattle.reg_json.specs.Forms.{IsFormed};
-ghost use Rattle.reg_json.specs.Reading.{data_of, known_kind, request_in, reading_of};
+ghost use Rattle.reg_json.specs.Reading.{data_of, known_kind, request_in, reading_of, body_in, body_reading_of};
 
 use crate::fault::{ReadFault, bad};
-use crate::fields::text_at;
+use crate::fields::{Carrier, text_at};
 use crate::ops::asked_in;
 use reg_base::Bytes;
 use reg_terms::{MAX_LINE, OpKind, Refusal, Request, kind_named, law_ops};
@@ -57,7 +57,7 @@ fn request_in(alloc: Global, value: &Value) -> Result<Request, ReadFault>
     let kind = known_kind(alloc, word)?;
     let by = text_at(alloc, value, "by")?;
     let by = Bytes::of(alloc, by.as_bytes())?;
-    let op = asked_in(alloc, value, kind)?;
+    let op = asked_in(alloc, Carrier::Line, value, kind)?;
     Ok(Request { by, op })
 }
 
@@ -79,6 +79,45 @@ pub fn read_request(alloc: Global, line: &[u8]) -> Result<Result<Request, Refusa
 {
     law_ops();
     match reading_of(alloc, line) {
+        Ok(request) => Ok(Ok(request)),
+        Err(ReadFault::Refused(refusal)) => Ok(Err(refusal)),
+        Err(ReadFault::Memory) => Err(AllocError),
+    }
+}
+
+#[tactic(auto, unfolding(crate::specs::Reading::body_in))]
+fn body_in(alloc: Global, by: &[u8], value: &Value) -> Result<Request, ReadFault>
+    ensures { Gives (λ r. r) result (body_in by.now (view value.now)) }
+{
+    let word = text_at(alloc, value, "op")?;
+    let kind = known_kind(alloc, word)?;
+    let op = asked_in(alloc, Carrier::Body, value, kind)?;
+    let by = Bytes::of(alloc, by)?;
+    Ok(Request { by, op })
+}
+
+#[tactic(auto, unfolding(crate::specs::Reading::body_reading_of))]
+fn body_reading_of(alloc: Global, by: &[u8], body: &[u8]) -> Result<Request, ReadFault>
+    ensures { Gives (λ r. r) result (body_reading_of by.now body.now) }
+{
+    match data_of(alloc, body) {
+        Ok(value) => body_in(alloc, by, &value),
+        Err(fault) => Err(fault),
+    }
+}
+
+/// What a body asks for a caller of any bytes, or why it is refused. It is read as a line is, but the
+/// key `by` is one that no op knows. The only error is out of memory.
+pub fn read_body(
+    alloc: Global,
+    by: &[u8],
+    body: &[u8],
+) -> Result<Result<Request, Refusal>, AllocError>
+    ensures value { IfOk result (λ r. r ≡ body_reading_of by.now body.now) }
+    ensures form { IfOk result (λ r. IfOk r IsFormed) }
+{
+    law_ops();
+    match body_reading_of(alloc, by, body) {
         Ok(request) => Ok(Ok(request)),
         Err(ReadFault::Refused(refusal)) => Ok(Err(refusal)),
         Err(ReadFault::Memory) => Err(AllocError),

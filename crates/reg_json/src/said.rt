@@ -2,13 +2,14 @@
 ghost use Rattle.std.specs.Prelude.{◌≡◌, ◌++◌, OnOk};
 ghost use Rattle.json.specs.Tree.{json_tokens};
 ghost use Rattle.serde_json.specs.Written.{outline};
+ghost use Rattle.reg_base.specs.MomentText.{text_of};
 ghost use Rattle.reg_json.specs.Refusals.{refused};
 ghost use Rattle.reg_json.specs.Refusals as say;
 ghost use Rattle.reg_json.specs.Said.{carries, said_data};
 
 use crate::flat::{Scalar, put_object};
 use json::Writer;
-use reg_base::Text;
+use reg_base::{Moment, Text};
 use std::alloc::AllocError;
 
 /// What a refusal says: its number, its word and what it carries.
@@ -31,6 +32,10 @@ pub enum Carried<'a> {
     Use(&'a Text),
     /// A kind of which there would be more than its limit.
     Count(&'a Text, u64),
+    /// The moment that is asked of, and the clock's.
+    Moments(&'a Moment, &'a Moment),
+    /// The number that a consumer has, and the log's last.
+    Places(u64, u64),
 }
 
 impl<'a> Said<'a> {
@@ -145,6 +150,42 @@ fn put_count<'a>(
     put_object(out, &[code, kind, limit, word])
 }
 
+#[tactic(auto, unfolding(crate::specs::Refusals::refused))]
+fn put_moments(
+    out: &mut Writer,
+    code: u64,
+    word: &str,
+    asked: Moment,
+    clock: Moment,
+) -> Result<(), AllocError>
+    ensures ok { OnOk result (out.new.tokens ≡ out.old.tokens ++ json_tokens (outline (refused code word.now (say.moments (text_of asked) (text_of clock))))) }
+    ensures before { out.new.before ≡ out.old.before }
+{
+    let asked = ("asked", Scalar::Moment(Some(asked)));
+    let clock = ("clock", Scalar::Moment(Some(clock)));
+    let code = ("code", Scalar::Number(code));
+    let word = ("refused", Scalar::Text(word));
+    put_object(out, &[asked, clock, code, word])
+}
+
+#[tactic(auto, unfolding(crate::specs::Refusals::refused))]
+fn put_places(
+    out: &mut Writer,
+    code: u64,
+    word: &str,
+    kept: u64,
+    last: u64,
+) -> Result<(), AllocError>
+    ensures ok { OnOk result (out.new.tokens ≡ out.old.tokens ++ json_tokens (outline (refused code word.now (say.places kept last)))) }
+    ensures before { out.new.before ≡ out.old.before }
+{
+    let code = ("code", Scalar::Number(code));
+    let kept = ("kept", Scalar::Number(kept));
+    let last = ("last", Scalar::Number(last));
+    let word = ("refused", Scalar::Text(word));
+    put_object(out, &[code, kept, last, word])
+}
+
 /// Writes what a refusal says. The only error is out of memory.
 pub fn put_said(out: &mut Writer, said: &Said<'_>) -> Result<(), AllocError>
     ensures ok { OnOk result (out.new.tokens ≡ out.old.tokens ++ json_tokens (outline (said_data said.now))) }
@@ -165,5 +206,7 @@ pub fn put_said(out: &mut Writer, said: &Said<'_>) -> Result<(), AllocError>
         ),
         Carried::Use(used) => put_use(out, code, word, used.as_str()),
         Carried::Count(kind, limit) => put_count(out, code, word, kind.as_str(), *limit),
+        Carried::Moments(asked, clock) => put_moments(out, code, word, **asked, **clock),
+        Carried::Places(kept, last) => put_places(out, code, word, *kept, *last),
     }
 }

@@ -3,12 +3,12 @@ ghost use Rattle.std.specs.Prelude.{◌≡◌, ◌++◌, OnOk};
 ghost use Rattle.json.specs.Tree.{json_tokens};
 ghost use Rattle.serde_json.specs.Data.{array};
 ghost use Rattle.serde_json.specs.Written.{outline};
-ghost use Rattle.reg_json.specs.Replies.{kind_word, row_data, row_items, factors_data, grant_data, grant_items, names_of, strings};
+ghost use Rattle.reg_json.specs.Replies.{kind_word, row_data, row_items, factors_data, grant_data, grant_items, names_of, strings, span_data, span_items, entry_data, entry_items};
 
 use crate::flat::{Scalar, put_object};
 use json::Writer;
 use reg_base::Privilege;
-use reg_terms::{FactorsShown, GrantShown, RowShown, SetOp, privilege_name};
+use reg_terms::{EntryShown, FactorsShown, GrantShown, RowShown, SetOp, SpanShown, privilege_name};
 use std::alloc::AllocError;
 
 fn put_row(out: &mut Writer, row: &RowShown) -> Result<(), AllocError>
@@ -86,6 +86,53 @@ pub fn put_privileges(out: &mut Writer, privileges: &[Privilege]) -> Result<(), 
     out.begin_array()?;
     for privilege in privileges {
         out.string(privilege_name(*privilege))?;
+    }
+    out.end_array()
+}
+
+fn put_span(out: &mut Writer, span: &SpanShown) -> Result<(), AllocError>
+    ensures ok { OnOk result (out.new.tokens ≡ out.old.tokens ++ json_tokens (outline (span_data span.now))) }
+    ensures before { out.new.before ≡ out.old.before }
+{
+    let from = ("from", Scalar::Moment(Some(span.from)));
+    let subject = ("subject", Scalar::Text(span.subject.as_str()));
+    let to = ("to", Scalar::Moment(span.to));
+    put_object(out, &[from, subject, to])
+}
+
+/// Writes times in which persons were members as an array. The only error is out of memory.
+pub fn put_spans(out: &mut Writer, spans: &[SpanShown]) -> Result<(), AllocError>
+    ensures ok { OnOk result (out.new.tokens ≡ out.old.tokens ++ json_tokens (outline (array (span_items spans.now)))) }
+    ensures before { out.new.before ≡ out.old.before }
+{
+    out.begin_array()?;
+    for span in spans {
+        put_span(out, span)?;
+    }
+    out.end_array()
+}
+
+fn put_entry(out: &mut Writer, entry: &EntryShown) -> Result<(), AllocError>
+    ensures ok { OnOk result (out.new.tokens ≡ out.old.tokens ++ json_tokens (outline (entry_data entry.now))) }
+    ensures before { out.new.before ≡ out.old.before }
+{
+    let at = ("at", Scalar::Moment(Some(entry.at)));
+    let entity = ("entity", Scalar::Text(entry.entity.as_str()));
+    let kind = ("kind", Scalar::Text(entry.kind.word()));
+    let number = ("number", Scalar::Number(entry.number));
+    let object = ("object", Scalar::Text(entry.object.as_str()));
+    let seq = ("seq", Scalar::Number(entry.seq));
+    put_object(out, &[at, entity, kind, number, object, seq])
+}
+
+/// Writes entries of the change log as an array. The only error is out of memory.
+pub fn put_entries(out: &mut Writer, entries: &[EntryShown]) -> Result<(), AllocError>
+    ensures ok { OnOk result (out.new.tokens ≡ out.old.tokens ++ json_tokens (outline (array (entry_items entries.now)))) }
+    ensures before { out.new.before ≡ out.old.before }
+{
+    out.begin_array()?;
+    for entry in entries {
+        put_entry(out, entry)?;
     }
     out.end_array()
 }
