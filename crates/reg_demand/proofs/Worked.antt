@@ -6,7 +6,7 @@ use Rattle.reg_base.specs.declared.entity.Entity.{Entity}
 use Rattle.reg_base.specs.declared.entity.Entity.TheVariants as entity
 use Rattle.reg_base.specs.declared.privilege.Privilege.TheVariants as privilege
 use Rattle.reg_terms.specs.declared.command.Command.{Command}
-use Rattle.reg_terms.specs.declared.command.Command.TheVariants.{FolderAdd, FolderRename, FolderMove, GroupAdd, GroupRename, SubjectAdd, MemberAdd, MemberRemove, GrantAdd, GrantRemove, InheritAdd}
+use Rattle.reg_terms.specs.declared.command.Command.TheVariants.{FolderAdd, FolderRename, FolderMove, GroupAdd, GroupRename, SubjectAdd, MemberAdd, MemberRemove, GrantAdd, GrantRemove, InheritAdd, ConsumerAdd, ConsumerAck}
 use Rattle.reg_terms.specs.declared.kinds.InheritKind.TheVariants as kind
 use Rattle.reg_terms.specs.declared.kinds.Scope.TheVariants as scope
 use Rattle.reg_terms.specs.declared.refusal.Refusal.{Refusal}
@@ -107,6 +107,26 @@ root_has_no_parent = refl
 pub internal_is_for_root : of_bob folders (GrantAdd (codes "g:isa/GrouperAll") privilege.Read bob) ≡ Some (Denied (codes ":") (codes "ROOT"))
 unfolding folders bob ann events_of object_of entity_of resolve placed lies_in member extension_of folder_of
 internal_is_for_root = refl
+
+-- consumers of the change log are made and seen by root alone
+pub fed : Lists
+fed = after (ConsumerAdd (codes "feed") ∷ []) folders
+
+pub consumer_is_for_root : of_bob fed (ConsumerAdd (codes "more")) ≡ Some (Denied (codes ":") (codes "ROOT"))
+unfolding fed folders bob ann events_of object_of resolve placed lies_in member extension_of folder_of
+consumer_is_for_root = refl
+
+pub consumer_is_hidden : of_bob fed (ConsumerAck (codes "feed") 0) ≡ Some (NotFound (codes "feed"))
+unfolding fed folders bob ann events_of object_of resolve placed lies_in member extension_of folder_of
+consumer_is_hidden = refl
+
+pub root_finds_it : refused (live_of 0 fed.rows fed.composites) fed entity.System (ConsumerAck (codes "feed") 0) ≡ None
+unfolding fed folders bob ann events_of object_of resolve placed lies_in member extension_of folder_of
+root_finds_it = refl
+
+pub root_finds_no_other : refused (live_of 0 fed.rows fed.composites) fed entity.System (ConsumerAck (codes "none") 0) ≡ Some (NotFound (codes "none"))
+unfolding fed folders bob ann events_of object_of resolve placed lies_in member extension_of folder_of
+root_finds_no_other = refl
 
 -- who doesn't stand is told nothing
 pub no_caller : refused (live_of 0 folders.rows folders.composites) folders (entity.Person (codes "uni/eve")) (GroupRename (codes "none") (codes "x")) ≡ Some NoCaller

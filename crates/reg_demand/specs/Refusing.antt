@@ -6,13 +6,14 @@ use Rattle.reg_base.specs.declared.entity.Entity.TheVariants as entity
 use Rattle.reg_base.specs.declared.privilege.Privilege.TheVariants.{View}
 use Rattle.reg_terms.specs.Privileges.{line_of}
 use Rattle.reg_terms.specs.declared.command.Command.{Command}
-use Rattle.reg_terms.specs.declared.command.Command.TheVariants.{FolderAdd, FolderRename, FolderMove, FolderDelete, SubjectAdd, GroupAdd, GroupRename, GroupMove, GroupDelete, MemberAdd, MemberRemove, MemberWindow, CompositeSet, CompositeClear, GrantAdd, GrantRemove, InheritAdd, InheritRemove}
+use Rattle.reg_terms.specs.declared.command.Command.TheVariants.{FolderAdd, FolderRename, FolderMove, FolderDelete, SubjectAdd, GroupAdd, GroupRename, GroupMove, GroupDelete, MemberAdd, MemberRemove, MemberWindow, CompositeSet, CompositeClear, GrantAdd, GrantRemove, InheritAdd, InheritRemove, ConsumerAdd, ConsumerAck}
 use Rattle.reg_terms.specs.declared.kinds.Object.{Object}
 use Rattle.reg_terms.specs.declared.kinds.Object.TheVariants as object
 use Rattle.reg_terms.specs.declared.refusal.Refusal.{Refusal}
 use Rattle.reg_terms.specs.declared.refusal.Refusal.TheVariants.{NoCaller, NotFound, Denied}
 use Rattle.reg_terms.specs.declared.rows.GrantRow.{GrantRow}
 use Rattle.reg_terms.specs.declared.rows.InheritRow.{InheritRow}
+use Rattle.reg_facts.specs.Consumers.{consumer_place}
 use Rattle.reg_facts.specs.Edits.{the_id, member_of, has_member}
 use Rattle.reg_facts.specs.Grants.{has_grant, has_inherit, entity_object, object_of, grant_of, inherit_of}
 use Rattle.reg_facts.specs.Lists.{Lists}
@@ -109,6 +110,10 @@ abbrev pub inherit_stands : Option InheritRow → Lists → Bool
 inherit_stands None f = false
 inherit_stands (Some row) f = has_inherit row f.inherits
 
+-- no consumer of the change log has the name, or the caller isn't root, who alone sees them
+abbrev pub no_consumer : Live → Lists → Who → List ℕ → Check
+no_consumer L f c consumer = (not (is_root L f c && is_some (consumer_place consumer f.consumers)), NotFound consumer)
+
 -- what isn't found, by the fields of a command in order; for a new name it is its folder
 abbrev pub not_found : Live → Lists → Who → Command → List Check
 not_found L f c (FolderAdd folder display) = no_folder (home_of folder) f ∷ []
@@ -129,6 +134,8 @@ not_found L f c (GrantAdd object privilege holder) = no_object L f c object ∷ 
 not_found L f c (GrantRemove object privilege holder) = no_object L f c object ∷ no_entity_but (grant_stands (grant_of object privilege holder f) f) L f c holder ∷ []
 not_found L f c (InheritAdd folder kind scope privilege holder) = no_folder folder f ∷ no_entity L f c holder ∷ []
 not_found L f c (InheritRemove folder kind scope privilege holder) = no_folder folder f ∷ no_entity_but (inherit_stands (inherit_of folder kind scope privilege holder f) f) L f c holder ∷ []
+not_found L f c (ConsumerAdd consumer) = []
+not_found L f c (ConsumerAck consumer seq) = no_consumer L f c consumer ∷ []
 
 -- ---- both, and who may call
 

@@ -3,6 +3,7 @@ ghost use Rattle.std.specs.Prelude.{◌≡◌, IfOk};
 ghost use Rattle.reg_demand.specs.Refusing.{first_of, barred, refused};
 
 use crate::composites::{composite_clear, composite_set};
+use crate::consumers::consumer_ack;
 use crate::folders::{folder_delete, folder_move, folder_rename, new_object};
 use crate::grants::{grant_add, grant_remove};
 use crate::groups::{group_delete, group_move, group_rename};
@@ -92,6 +93,10 @@ pub fn barred<K: Kept>(
         } => inherit_remove(
             alloc, facts, kept, by, who, folder, *kind, *scope, *privilege, holder,
         ),
+        Command::ConsumerAdd { .. } => demand_root(alloc, facts, kept, who),
+        Command::ConsumerAck { consumer, seq } => {
+            consumer_ack(alloc, facts, kept, by, who, consumer, *seq)
+        }
     }
 }
 

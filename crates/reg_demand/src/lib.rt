@@ -4,6 +4,7 @@
 
 mod barring;
 mod composites;
+mod consumers;
 mod finding;
 mod folders;
 mod grants;
