@@ -1,4 +1,5 @@
-pub mod Keys
-pub mod Living
+pub mod Turning
+pub mod Consuming
 pub mod Stepping
 pub mod Worked
+pub mod Unnamed

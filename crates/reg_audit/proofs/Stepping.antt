@@ -2,31 +2,35 @@
 use Rattle.std.proofs.Common.{◌≡◌, ◌≤◌, ◌++◌, ℕ, List, [], ◌∷◌, Bool, true, false, Option, Some, None, map, filter_map, flat_map, nat_le, if◌then◌else◌, arith, refl, sym, ap, ◌∙◌, inl, inr, subst}
 use Rattle.std.proofs.lemmas.Bool.{cases_Bool, le-leb}
 use Rattle.std.proofs.lemmas.Bool.Decides.{nat_tests}
-use Rattle.std.proofs.lemmas.List.{append-nil, append-assoc}
+use Rattle.std.proofs.lemmas.List.{append-nil, append_assoc}
 use Rattle.std.specs.List.{cons_option}
 use Rattle.std.specs.Option.{option_or}
-use Rattle.reg_terms.specs.Kinds.{as_group}
+use Rattle.reg_terms.specs.Kinds.{as_group, same_object}
 use Rattle.reg_terms.specs.declared.kinds.Object.{Object}
+use Rattle.reg_facts.specs.Consumers.{consumer_place}
 use Rattle.reg_facts.specs.Lists.{Lists}
 use Rattle.reg_effect.specs.declared.live.Live.{Live}
 use Rattle.reg_effect.specs.Member.{member}
 use Rattle.reg_effect.specs.Turned.{after_turns, turns}
 use Rattle.reg_log.specs.declared.entries.Line.{Line}
+use Rattle.reg_log.specs.Places.{place_of}
 use Rattle.reg_pit.specs.Past.{was_member, NotedBy}
 use Rattle.reg_audit.specs.Audit.{IsAudit}
+use Rattle.reg_audit.specs.Consumers.{places_after}
 use Rattle.reg_audit.specs.Kept.{life_in, name_in, named_in}
 use Rattle.reg_audit.specs.Lines.{lines_of, log_of, turn_line}
 use Rattle.reg_audit.specs.Lives.{begun, ended, life_after, life_from, first_life, life_of, gone_from, leaving, all_gone, groups_of, gone_of, last_name, gone_name, named_or, last_named, gone_named}
 use Rattle.reg_audit.specs.Notes.{StepNotes, notes_of}
-use Rattle.reg_audit.specs.Steps.{Step, FollowsOn, last_by, last_of, moment_of, left_by, last_moment, last_live, live_by}
+use Rattle.reg_audit.specs.Steps.{Step, FollowsOn, consumers_of, consumers_by, last_by, last_of, moment_of, left_by, last_moment, last_live, live_by}
 use Rattle.reg_audit.specs.declared.audit.Audit.{Audit}
 use Rattle.reg_audit.specs.declared.gone.Gone.{Gone}
+use Rattle.reg_audit.proofs.Consuming.{all_events}
 
 -- ---- lists over one more step
 
 flat_more : {X A : Type 0} (f : X → List A) (xs : List X) (x : X) → flat_map f (xs ++ x ∷ []) ≡ flat_map f xs ++ f x
 flat_more f [] x = append-nil (f x)
-flat_more f (y ∷ ys) x = ap (λ rest. f y ++ rest) (flat_more f ys x) ∙ sym (append-assoc (f y) (flat_map f ys) (f x))
+flat_more f (y ∷ ys) x = ap (λ rest. f y ++ rest) (flat_more f ys x) ∙ sym (append_assoc (f y) (flat_map f ys) (f x))
 
 pub log_more : (steps : List Step) (step : Step) → log_of (steps ++ step ∷ []) ≡ log_of steps ++ lines_of step
 unfolding log_of
@@ -45,9 +49,9 @@ groups_more (x ∷ xs) ys = cons_more (as_group (Some x.object)) (groups_of (xs 
 
 -- ---- lives
 
-pub life_more : (life : Option (ℕ × Option ℕ)) (o : Object) (steps : List Step) (step : Step) → life_from life o (steps ++ step ∷ []) ≡ life_after step o (life_from life o steps)
-life_more life o [] step = refl
-life_more life o (s ∷ ss) step = life_more (life_after s o life) o ss step
+pub life_more : (o : Object) (steps : List Step) (step : Step) (life : Option (ℕ × Option ℕ)) → life_from life o (steps ++ step ∷ []) ≡ life_after step o (life_from life o steps)
+life_more o [] step life = refl
+life_more o (s ∷ ss) step life = life_more o ss step (life_after s o life)
 
 objects_leaving : (before : Lists) (objects : List Object) → map (λ (g : Gone). g.object) (map (gone_from before) objects) ≡ objects
 objects_leaving before [] = refl
@@ -55,13 +59,13 @@ objects_leaving before (o ∷ os) = ap (λ rest. o ∷ rest) (objects_leaving be
 
 -- ---- names
 
-pub name_more : (o : Object) (known : Option (List ℕ)) (xs ys : List Gone) → last_name o known (xs ++ ys) ≡ last_name o (last_name o known xs) ys
-name_more o known [] ys = refl
-name_more o known (x ∷ xs) ys = name_more o _ xs ys
+pub name_more : (o : Object) (xs ys : List Gone) (known : Option (List ℕ)) → last_name o known (xs ++ ys) ≡ last_name o (last_name o known xs) ys
+name_more o [] ys known = refl
+name_more o (x ∷ xs) ys known = name_more o xs ys (if same_object x.object o then Some x.name else known)
 
-pub named_more : (name : List ℕ) (known : Option ℕ) (xs ys : List Gone) → last_named name known (xs ++ ys) ≡ last_named name (last_named name known xs) ys
-named_more name known [] ys = refl
-named_more name known (x ∷ xs) ys = named_more name (named_or name known x) xs ys
+pub named_more : (name : List ℕ) (xs ys : List Gone) (known : Option ℕ) → last_named name known (xs ++ ys) ≡ last_named name (last_named name known xs) ys
+named_more name [] ys known = refl
+named_more name (x ∷ xs) ys known = named_more name xs ys (named_or name known x)
 
 -- ---- the last step
 
@@ -83,7 +87,7 @@ all_seen t [] h = refl
 all_seen t (s ∷ []) h = let y : nat_le s.at t ≡ true = grind (arith, nat_tests, h) in rw y refl
 all_seen t (s ∷ u ∷ us) h =
     let r = some_last u us in
-    let later : last_moment (u ∷ us) ≤ t = rw r.1 at h in
+    let later : last_moment (u ∷ us) ≤ t = rw r.1 (rw r.1 at h) in
     let rest : last_by t (u ∷ us) ≡ Some r.0 = all_seen t (u ∷ us) later ∙ r.1 in
     rw (rest, r.1) refl
 
@@ -109,6 +113,13 @@ member_more steps step audit new turned t g s h f e law noted = elim (cases_Bool
       noted ∙ (rw n (h.members t g s)) ∙ ap (λ (o : Option Step). member (left_by o) g s) (sym last)
 ]
 
+-- ---- consumers
+
+places_more : (steps : List Step) (step : Step) (name : List ℕ) → FollowsOn steps step → places_after name (consumer_place name (consumers_by steps)) (notes_of step.at step.before step.events).consumers ≡ consumer_place name (consumers_by (steps ++ step ∷ []))
+places_more steps step name f =
+    let last : consumers_by (steps ++ step ∷ []) ≡ step.after.consumers = ap consumers_of (last_more steps step) in
+    sym (ap (consumer_place name) (last ∙ f.consumers_after) ∙ (all_events name step.events step.before ∙ ap (λ rows. places_after name (consumer_place name rows) (notes_of step.at step.before step.events).consumers) f.consumers))
+
 -- ---- all of it
 
 -- an audit after a step, by what was noted
@@ -118,6 +129,7 @@ pub record Noted (notes : StepNotes) (turned : List (ℕ × ℕ × Bool)) (old n
   pub names : (o : Object) → name_in new.records.departed o ≡ last_name o (name_in old.records.departed o) notes.gone
   pub named : (name : List ℕ) → named_in new.records.departed name ≡ last_named name (named_in old.records.departed name) notes.gone
   pub groups : new.records.departed.groups.items ≡ old.records.departed.groups.items ++ groups_of notes.gone
+  pub places : (name : List ℕ) → place_of new.records.places name ≡ places_after name (place_of old.records.places name) notes.consumers
   pub members : (g s t : ℕ) → was_member new.past g s t ≡ (if nat_le notes.at t then after_turns turned g s (was_member old.past g s t) else was_member old.past g s t)
   pub last : NotedBy notes.at new.past
 
@@ -126,10 +138,11 @@ pub audit_more : (old new : Audit) (turned : List (ℕ × ℕ × Bool)) (steps :
 unfolding life_of gone_of gone_name gone_named
 audit_more old new turned steps step law h f e n = record {
   log = n.log ∙ rw (h.log, e) (sym (log_more steps step));
-  lives = λ o. n.lives o ∙ rw (h.lives o, objects_leaving step.before _) (sym (life_more (first_life o) o steps step));
+  lives = λ o. n.lives o ∙ rw (h.lives o, objects_leaving step.before _) (sym (life_more o steps step (first_life o)));
   gone = n.groups ∙ rw h.gone (sym (ap groups_of (gone_more steps step) ∙ groups_more (all_gone steps) (leaving step.before step.events)));
-  names = λ o. n.names o ∙ rw (h.names o) (sym (ap (λ xs. last_name o None xs) (gone_more steps step) ∙ name_more o None (all_gone steps) (leaving step.before step.events)));
-  named = λ name. n.named name ∙ rw (h.named name) (sym (ap (λ xs. last_named name None xs) (gone_more steps step) ∙ named_more name None (all_gone steps) (leaving step.before step.events)));
+  names = λ o. n.names o ∙ rw (h.names o) (sym (ap (λ xs. last_name o None xs) (gone_more steps step) ∙ name_more o (all_gone steps) (leaving step.before step.events) None));
+  named = λ name. n.named name ∙ rw (h.named name) (sym (ap (λ xs. last_named name None xs) (gone_more steps step) ∙ named_more name (all_gone steps) (leaving step.before step.events) None));
+  places = λ name. n.places name ∙ rw (h.places name) (places_more steps step name f);
   members = λ t g s. member_more steps step old new turned t g s h f e law (n.members g s t);
   noted = rw (last_more steps step) n.last;
 }

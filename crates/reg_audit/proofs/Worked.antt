@@ -19,30 +19,30 @@ use Rattle.reg_audit.specs.Lives.{life_of, gone_of, gone_name, gone_named}
 use Rattle.reg_audit.specs.Steps.{Step}
 
 -- a step of these events, which leads from live data to live data
-step : ℕ → Lists → List Event → Live → Live → Step
+pub step : ℕ → Lists → List Event → Live → Live → Step
 step at before events live live_after = record { at = at; before = before; events = events; after = all_happened events before; live = live; live_after = live_after }
 
 -- ann (1) is in the group staff (1)
-with_ann : Live
+pub with_ann : Live
 with_ann = record { rows = (1, Person 1) ∷ []; composites = [] }
 
-ann : List Event
+pub ann : List Event
 ann = SubjectMade (record { id = 1; text = codes "isa/ann"; display = [] }) ∷ []
 
-staff : List Event
+pub staff : List Event
 staff = GroupMade (record { id = 1; folder = 0; extension = codes "staff"; display = [] }) ∷ []
 
-row_comes : List Event
+pub row_comes : List Event
 row_comes = RowAdded (record { group = 1; member = Person 1; from = 5; until = None }) ∷ []
 
-row_goes : List Event
+pub row_goes : List Event
 row_goes = RowRemoved 1 (Person 1) ∷ []
 
-with_staff : Lists
+pub with_staff : Lists
 with_staff = all_happened (ann ++ staff) start
 
 -- all at the moment 5
-at_one_moment : List Step
+pub at_one_moment : List Step
 at_one_moment =
     step 5 start ann nothing nothing
     ∷ step 5 (all_happened ann start) staff nothing nothing
@@ -56,10 +56,10 @@ unfolding log_of turns member at_one_moment step ann staff row_comes row_goes wi
 told_each_time = refl
 
 -- the group goes at 7, and its row with it
-group_goes : List Event
+pub group_goes : List Event
 group_goes = RowRemoved 1 (Person 1) ∷ GroupGone 1 ∷ []
 
-deleted : List Step
+pub deleted : List Step
 deleted = step 5 (all_happened ann start) staff nothing nothing ∷ step 7 (all_happened row_comes with_staff) group_goes with_ann nothing ∷ []
 
 -- of the deletion only what goes itself is told, and the membership that ends

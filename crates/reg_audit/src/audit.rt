@@ -93,7 +93,7 @@ impl Audit {
     pub fn life(&self, object: Object) -> Option<(Moment, Option<Moment>)>
         ensures { (steps : List Step) → IsAudit steps self.now → result ≡ life_of object steps }
     {
-        self.records.lives.life(object)
+        self.records.lives.life(&object)
     }
 
     /// The groups that are gone, in the order in which they went. Takes no memory.

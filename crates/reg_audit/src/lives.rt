@@ -29,6 +29,13 @@ fn first_life(object: &Object) -> Option<(Moment, Option<Moment>)>
     }
 }
 
+/// The life of an object that was made at a moment and went at another.
+fn life_until(made: Moment, gone: Moment) -> (Moment, Option<Moment>)
+    ensures { result ≡ (made, Some gone) }
+{
+    (made, Some(gone))
+}
+
 impl Lives {
     /// Nothing was made but the root. Takes no memory.
     pub(crate) fn start(alloc: Global) -> Lives
@@ -40,10 +47,17 @@ impl Lives {
     }
 
     /// When the object was made and when it went, if it was ever made. Takes no memory.
-    pub(crate) fn life(&self, object: Object) -> Option<(Moment, Option<Moment>)>
-        ensures { result ≡ life_in self.now object }
+    pub(crate) fn life(&self, object: &Object) -> Option<(Moment, Option<Moment>)>
+        ensures { result ≡ life_in self.now object.now }
     {
-        self.lives.get(&object).copied().or(first_life(&object))
+        self.lives.get(object).copied().or(first_life(object))
+    }
+
+    /// When the object was made, if it was. Takes no memory.
+    fn made(&self, object: &Object) -> Option<Moment>
+        ensures { result ≡ option_map (λ l. l.0) (life_in self.now object.now) }
+    {
+        self.life(object).map(|life| life.0)
     }
 
     /// The object is made at a moment.
@@ -58,8 +72,8 @@ impl Lives {
     fn end(&mut self, object: Object, at: Moment) -> Result<(), AllocError>
         ensures { OnOk result ((o : Object) → life_in self.new o ≡ (if same_object object o then option_map (λ l. (l.0, Some at)) (life_in self.old o) else life_in self.old o)) }
     {
-        if let Some((made, _)) = self.life(object) {
-            self.lives.insert(object, (made, Some(at)))?;
+        if let Some(made) = self.made(&object) {
+            self.lives.insert(object, life_until(made, at))?;
         }
         Ok(())
     }

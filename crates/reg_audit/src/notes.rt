@@ -108,10 +108,17 @@ fn direct_lines(alloc: Global, at: Moment, events: &[Event]) -> Result<Vec<Line>
 fn made_by(alloc: Global, events: &[Event]) -> Result<Vec<Object>, AllocError>
     ensures { IfOk result (λ made. made.items ≡ made_by events.now) }
 {
-    events.iter().filter_map(object_made).collect(alloc)
+    let mut made = Vec::new(alloc);
+    for event in events {
+        if let Some(object) = object_made(event) {
+            made.push(object)?;
+        }
+    }
+    Ok(made)
 }
 
 /// The name of an object; `:` for what has no name.
+#[tactic(auto, using(crate::proofs::Unnamed::named_where, crate::proofs::Unnamed::colon_else))]
 fn name_before(alloc: Global, facts: &Facts, object: &Object) -> Result<Text, AllocError>
     ensures { IfOk result (λ text. text ≡ name_of object.now facts.now) }
 {

@@ -1,0 +1,22 @@
+use Rattle.std.proofs.Common.{◌≡◌, ap, subst}
+use Rattle.reg_audit.specs.Notes.{StepNotes}
+use Rattle.reg_audit.specs.declared.audit.Audit.{Audit}
+use Rattle.reg_audit.proofs.Stepping.{Noted, audit_more}
+use Rattle.reg_audit.proofs.audit.Audit.note.Goals as goal
+
+-- what the step changes and turns is all that is added
+pub returns : goal.returns
+returns c steps step h f e t =
+    let same : c.notes.inside.at ≡ c.args.notes.at = ap (λ (n : StepNotes). n.at) c.notes.view_is in
+    let new : Audit = record { records = c.note.new.self; past = c.in_ok-past.past } in
+    let noted : Noted c.args.notes c.args.turned.now c.args.self new = record {
+      log = c.in_ok-note.ensures.log;
+      lives = c.in_ok-note.ensures.lives;
+      names = c.in_ok-note.ensures.names;
+      named = c.in_ok-note.ensures.named;
+      groups = c.in_ok-note.ensures.groups;
+      places = c.in_ok-note.ensures.places;
+      members = rw same at c.in_ok-past.ensures.noted;
+      last = rw same at c.in_ok-past.ensures.last;
+    } in
+    audit_more c.args.self new c.args.turned.now steps step c.law_turns.ensures h f t (subst (λ (n : StepNotes). Noted n c.args.turned.now c.args.self new) e noted)
