@@ -1,10 +1,9 @@
 -- What one step more leaves.
-use Rattle.std.proofs.Common.{◌≡◌, ◌≤◌, ◌++◌, ℕ, List, [], ◌∷◌, Bool, true, false, Option, Some, None, map, filter_map, flat_map, nat_le, if◌then◌else◌, arith, refl, sym, ap, ◌∙◌, inl, inr, subst}
-use Rattle.std.proofs.lemmas.Bool.{cases_Bool, le-leb}
+use Rattle.std.proofs.Common.{◌≡◌, ◌≤◌, ◌++◌, ℕ, List, [], ◌∷◌, Bool, true, Option, Some, None, map, flat_map, nat_le, if◌then◌else◌, arith, refl, sym, ap, ◌∙◌, inl, inr}
+use Rattle.std.proofs.lemmas.Bool.{cases_Bool}
 use Rattle.std.proofs.lemmas.Bool.Decides.{nat_tests}
 use Rattle.std.proofs.lemmas.List.{append-nil, append_assoc}
 use Rattle.std.specs.List.{cons_option}
-use Rattle.std.specs.Option.{option_or}
 use Rattle.reg_terms.specs.Kinds.{as_group, same_object}
 use Rattle.reg_terms.specs.declared.kinds.Object.{Object}
 use Rattle.reg_facts.specs.Consumers.{consumer_place}
@@ -12,7 +11,6 @@ use Rattle.reg_facts.specs.Lists.{Lists}
 use Rattle.reg_effect.specs.declared.live.Live.{Live}
 use Rattle.reg_effect.specs.Member.{member}
 use Rattle.reg_effect.specs.Turned.{after_turns, turns}
-use Rattle.reg_log.specs.declared.entries.Line.{Line}
 use Rattle.reg_log.specs.Places.{place_of}
 use Rattle.reg_pit.specs.Past.{was_member, NotedBy}
 use Rattle.reg_audit.specs.Audit.{IsAudit}
@@ -21,7 +19,7 @@ use Rattle.reg_audit.specs.Kept.{life_in, name_in, named_in}
 use Rattle.reg_audit.specs.Lines.{lines_of, log_of, turn_line}
 use Rattle.reg_audit.specs.Lives.{begun, ended, life_after, life_from, first_life, life_of, gone_from, leaving, all_gone, groups_of, gone_of, last_name, gone_name, named_or, last_named, gone_named}
 use Rattle.reg_audit.specs.Notes.{StepNotes, notes_of}
-use Rattle.reg_audit.specs.Steps.{Step, FollowsOn, consumers_of, consumers_by, last_by, last_of, moment_of, left_by, last_moment, last_live, live_by}
+use Rattle.reg_audit.specs.Steps.{Step, FollowsOn, consumers_of, consumers_by, last_by, last_of, left_by, last_moment, live_by}
 use Rattle.reg_audit.specs.declared.audit.Audit.{Audit}
 use Rattle.reg_audit.specs.declared.gone.Gone.{Gone}
 use Rattle.reg_audit.proofs.Consuming.{all_events}
