@@ -1,0 +1,73 @@
+-- What the program's words ask for. The first word names a command; the words behind it are read as those of one simple
+-- command: positional words in order, options as `--at T` or `--at=T` in any place, each at most once.
+use Rattle.std.specs.Prelude.{List, [], ◌∷◌, Bool, true, false, Option, Some, None, codes, if◌then◌else◌, option_map}
+use Rattle.std.specs.Str.{bytes_eq}
+use Rattle.clap.specs.Words.{App, Kinds, Row, Rule, Text, fault_of, first_of, matches_of, new_app, new_rule, with_rule}
+use Rattle.clap.specs.Simple.{on_top}
+use Rattle.clap.specs.declared.builder.action.ArgAction.TheVariants.{Set}
+use Rattle.reg_words.specs.declared.task.Question.TheVariants as question
+use Rattle.reg_words.specs.declared.task.Task.{Task}
+use Rattle.reg_words.specs.declared.task.Task.TheVariants as task
+
+-- a positional word, which has to be given
+abbrev pub word_rule : Text → Rule
+word_rule id = record (new_rule id) { required = true; action = Some Set }
+
+-- an option with a value
+abbrev pub option_rule : Text → Rule
+option_rule id = record (new_rule id) { long = Some id; action = Some Set }
+
+-- a command that takes no words, those for help included
+abbrev pub bare : Text → App
+bare name = on_top (λ s. record s { disable_help_flag = true }) (new_app name)
+
+-- the command with a positional word more
+abbrev pub with_word : Text → App → App
+with_word id app = with_rule app (word_rule id)
+
+-- the command with an option more
+abbrev pub with_option : Text → App → App
+with_option id app = with_rule app (option_rule id)
+
+-- `members NAME [--at T]`
+abbrev pub members : App
+members = with_option (codes "at") (with_word (codes "name") (bare (codes "members")))
+
+-- `history NAME`
+abbrev pub history : App
+history = with_word (codes "name") (bare (codes "history"))
+
+-- what `members` asks, by what it found
+abbrev pub members_in : List Row → Option Task
+members_in rows = option_map (λ name. task.Ask (question.Members name (first_of (codes "at") rows))) (first_of (codes "name") rows)
+
+-- what `history` asks
+abbrev pub history_in : List Row → Option Task
+history_in rows = option_map (λ name. task.Ask (question.History name)) (first_of (codes "name") rows)
+
+abbrev pub is_none : Kinds → Bool
+is_none [] = true
+is_none (k ∷ ks) = false
+
+-- what a command makes of the words, where it takes them
+unfoldable pub read_by : App → (List Row → Option Task) → List Text → Option Task
+read_by app asked words = if is_none (fault_of app words) then asked (matches_of app words) else None
+
+-- a command that takes no words behind its own
+abbrev pub read_bare : Text → Task → List Text → Option Task
+read_bare name task = read_by (bare name) (λ rows. Some task)
+
+-- what the words ask for, by the command that the first names
+abbrev pub task_by : Text → List Text → Option Task
+task_by word words =
+    if bytes_eq word (codes "init") then read_bare (codes "init") task.Init words
+    else (if bytes_eq word (codes "apply") then read_bare (codes "apply") task.Apply words
+    else (if bytes_eq word (codes "check") then read_bare (codes "check") task.Check words
+    else (if bytes_eq word (codes "members") then read_by members members_in words
+    else (if bytes_eq word (codes "history") then read_by history history_in words
+    else None))))
+
+-- what the words ask for
+abbrev pub task_of : List Text → Option Task
+task_of [] = None
+task_of (word ∷ words) = task_by word (word ∷ words)

@@ -1,0 +1,9 @@
+//! The words of the program: the first names a command, and that command reads the words behind it.
+#![tactic(auto)]
+
+mod commands;
+mod task;
+mod words;
+
+pub use task::{Question, Task};
+pub use words::task_of;

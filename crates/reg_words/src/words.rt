@@ -1,0 +1,94 @@
+// From the words to what they ask for.
+ghost use Rattle.std.specs.Prelude.{◌≡◌, IfOk, map, string_bytes};
+ghost use Rattle.clap.specs.Words.{found_of, rows_of};
+ghost use Rattle.reg_words.specs.Words.{history, history_in, members, members_in, read_bare, read_by, task_by, task_of};
+
+use crate::commands::{bare, found, history, members, value};
+use crate::task::{Question, Task};
+use clap::ArgMatches;
+use std::alloc::{AllocError, Global};
+
+/// Reads the words of a command that takes none behind its own.
+fn read_bare(
+    alloc: Global,
+    name: &str,
+    task: Task,
+    words: &[String],
+) -> Result<Option<Task>, AllocError>
+    ensures { IfOk result (λ asked. asked ≡ read_bare name.now task (map string_bytes words.now)) }
+{
+    let command = bare(alloc, name);
+    match found(command, words)? {
+        Some(_) => Ok(Some(task)),
+        None => Ok(None),
+    }
+}
+
+/// What `members` asks, by what it found.
+fn members_in(alloc: Global, matches: &ArgMatches) -> Result<Option<Task>, AllocError>
+    ensures { IfOk result (λ asked. asked ≡ members_in (rows_of (found_of matches.now))) }
+{
+    let Some(name) = value(alloc, matches, "name")? else {
+        return Ok(None);
+    };
+    let at = value(alloc, matches, "at")?;
+    Ok(Some(Task::Ask(Question::Members { name, at })))
+}
+
+/// What `history` asks.
+fn history_in(alloc: Global, matches: &ArgMatches) -> Result<Option<Task>, AllocError>
+    ensures { IfOk result (λ asked. asked ≡ history_in (rows_of (found_of matches.now))) }
+{
+    let Some(name) = value(alloc, matches, "name")? else {
+        return Ok(None);
+    };
+    Ok(Some(Task::Ask(Question::History { name })))
+}
+
+/// Reads the words of `members NAME [--at T]`.
+fn read_members(alloc: Global, words: &[String]) -> Result<Option<Task>, AllocError>
+    ensures { IfOk result (λ asked. asked ≡ read_by members members_in (map string_bytes words.now)) }
+{
+    let command = members(alloc)?;
+    match found(command, words)? {
+        Some(matches) => members_in(alloc, &matches),
+        None => Ok(None),
+    }
+}
+
+/// Reads the words of `history NAME`.
+fn read_history(alloc: Global, words: &[String]) -> Result<Option<Task>, AllocError>
+    ensures { IfOk result (λ asked. asked ≡ read_by history history_in (map string_bytes words.now)) }
+{
+    let command = history(alloc)?;
+    match found(command, words)? {
+        Some(matches) => history_in(alloc, &matches),
+        None => Ok(None),
+    }
+}
+
+/// Reads the words of the command of this name.
+fn task_by(alloc: Global, word: &str, words: &[String]) -> Result<Option<Task>, AllocError>
+    ensures { IfOk result (λ asked. asked ≡ task_by word.now (map string_bytes words.now)) }
+{
+    match word {
+        "init" => read_bare(alloc, "init", Task::Init, words),
+        "apply" => read_bare(alloc, "apply", Task::Apply, words),
+        "check" => read_bare(alloc, "check", Task::Check, words),
+        "members" => read_members(alloc, words),
+        "history" => read_history(alloc, words),
+        _ => Ok(None),
+    }
+}
+
+/// What the words ask for: the first names a command (`docs/REQUESTS.md`, "The program"), and the
+/// words behind it are that command's. None where they are none of the program's; the only error
+/// is out of memory.
+pub fn task_of(alloc: Global, words: &[String]) -> Result<Option<Task>, AllocError>
+    ensures { IfOk result (λ asked. asked ≡ task_of (map string_bytes words.now)) }
+{
+    match words {
+        [word, ..] => task_by(alloc, word.as_str(), words),
+        [] => Ok(None),
+    }
+}
