@@ -4,4 +4,7 @@ pub mod Parents
 pub mod Placed
 pub mod Ordering
 pub mod Gathering
+pub mod Homes
+pub mod Untouched
+pub mod Below
 pub mod Worked

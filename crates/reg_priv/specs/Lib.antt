@@ -4,3 +4,4 @@ pub mod Callers
 pub mod Lending
 pub mod Holders
 pub mod Filling
+pub mod Touched

@@ -7,8 +7,10 @@ mod gathered;
 mod granting;
 mod holding;
 mod judging;
+mod touched;
 mod who;
 
 pub use holding::holders;
 pub use judging::{is_root, is_visible, may, privileges_of};
+pub use touched::{law_untouched, touched_objects};
 pub use who::{Who, who_of};

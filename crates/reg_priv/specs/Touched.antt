@@ -1,0 +1,37 @@
+-- Which objects' grants, direct and inherited, an event may change.
+use Rattle.std.specs.Prelude.{◌||◌, ℕ, zero, suc, List, Bool, false, Option, None, Some}
+use Rattle.std.specs.List.{list_any}
+use Rattle.reg_terms.specs.declared.event.Event.{Event}
+use Rattle.reg_terms.specs.declared.event.Event.TheVariants.{FolderMade, FolderMoved, FolderGone, GroupMade, GroupMoved, GroupGone, GrantAdded, GrantRemoved, InheritAdded, InheritRemoved}
+use Rattle.reg_terms.specs.declared.kinds.Object.{Object}
+use Rattle.reg_terms.specs.declared.kinds.Object.TheVariants.{Folder, Group}
+use Rattle.reg_terms.specs.declared.kinds.Scope.TheVariants.{Sub}
+use Rattle.reg_terms.specs.Kinds.{same_object}
+use Rattle.reg_facts.specs.Lists.{Lists}
+use Rattle.reg_facts.specs.Naming.{Placed, lies_in}
+use Rattle.reg_names.specs.Scopes.{in_scope}
+use Rattle.reg_priv.specs.Grants.{reaches}
+
+-- whether an event, at the facts before it, may change the grants on an object: what is made, moved or goes, what gets or loses a grant, what an inherit that is added or removed reaches, and all below a folder that is moved
+abbrev pub touched : Event → Lists → Object → Bool
+touched (FolderMade row) f o = same_object (Folder row.id) o
+touched (FolderMoved id to) f o = same_object (Folder id) o || in_scope id Sub o f
+touched (FolderGone id) f o = same_object (Folder id) o
+touched (GroupMade row) f o = same_object (Group row.id) o
+touched (GroupMoved id to) f o = same_object (Group id) o
+touched (GroupGone id) f o = same_object (Group id) o
+touched (GrantAdded row) f o = same_object row.object o
+touched (GrantRemoved row) f o = same_object row.object o
+touched (InheritAdded row) f o = reaches o f row
+touched (InheritRemoved row) f o = reaches o f row
+touched _ f o = false
+
+-- whether an object is among some
+abbrev pub is_listed : Object → List Object → Bool
+is_listed o objects = list_any (λ (other : Object). same_object other o) objects
+
+-- whether a place is below a folder by so many levels at most: in it by one, in a folder in it by two
+abbrev pub place_below : ℕ → ℕ → Option Placed → Lists → Bool
+place_below zero d place f = false
+place_below (suc n) d None f = false
+place_below (suc n) d (Some p) f = lies_in n p.folder d f.folders
