@@ -9,12 +9,18 @@ mod flat;
 mod forms;
 mod laws;
 mod ops;
+mod read_back;
 mod refusal;
 mod reply;
 mod request;
 mod said;
 mod shown;
+mod taken_answer;
+mod taken_refusal;
+mod taken_shown;
+mod taking;
 
 pub use laws::{law_any_order_of_keys, law_long_is_refused, law_read_is_formed};
+pub use read_back::read_reply;
 pub use reply::{append_line, append_reply, no_memory_line, write_reply};
 pub use request::{read_body, read_request};

@@ -1,0 +1,459 @@
+-- What is written for a reply is taken apart as that reply.
+use Rattle.std.proofs.Common.{◌≡◌, ℕ, ◌≤◌, Bool, true, ◌&&◌, List, [], ◌∷◌, map, codes, Option, Some, None, refl, sym, ap, ◌∙◌, arith, lit≤, option_map, Result, Ok, Err, IfOk}
+use Rattle.std.specs.List.{list_all}
+use Rattle.std.proofs.lemmas.Bool.{and_parts, leb-true}
+use Rattle.std.proofs.lemmas.Option.{same_Some}
+use Rattle.std.proofs.lemmas.Str.{is_utf8-from_IsUtf8}
+use Rattle.serde_json.specs.Data.{Data, string, array, depth, items_depth}
+use Rattle.serde_json.specs.Find.{get, as_str}
+use Rattle.serde_json.specs.Read.{read}
+use Rattle.serde_json.specs.View.{items_of}
+use Rattle.reg_base.specs.Names.{is_name}
+use Rattle.reg_base.specs.MomentText.{text_of}
+use Rattle.reg_base.proofs.Texts.{text_of_reads}
+use Rattle.reg_base.specs.declared.privilege.Privilege.{Privilege}
+use Rattle.reg_base.specs.declared.privilege.Privilege.TheVariants.{Admin, Update, Read, View, Optin, Optout, GroupAttrRead, GroupAttrUpdate, StemAdmin, Create, StemAttrRead, StemAttrUpdate, AttrAdmin, AttrUpdate, AttrRead, AttrView}
+use Rattle.reg_terms.specs.Forms.{is_moment, is_optional_moment}
+use Rattle.reg_terms.specs.Privileges.{line_of, privilege_named}
+use Rattle.reg_terms.specs.EntryWords.{word_of, kind_worded}
+use Rattle.reg_terms.specs.declared.entry_kinds.EntryKind.{EntryKind}
+use Rattle.reg_terms.specs.declared.entry_kinds.EntryKind.TheVariants as entry
+use Rattle.reg_terms.specs.declared.kinds.SetOp.{SetOp}
+use Rattle.reg_terms.specs.declared.kinds.SetOp.TheVariants.{Intersection, Complement}
+use Rattle.reg_terms.specs.declared.shown.FactorsShown.{FactorsShown}
+use Rattle.reg_terms.specs.declared.shown.GrantShown.{GrantShown}
+use Rattle.reg_terms.specs.declared.shown.RowShown.{RowShown}
+use Rattle.reg_terms.specs.declared.changes_shown.SpanShown.{SpanShown}
+use Rattle.reg_terms.specs.declared.changes_shown.EntryShown.{EntryShown}
+use Rattle.reg_terms.specs.declared.query.Answer.{Answer}
+use Rattle.reg_terms.specs.declared.query.Answer.TheVariants as answer
+use Rattle.reg_terms.specs.declared.refusal.Refusal.{Refusal}
+use Rattle.reg_terms.specs.declared.refusal.Refusal.TheVariants as refusal
+use Rattle.reg_terms.specs.declared.reply.Reply.{Reply}
+use Rattle.reg_terms.specs.declared.reply.Reply.TheVariants as reply
+use Rattle.reg_json.specs.Fields.{composite_kind}
+use Rattle.reg_json.specs.Flat.{moment_data}
+use Rattle.reg_json.specs.Refusals.{refusal_data, refused}
+use Rattle.reg_json.specs.Replies.{strings, row_data, row_items, kind_word, factors_data, grant_data, names_of, span_data, entry_data, answer_data, reply_data, text}
+use Rattle.reg_json.specs.Taking.{has, text_in, name_in, number_in, moment_in, moment_or_null, optional_moment_in, items_in, all_of, texts_in, row_from, kind_in, factors_from, factors_or_null, privilege_from, grant_from, span_from, entry_kind_in, entry_from, group_from, listing_from, members_from, memberships_from, groups_from, grants_from, may_from, history_from, log_from, list_from, answer_from, bare_refusal, http_refusal, field_refusal, object_refusal, denied_from, future_from, place_from, full_from, limit_from, named_from, with_object, with_field, with_nothing, other_refusal, refusal_from, fault_from, reply_from, reply_of}
+use Rattle.reg_json.specs.Writable.{is_u64, row_fits, span_fits, entry_fits, answer_fits, refusal_fits, reply_fits, IsWritable}
+use Rattle.reg_json.proofs.Plain.{is_plain, are_plain, plain_read, all_plain, all_flat}
+
+-- ---- what stands under a key
+
+name_there : (key : List ℕ) (d : Data) (name : List ℕ) → get key d ≡ Some (string name) → is_name name ≡ true → name_in key d ≡ Some name
+unfolding name_in text_in
+name_there key d name there good = rw (there, good) refl
+
+moment_there : (key : List ℕ) (d : Data) (moment : ℕ) → get key d ≡ Some (string (text_of moment)) → is_moment moment ≡ true → moment_in key d ≡ Some moment
+unfolding moment_in text_in
+moment_there key d moment there good = rw there (text_of_reads moment (leb-true _ _ good))
+
+null_or : (moment : Option ℕ) → is_optional_moment moment ≡ true → moment_or_null (moment_data moment) ≡ Some moment
+unfolding moment_or_null
+null_or None good = refl
+null_or (Some moment) good = rw (text_of_reads moment (leb-true _ _ good)) refl
+
+optional_there : (key : List ℕ) (d : Data) (moment : Option ℕ) → get key d ≡ Some (moment_data moment) → is_optional_moment moment ≡ true → optional_moment_in key d ≡ Some moment
+unfolding optional_moment_in
+optional_there key d moment there good = rw there (null_or moment good)
+
+-- ---- arrays
+
+all_again : {A : Type 0} (write : A → Data) (take_one : Data → Option A) (fits : A → Bool) → ((x : A) → fits x ≡ true → take_one (write x) ≡ Some x) → (xs : List A) → list_all fits xs ≡ true → all_of take_one (items_of (map write xs)) ≡ Some xs
+all_again write take_one fits one [] h = refl
+all_again write take_one fits one (x ∷ xs) h =
+    let both = and_parts (fits x) (list_all fits xs) h in
+    rw (one x both.0, all_again write take_one fits one xs both.1) refl
+
+abbrev any : {A : Type 0} → A → Bool
+any x = true
+
+all_any : {A : Type 0} (xs : List A) → list_all any xs ≡ true
+all_any [] = refl
+all_any (x ∷ xs) = all_any xs
+
+strings_again : (texts : List (List ℕ)) → all_of as_str (strings texts) ≡ Some texts
+strings_again texts = all_again string as_str any (λ x h. refl) texts (all_any texts)
+
+texts_there : (key : List ℕ) (d : Data) (texts : List (List ℕ)) → get key d ≡ Some (array (strings texts)) → texts_in key d ≡ Some texts
+unfolding texts_in items_in
+texts_there key d texts there = rw there (strings_again texts)
+
+-- ---- what queries show
+
+row_again : (row : RowShown) → row_fits row ≡ true → row_from (row_data row) ≡ Some row
+unfolding row_from text_in
+row_again row h =
+    let both = and_parts (is_moment row.from) (is_optional_moment row.until) h in
+    rw (moment_there (codes "from") (row_data row) row.from refl both.0, optional_there (codes "until") (row_data row) row.until refl both.1) refl
+
+rows_again : (rows : List RowShown) → list_all row_fits rows ≡ true → all_of row_from (row_items rows) ≡ Some rows
+rows_again rows h = all_again row_data row_from row_fits row_again rows h
+
+word_again : (kind : SetOp) → composite_kind (kind_word kind) ≡ Some kind
+word_again Intersection = refl
+word_again Complement = refl
+
+factors_again : (factors : FactorsShown) → factors_from (factors_data (Some factors)) ≡ Some factors
+unfolding factors_from kind_in text_in
+factors_again factors = rw (word_again factors.kind) refl
+
+composite_again : (composite : Option FactorsShown) → factors_or_null (factors_data composite) ≡ Some composite
+unfolding factors_or_null
+composite_again None = refl
+composite_again (Some factors) = ap (option_map (λ f. Some f)) (factors_again factors)
+
+named_again : (p : Privilege) → privilege_named (line_of p).name ≡ Some p
+unfolding privilege_named
+named_again Admin = refl
+named_again Update = refl
+named_again Read = refl
+named_again View = refl
+named_again Optin = refl
+named_again Optout = refl
+named_again GroupAttrRead = refl
+named_again GroupAttrUpdate = refl
+named_again StemAdmin = refl
+named_again Create = refl
+named_again StemAttrRead = refl
+named_again StemAttrUpdate = refl
+named_again AttrAdmin = refl
+named_again AttrUpdate = refl
+named_again AttrRead = refl
+named_again AttrView = refl
+
+privilege_again : (p : Privilege) → privilege_from (string (line_of p).name) ≡ Some p
+unfolding privilege_from
+privilege_again p = named_again p
+
+grant_again : (grant : GrantShown) → grant_from (grant_data grant) ≡ Some grant
+unfolding grant_from text_in
+grant_again grant = rw (privilege_again grant.privilege) refl
+
+span_again : (span : SpanShown) → span_fits span ≡ true → span_from (span_data span) ≡ Some span
+unfolding span_from text_in
+span_again span h =
+    let both = and_parts (is_moment span.from) (is_optional_moment span.to) h in
+    rw (moment_there (codes "from") (span_data span) span.from refl both.0, optional_there (codes "to") (span_data span) span.to refl both.1) refl
+
+worded_again : (k : EntryKind) → kind_worded (word_of k) ≡ Some k
+unfolding kind_worded
+worded_again entry.FolderAdd = refl
+worded_again entry.FolderRename = refl
+worded_again entry.FolderMove = refl
+worded_again entry.FolderDelete = refl
+worded_again entry.SubjectAdd = refl
+worded_again entry.GroupAdd = refl
+worded_again entry.GroupRename = refl
+worded_again entry.GroupMove = refl
+worded_again entry.GroupDelete = refl
+worded_again entry.RowAdd = refl
+worded_again entry.RowRemove = refl
+worded_again entry.RowWindow = refl
+worded_again entry.CompositeSet = refl
+worded_again entry.CompositeClear = refl
+worded_again entry.GrantAdd = refl
+worded_again entry.GrantRemove = refl
+worded_again entry.InheritAdd = refl
+worded_again entry.InheritRemove = refl
+worded_again entry.DefinitionAdd = refl
+worded_again entry.DefinitionDelete = refl
+worded_again entry.AttributeAdd = refl
+worded_again entry.AttributeDelete = refl
+worded_again entry.AssignAdd = refl
+worded_again entry.AssignRemove = refl
+worded_again entry.ValueAdd = refl
+worded_again entry.ValueRemove = refl
+worded_again entry.RuleAdd = refl
+worded_again entry.RuleDelete = refl
+worded_again entry.JobAdd = refl
+worded_again entry.JobDelete = refl
+worded_again entry.MemberBegin = refl
+worded_again entry.MemberEnd = refl
+
+entry_again : (e : EntryShown) → entry_fits e ≡ true → entry_from (entry_data e) ≡ Some e
+unfolding entry_from entry_kind_in number_in text_in
+entry_again e h = rw (moment_there (codes "at") (entry_data e) e.at refl (and_parts (is_moment e.at) (is_u64 e.number && is_u64 e.seq) h).0, worded_again e.kind) refl
+
+-- ---- answers
+
+names_again : (privileges : List Privilege) → all_of privilege_from (strings (names_of privileges)) ≡ Some privileges
+names_again [] = refl
+names_again (p ∷ ps) = rw (privilege_again p, names_again ps) refl
+
+answer_again : (a : Answer) → answer_fits a ≡ true → answer_from (answer_data a) ≡ Some a
+unfolding answer_from list_from has answer_data group_from listing_from members_from memberships_from groups_from grants_from may_from history_from log_from items_in number_in text_in
+answer_again (answer.GroupGet display name) h = rw (name_there (codes "name") (answer_data (answer.GroupGet display name)) name refl h) refl
+answer_again (answer.FolderList attributes definitions folders groups) h =
+    let d = answer_data (answer.FolderList attributes definitions folders groups) in
+    rw (texts_there (codes "attributes") d attributes refl, texts_there (codes "definitions") d definitions refl, texts_there (codes "folders") d folders refl, texts_there (codes "groups") d groups refl) refl
+answer_again (answer.Members texts) h = rw (texts_there (codes "members") (answer_data (answer.Members texts)) texts refl) refl
+answer_again (answer.Rows composite rows) h = rw (composite_again composite, rows_again rows h) refl
+answer_again (answer.Groups groups) h = rw (texts_there (codes "groups") (answer_data (answer.Groups groups)) groups refl) refl
+answer_again (answer.Grants grants) h = rw (all_again grant_data grant_from any (λ g _. grant_again g) grants (all_any grants)) refl
+answer_again (answer.May privileges) h = rw (names_again privileges) refl
+answer_again (answer.History history) h = rw (all_again span_data span_from span_fits span_again history h) refl
+answer_again (answer.Log entries last place) h = rw (all_again entry_data entry_from entry_fits entry_again entries (and_parts (list_all entry_fits entries) (is_u64 last && is_u64 place) h).0) refl
+
+-- ---- refusals
+
+refusal_again : (r : Refusal) → refusal_fits r ≡ true → refusal_from (refusal_data r) ≡ Some r
+unfolding refusal_from refusal_data refused has number_in text_in with_field field_refusal with_object named_from object_refusal denied_from other_refusal limit_from full_from future_from place_from with_nothing bare_refusal http_refusal
+refusal_again (refusal.Future asked clock) h =
+    let both = and_parts (is_moment asked) (is_moment clock) h in
+    let d = refusal_data (refusal.Future asked clock) in
+    rw (moment_there (codes "asked") d asked refl both.0, moment_there (codes "clock") d clock refl both.1) refl
+refusal_again (refusal.TooLong limit) h = refl
+refusal_again (refusal.BadRequest field) h = refl
+refusal_again (refusal.BadName field) h = refl
+refusal_again (refusal.BadMoment field) h = refl
+refusal_again refusal.NoCaller h = refl
+refusal_again (refusal.NotFound name) h = refl
+refusal_again (refusal.Denied name privilege) h = refl
+refusal_again refusal.BadWindow h = refl
+refusal_again (refusal.WrongKind field) h = refl
+refusal_again (refusal.Taken name) h = refl
+refusal_again refusal.Already h = refl
+refusal_again refusal.NoSuch h = refl
+refusal_again (refusal.IsComposite name) h = refl
+refusal_again refusal.HasMembers h = refl
+refusal_again (refusal.Circular name) h = refl
+refusal_again (refusal.InUse used) h = refl
+refusal_again refusal.NotEmpty h = refl
+refusal_again (refusal.Place kept last) h = refl
+refusal_again (refusal.Full kind limit) h = refl
+refusal_again refusal.NoRoute h = refl
+refusal_again refusal.NoMethod h = refl
+refusal_again refusal.NoLength h = refl
+refusal_again refusal.Coding h = refl
+refusal_again refusal.HeadTooLong h = refl
+refusal_again refusal.NoCallerHeader h = refl
+refusal_again refusal.BadHead h = refl
+
+-- ---- replies
+
+fault_again : (r : Refusal) → reply_from (refusal_data r) ≡ option_map (λ v. reply.Refused v) (refusal_from (refusal_data r))
+unfolding reply_from has refusal_data refused
+fault_again (refusal.Future asked clock) = refl
+fault_again (refusal.TooLong limit) = refl
+fault_again (refusal.BadRequest field) = refl
+fault_again (refusal.BadName field) = refl
+fault_again (refusal.BadMoment field) = refl
+fault_again refusal.NoCaller = refl
+fault_again (refusal.NotFound name) = refl
+fault_again (refusal.Denied name privilege) = refl
+fault_again refusal.BadWindow = refl
+fault_again (refusal.WrongKind field) = refl
+fault_again (refusal.Taken name) = refl
+fault_again refusal.Already = refl
+fault_again refusal.NoSuch = refl
+fault_again (refusal.IsComposite name) = refl
+fault_again refusal.HasMembers = refl
+fault_again (refusal.Circular name) = refl
+fault_again (refusal.InUse used) = refl
+fault_again refusal.NotEmpty = refl
+fault_again (refusal.Place kept last) = refl
+fault_again (refusal.Full kind limit) = refl
+fault_again refusal.NoRoute = refl
+fault_again refusal.NoMethod = refl
+fault_again refusal.NoLength = refl
+fault_again refusal.Coding = refl
+fault_again refusal.HeadTooLong = refl
+fault_again refusal.NoCallerHeader = refl
+fault_again refusal.BadHead = refl
+
+answer_goes : (a : Answer) → reply_from (answer_data a) ≡ option_map (λ v. reply.Answer v) (answer_from (answer_data a))
+unfolding reply_from has answer_data
+answer_goes (answer.GroupGet display name) = refl
+answer_goes (answer.FolderList attributes definitions folders groups) = refl
+answer_goes (answer.Members members) = refl
+answer_goes (answer.Rows composite rows) = refl
+answer_goes (answer.Groups groups) = refl
+answer_goes (answer.Grants grants) = refl
+answer_goes (answer.May privileges) = refl
+answer_goes (answer.History history) = refl
+answer_goes (answer.Log entries last place) = refl
+
+number_again : (n : ℕ) → reply_from (reply_data (reply.Number n)) ≡ Some (reply.Number n)
+unfolding reply_from reply_data has number_in
+number_again n = refl
+
+memory_again : reply_from (reply_data reply.NoMemory) ≡ Some reply.NoMemory
+unfolding reply_from reply_data has fault_from text_in
+memory_again = refl
+
+disk_again : reply_from (reply_data reply.KeepFault) ≡ Some reply.KeepFault
+unfolding reply_from reply_data has fault_from text_in
+disk_again = refl
+
+reply_again : (r : Reply) → reply_fits r ≡ true → reply_from (reply_data r) ≡ Some r
+unfolding reply_data
+reply_again (reply.Number n) h = number_again n
+reply_again (reply.Answer a) h = answer_goes a ∙ ap (option_map (λ v. reply.Answer v)) (answer_again a h)
+reply_again (reply.Refused r) h = fault_again r ∙ ap (option_map (λ v. reply.Refused v)) (refusal_again r h)
+reply_again reply.NoMemory h = memory_again
+reply_again reply.KeepFault h = disk_again
+
+-- ---- what is written is plain
+
+moment_plain : (moment : Option ℕ) → is_plain (moment_data moment) ≡ true
+moment_plain None = refl
+moment_plain (Some moment) = refl
+
+moment_flat : (moment : Option ℕ) → depth (moment_data moment) ≤ 0
+moment_flat None = lit≤ tt
+moment_flat (Some moment) = lit≤ tt
+
+factors_plain : (factors : Option FactorsShown) → is_plain (factors_data factors) ≡ true
+factors_plain None = refl
+factors_plain (Some factors) = refl
+
+factors_flat : (factors : Option FactorsShown) → depth (factors_data factors) ≤ 1
+factors_flat None = lit≤ tt
+factors_flat (Some factors) = lit≤ tt
+
+row_plain : (row : RowShown) → is_plain (row_data row) ≡ true
+row_plain row = rw (moment_plain row.until) refl
+
+row_flat : (row : RowShown) → depth (row_data row) ≤ 1
+row_flat row = omega (arith, moment_flat row.until)
+
+span_plain : (span : SpanShown) → is_plain (span_data span) ≡ true
+span_plain span = rw (moment_plain span.to) refl
+
+span_flat : (span : SpanShown) → depth (span_data span) ≤ 1
+span_flat span = omega (arith, moment_flat span.to)
+
+entry_plain : (e : EntryShown) → entry_fits e ≡ true → is_plain (entry_data e) ≡ true
+entry_plain e h =
+    let numbers = and_parts (is_u64 e.number) (is_u64 e.seq) (and_parts (is_moment e.at) (is_u64 e.number && is_u64 e.seq) h).1 in
+    rw (numbers.0, numbers.1) refl
+
+strings_plain : (texts : List (List ℕ)) → are_plain (strings texts) ≡ true
+strings_plain texts = all_plain string any (λ x h. refl) texts (all_any texts)
+
+strings_flat : (texts : List (List ℕ)) → items_depth (strings texts) ≤ 1
+strings_flat texts = all_flat string (λ x. lit≤ tt) texts
+
+answer_plain : (a : Answer) → answer_fits a ≡ true → is_plain (answer_data a) ≡ true
+unfolding answer_data
+answer_plain (answer.GroupGet display name) h = refl
+answer_plain (answer.FolderList attributes definitions folders groups) h = rw (strings_plain attributes, strings_plain definitions, strings_plain folders, strings_plain groups) refl
+answer_plain (answer.Members texts) h = rw (strings_plain texts) refl
+answer_plain (answer.Rows composite rows) h = rw (factors_plain composite, all_plain row_data row_fits (λ row _. row_plain row) rows h) refl
+answer_plain (answer.Groups groups) h = rw (strings_plain groups) refl
+answer_plain (answer.Grants grants) h = rw (all_plain grant_data any (λ g _. refl) grants (all_any grants)) refl
+answer_plain (answer.May privileges) h = rw (strings_plain (names_of privileges)) refl
+answer_plain (answer.History history) h = rw (all_plain span_data span_fits (λ span _. span_plain span) history h) refl
+answer_plain (answer.Log entries last place) h =
+    let both = and_parts (list_all entry_fits entries) (is_u64 last && is_u64 place) h in
+    let numbers = and_parts (is_u64 last) (is_u64 place) both.1 in
+    rw (all_plain entry_data entry_fits entry_plain entries both.0, numbers.0, numbers.1) refl
+
+answer_flat : (a : Answer) → depth (answer_data a) ≤ 127
+unfolding answer_data
+answer_flat (answer.GroupGet display name) = lit≤ tt
+answer_flat (answer.FolderList attributes definitions folders groups) = omega (arith, strings_flat attributes, strings_flat definitions, strings_flat folders, strings_flat groups)
+answer_flat (answer.Members texts) = omega (arith, strings_flat texts)
+answer_flat (answer.Rows composite rows) = omega (arith, factors_flat composite, all_flat row_data row_flat rows)
+answer_flat (answer.Groups groups) = omega (arith, strings_flat groups)
+answer_flat (answer.Grants grants) = omega (arith, all_flat grant_data (λ g. lit≤ tt) grants)
+answer_flat (answer.May privileges) = omega (arith, strings_flat (names_of privileges))
+answer_flat (answer.History history) = omega (arith, all_flat span_data span_flat history)
+answer_flat (answer.Log entries last place) = omega (arith, all_flat entry_data (λ e. lit≤ tt) entries)
+
+refusal_plain : (r : Refusal) → refusal_fits r ≡ true → is_plain (refusal_data r) ≡ true
+unfolding refusal_data refused
+refusal_plain (refusal.TooLong limit) h = rw h refl
+refusal_plain (refusal.Place kept last) h =
+    let both = and_parts (is_u64 kept) (is_u64 last) h in
+    rw (both.0, both.1) refl
+refusal_plain (refusal.Full kind limit) h = rw h refl
+refusal_plain (refusal.Future asked clock) h = refl
+refusal_plain (refusal.BadRequest field) h = refl
+refusal_plain (refusal.BadName field) h = refl
+refusal_plain (refusal.BadMoment field) h = refl
+refusal_plain refusal.NoCaller h = refl
+refusal_plain (refusal.NotFound name) h = refl
+refusal_plain (refusal.Denied name privilege) h = refl
+refusal_plain refusal.BadWindow h = refl
+refusal_plain (refusal.WrongKind field) h = refl
+refusal_plain (refusal.Taken name) h = refl
+refusal_plain refusal.Already h = refl
+refusal_plain refusal.NoSuch h = refl
+refusal_plain (refusal.IsComposite name) h = refl
+refusal_plain refusal.HasMembers h = refl
+refusal_plain (refusal.Circular name) h = refl
+refusal_plain (refusal.InUse used) h = refl
+refusal_plain refusal.NotEmpty h = refl
+refusal_plain refusal.NoRoute h = refl
+refusal_plain refusal.NoMethod h = refl
+refusal_plain refusal.NoLength h = refl
+refusal_plain refusal.Coding h = refl
+refusal_plain refusal.HeadTooLong h = refl
+refusal_plain refusal.NoCallerHeader h = refl
+refusal_plain refusal.BadHead h = refl
+
+refusal_flat : (r : Refusal) → depth (refusal_data r) ≤ 127
+unfolding refusal_data refused
+refusal_flat (refusal.Future asked clock) = lit≤ tt
+refusal_flat (refusal.TooLong limit) = lit≤ tt
+refusal_flat (refusal.BadRequest field) = lit≤ tt
+refusal_flat (refusal.BadName field) = lit≤ tt
+refusal_flat (refusal.BadMoment field) = lit≤ tt
+refusal_flat refusal.NoCaller = lit≤ tt
+refusal_flat (refusal.NotFound name) = lit≤ tt
+refusal_flat (refusal.Denied name privilege) = lit≤ tt
+refusal_flat refusal.BadWindow = lit≤ tt
+refusal_flat (refusal.WrongKind field) = lit≤ tt
+refusal_flat (refusal.Taken name) = lit≤ tt
+refusal_flat refusal.Already = lit≤ tt
+refusal_flat refusal.NoSuch = lit≤ tt
+refusal_flat (refusal.IsComposite name) = lit≤ tt
+refusal_flat refusal.HasMembers = lit≤ tt
+refusal_flat (refusal.Circular name) = lit≤ tt
+refusal_flat (refusal.InUse used) = lit≤ tt
+refusal_flat refusal.NotEmpty = lit≤ tt
+refusal_flat (refusal.Place kept last) = lit≤ tt
+refusal_flat (refusal.Full kind limit) = lit≤ tt
+refusal_flat refusal.NoRoute = lit≤ tt
+refusal_flat refusal.NoMethod = lit≤ tt
+refusal_flat refusal.NoLength = lit≤ tt
+refusal_flat refusal.Coding = lit≤ tt
+refusal_flat refusal.HeadTooLong = lit≤ tt
+refusal_flat refusal.NoCallerHeader = lit≤ tt
+refusal_flat refusal.BadHead = lit≤ tt
+
+reply_plain : (r : Reply) → reply_fits r ≡ true → is_plain (reply_data r) ≡ true
+unfolding reply_data
+reply_plain (reply.Number n) h = rw h refl
+reply_plain (reply.Answer a) h = answer_plain a h
+reply_plain (reply.Refused r) h = refusal_plain r h
+reply_plain reply.NoMemory h = refl
+reply_plain reply.KeepFault h = refl
+
+reply_flat : (r : Reply) → depth (reply_data r) ≤ 127
+unfolding reply_data
+reply_flat (reply.Number n) = lit≤ tt
+reply_flat (reply.Answer a) = answer_flat a
+reply_flat (reply.Refused r) = refusal_flat r
+reply_flat reply.NoMemory = lit≤ tt
+reply_flat reply.KeepFault = lit≤ tt
+
+-- ---- the text of a reply is read as that reply
+
+pub reads_back : (r : Reply) → IsWritable r → reply_of (text r) ≡ Some r
+unfolding text reply_of
+reads_back r w = rw (is_utf8-from_IsUtf8 (text r) w.utf8, plain_read (reply_data r) (reply_plain r w.fits) (reply_flat r)) (reply_again r w.fits)
+
+-- so what was found whose text this is, is the one reply that has it
+pub exact_found : {E : Type 0} (bytes : List ℕ) (r : Reply) (result : Result (Option Reply) E) → reply_of bytes ≡ Some r → IfOk result (λ found. text r ≡ bytes → found ≡ Some r) → IfOk result (λ found. (s : Reply) → IsWritable s → text s ≡ bytes → found ≡ Some s)
+exact_found bytes r (Err e) read h = tt
+exact_found bytes r (Ok found) read h = λ s w e.
+    let same : r ≡ s = same_Some r s (sym read ∙ ap reply_of (sym e) ∙ reads_back s w) in
+    h (ap text same ∙ e) ∙ ap (λ (t : Reply). Some t) same
+
+-- and where nothing was found no reply has that text
+pub exact_none : (bytes : List ℕ) → reply_of bytes ≡ None → (s : Reply) → IsWritable s → text s ≡ bytes → None ≡ Some s
+exact_none bytes read s w e = sym read ∙ ap reply_of (sym e) ∙ reads_back s w

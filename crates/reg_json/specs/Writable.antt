@@ -1,0 +1,60 @@
+-- Which replies have a text: all that the program can hold.
+use Rattle.std.specs.Prelude.{◌≡◌, ℕ, Bool, true, ◌&&◌, nat_lt}
+use Rattle.std.specs.List.{list_all}
+use Rattle.std.specs.Str.{IsUtf8}
+use Rattle.reg_base.specs.Names.{is_name}
+use Rattle.reg_terms.specs.Forms.{is_moment, is_optional_moment}
+use Rattle.reg_terms.specs.declared.shown.RowShown.{RowShown}
+use Rattle.reg_terms.specs.declared.changes_shown.SpanShown.{SpanShown}
+use Rattle.reg_terms.specs.declared.changes_shown.EntryShown.{EntryShown}
+use Rattle.reg_terms.specs.declared.query.Answer.{Answer}
+use Rattle.reg_terms.specs.declared.query.Answer.TheVariants as answer
+use Rattle.reg_terms.specs.declared.refusal.Refusal.{Refusal}
+use Rattle.reg_terms.specs.declared.refusal.Refusal.TheVariants as refusal
+use Rattle.reg_terms.specs.declared.reply.Reply.{Reply}
+use Rattle.reg_terms.specs.declared.reply.Reply.TheVariants as reply
+use Rattle.reg_json.specs.Replies.{text}
+
+-- a number of 64 bits
+abbrev pub is_u64 : ℕ → Bool
+is_u64 n = nat_lt n 18446744073709551616
+
+-- the moments of a membership are at most the greatest
+abbrev pub row_fits : RowShown → Bool
+row_fits row = is_moment row.from && is_optional_moment row.until
+
+-- and those of a time in which a person was a member
+abbrev pub span_fits : SpanShown → Bool
+span_fits span = is_moment span.from && is_optional_moment span.to
+
+-- and that of an entry, whose numbers have 64 bits
+abbrev pub entry_fits : EntryShown → Bool
+entry_fits entry = is_moment entry.at && (is_u64 entry.number && is_u64 entry.seq)
+
+-- the names, moments and numbers of an answer have their forms
+abbrev pub answer_fits : Answer → Bool
+answer_fits (answer.GroupGet display name) = is_name name
+answer_fits (answer.Rows composite rows) = list_all row_fits rows
+answer_fits (answer.History history) = list_all span_fits history
+answer_fits (answer.Log entries last place) = list_all entry_fits entries && (is_u64 last && is_u64 place)
+answer_fits _ = true
+
+-- and those of a refusal
+abbrev pub refusal_fits : Refusal → Bool
+refusal_fits (refusal.TooLong limit) = is_u64 limit
+refusal_fits (refusal.Future asked clock) = is_moment asked && is_moment clock
+refusal_fits (refusal.Place kept last) = is_u64 kept && is_u64 last
+refusal_fits (refusal.Full kind limit) = is_u64 limit
+refusal_fits _ = true
+
+-- and those of a reply
+abbrev pub reply_fits : Reply → Bool
+reply_fits (reply.Number number) = is_u64 number
+reply_fits (reply.Answer a) = answer_fits a
+reply_fits (reply.Refused r) = refusal_fits r
+reply_fits _ = true
+
+-- a reply that the program can hold: its parts have their forms, and its text is UTF-8
+pub record IsWritable (reply : Reply) : Type 0 where
+  pub fits : reply_fits reply ≡ true
+  pub utf8 : IsUtf8 (text reply)
