@@ -1,10 +1,15 @@
 -- Data taken apart: arrays item by item, and what a text is as data.
-use Rattle.std.proofs.Common.{◌≡◌, ℕ, List, [], ◌∷◌, ◌++◌, Option, Some, None, true, false, refl, sym, ap, append_assoc, append-nil, option_map, option_and_then, cond}
+use Rattle.std.proofs.Common.{◌≡◌, ℕ, List, [], ◌∷◌, ◌++◌, Option, Some, None, true, false, refl, sym, ap, append_assoc, append-nil, option_map, option_and_then, cond, Bool, IfSome, ◌∙◌}
+use Rattle.std.specs.Str.{bytes_eq}
+use Rattle.std.proofs.lemmas.Bool.{false≢true}
+use Rattle.std.proofs.lemmas.Slice.Eq.{bytes_eq-Decides}
 use Rattle.std.specs.Str.{IsUtf8, is_utf8}
 use Rattle.std.proofs.lemmas.Str.{IsUtf8-from_is_utf8, is_utf8-from_IsUtf8}
 use Rattle.serde_json.specs.Data.{Data, Items, no_items, item}
 use Rattle.serde_json.specs.Read.{read}
 use Rattle.reg_terms.specs.Parts.{◌>>=◌}
+use Rattle.reg_terms.specs.declared.reply.Reply.{Reply}
+use Rattle.reg_json.specs.Replies.{text}
 use Rattle.reg_json.specs.Taking.{all_of, reply_from, reply_of}
 
 -- what was taken, and those behind it
@@ -47,3 +52,12 @@ text_isnt text none =
     ] refl
 
 pub ruleset text_lemmas = (text_is, text_isnt)
+
+-- what is kept where two texts are the same has that text, and is kept where it has it
+pub kept_same : (r : Reply) (bytes : List ℕ) (same : Bool) → same ≡ bytes_eq (text r) bytes → IfSome (cond same (Some r) None) (λ s. text s ≡ bytes)
+kept_same r bytes true h = (bytes_eq-Decides (text r) bytes).0 (sym h)
+kept_same r bytes false h = tt
+
+pub kept_exact : (r : Reply) (bytes : List ℕ) (same : Bool) → same ≡ bytes_eq (text r) bytes → text r ≡ bytes → cond same (Some r) None ≡ Some r
+kept_exact r bytes true h e = refl
+kept_exact r bytes false h e = absurd (false≢true (h ∙ (bytes_eq-Decides (text r) bytes).1 e))

@@ -1,5 +1,6 @@
 // Replies, read back from their texts.
-ghost use Rattle.std.specs.Prelude.{◌≡◌, Some, IfOk, IfSome};
+ghost use Rattle.std.specs.Prelude.{◌≡◌, Some, None, IfOk, IfSome, if◌then◌else◌};
+ghost use Rattle.std.specs.Str.{bytes_eq};
 ghost use Rattle.serde_json.specs.View.{view};
 ghost use Rattle.reg_terms.specs.declared.reply.Reply.{Reply};
 ghost use Rattle.reg_json.specs.Replies.{text};
@@ -61,16 +62,29 @@ fn reply_of(alloc: Global, bytes: &[u8]) -> Result<Reply, TakeFault>
     }
 }
 
+/// Whether these bytes are the reply's text.
+fn has_text(alloc: Global, reply: &Reply, bytes: &[u8]) -> Result<bool, AllocError>
+    ensures { IfOk result (λ same. same ≡ bytes_eq (text reply.now) bytes.now) }
+{
+    let written = append_reply(Vec::new(alloc), reply)?;
+    Ok(written.as_slice() == bytes)
+}
+
+/// The reply, if it is to be kept.
+fn kept_if(reply: Reply, same: bool) -> Option<Reply>
+    ensures { result ≡ (if same then Some reply else None) }
+{
+    if same { Some(reply) } else { None }
+}
+
 /// The reply, if its text is this.
 fn with_text(alloc: Global, reply: Reply, bytes: &[u8]) -> Result<Option<Reply>, AllocError>
     ensures same { IfOk result (λ found. IfSome found (λ r. text r ≡ bytes.now)) }
     ensures exact { IfOk result (λ found. text reply ≡ bytes.now → found ≡ Some reply) }
 {
-    let written = append_reply(Vec::new(alloc), &reply)?;
-    if written.as_slice() == bytes {
-        Ok(Some(reply))
-    } else {
-        Ok(None)
+    match has_text(alloc, &reply, bytes) {
+        Ok(same) => Ok(kept_if(reply, same)),
+        Err(error) => Err(error),
     }
 }
 

@@ -91,8 +91,8 @@ fn body_in(alloc: Global, by: &[u8], value: &Value) -> Result<Request, ReadFault
 {
     let word = text_at(alloc, value, "op")?;
     let kind = known_kind(alloc, word)?;
-    let op = asked_in(alloc, Carrier::Body, value, kind)?;
     let by = Bytes::of(alloc, by)?;
+    let op = asked_in(alloc, Carrier::Body, value, kind)?;
     Ok(Request { by, op })
 }
 
