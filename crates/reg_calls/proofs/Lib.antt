@@ -1,0 +1,2 @@
+mod Formed
+mod Targets
