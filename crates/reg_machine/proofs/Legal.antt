@@ -3,7 +3,7 @@ use Rattle.std.proofs.Common.{◌≡◌, ◌∙◌, List, [], ◌∷◌, ◌++�
 use Rattle.std.specs.Prelude.{◌⊎◌}
 use Rattle.std.specs.List.{AllByRecursion}
 use Rattle.reg_terms.specs.declared.command.Stamped.{Stamped}
-use Rattle.reg_machine.specs.History.{refusal}
+use Rattle.reg_machine.specs.Refusals.{refusal}
 use Rattle.reg_machine.specs.Invariant.{IsBy, IsLegal}
 
 -- a list is not empty where something stands in it

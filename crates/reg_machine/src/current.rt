@@ -240,7 +240,7 @@ impl<K: Kept> Current<K> {
     }
 
     /// The memberships that end at the next date go, one after another.
-    fn ending(&self, alloc: Global, date: Moment) -> Result<Vec<Event>, AllocError>
+    pub fn ending(&self, alloc: Global, date: Moment) -> Result<Vec<Event>, AllocError>
         requires { self.now.clock < date }
         ensures { IfOk result (λ events. events.items ≡ map pair_gone (ending date self.now.facts.rows)) }
     {
@@ -248,16 +248,18 @@ impl<K: Kept> Current<K> {
         rows_gone(alloc, &ending)
     }
 
-    /// Goes on to the next date: the memberships that end there go, and those that begin there come
-    /// on. It takes at most the steps of these.
+    /// Goes on to the next date: the memberships that end there, whose events these are, go, and those
+    /// that begin there come on. It takes at most the steps of these.
     pub fn pass_date<L: Ledger>(
         self,
         alloc: Global,
         date: Moment,
+        events: Vec<Event>,
         turned: &mut Turned,
         steps: &mut Steps<L>,
     ) -> Result<Current<K>, AllocError>
-        requires { due self.clock date self.facts.rows ≡ Some date }
+        requires due { due self.clock date self.facts.rows ≡ Some date }
+        requires events { events.items ≡ map pair_gone (ending date self.facts.rows) }
         ensures moved { IfOk result (λ c. c ≡ record { clock = date; facts = without_ended date self.facts }) }
         ensures told { IfOk result (λ c. (M : Live) → Remembers M (live self.clock self.facts) turned.old → Remembers M (live c.clock c.facts) turned.new) }
         ensures cost { OnOk result (steps.new ≤ steps.old + most_steps_of (date_changes date self.facts) (live self.clock self.facts)) }
@@ -265,7 +267,6 @@ impl<K: Kept> Current<K> {
         let current = self;
         current.law_rows_open();
         current.law_date(date);
-        let events = current.ending(alloc, date)?;
         let current = current.carry_all(alloc, events, turned, steps)?;
         current.begin(date, turned, steps)
     }

@@ -3,7 +3,8 @@ ghost use Rattle.std.specs.Prelude.{◌≡◌, ◌&&◌, not, is_some, IfOk, Som
 ghost use Rattle.reg_base.specs.Entities.{entity_of};
 ghost use Rattle.reg_facts.specs.Grants.{grant_for};
 ghost use Rattle.reg_machine.specs.Checks.{grant_add_checks, grant_remove_checks, inherit_add_checks, inherit_remove_checks, bare_text, names_internal, takes_no_grant, is_foreign, is_system, is_unknown, grant_stands, inherit_stands};
-ghost use Rattle.reg_machine.specs.History.{facts, first_of};
+ghost use Rattle.reg_machine.specs.History.{facts};
+ghost use Rattle.reg_machine.specs.Refusals.{first_of};
 
 use crate::Machine;
 use crate::decide_members::{is_internal, named_text};

@@ -1,5 +1,5 @@
 // The machine.
-ghost use Rattle.std.specs.Prelude.{◌≡◌, ◌≤◌, ◌+◌, ◌++◌, ◌∷◌, ◌&&◌, [], ℕ, IfOk, OnOk, None, Some, true, false};
+ghost use Rattle.std.specs.Prelude.{◌≡◌, ◌≤◌, ◌+◌, ◌++◌, ◌∷◌, ◌&&◌, [], ℕ, IfOk, OnOk, None, Some, true, false, length};
 ghost use Rattle.std.specs.List.{list_any};
 ghost use Rattle.reg_base.specs.declared.entity.Entity.{Entity};
 ghost use Rattle.reg_terms.specs.declared.command.Command.{Command};
@@ -12,13 +12,14 @@ ghost use Rattle.reg_effect.specs.Order.{has_live_row};
 ghost use Rattle.reg_terms.specs.Forms.{has_form};
 ghost use Rattle.reg_machine.specs.Checks as checks;
 ghost use Rattle.reg_machine.specs.Dates.{due, is_on, pass_steps};
-ghost use Rattle.reg_machine.specs.History.{State, start, refusal, first_of, acted, appended};
+ghost use Rattle.reg_machine.specs.History.{State, start, acted, appended};
+ghost use Rattle.reg_machine.specs.Refusals.{refusal, first_of};
 ghost use Rattle.reg_machine.specs.Holding.{AllHold};
 ghost use Rattle.reg_machine.specs.Live.{live};
+ghost use Rattle.reg_machine.specs.Past.{log};
 ghost use Rattle.reg_machine.specs.Steps.{events_steps};
 
-use crate::current::Current;
-use crate::heap::{carried, dated, started};
+use crate::recorded::{Recorded, carried_on, passed_on};
 use reg_base::{Entity, GroupId, Moment, Steps};
 use reg_demand::refused;
 use reg_effect::Kept;
@@ -66,18 +67,18 @@ fn push_stamped(
 #[derive(Drop)]
 pub struct Machine<K: Kept> {
     stamped: Vec<Stamped>,
-    current: Box<Current<K>>,
+    pub(crate) recorded: Box<Recorded<K>>,
 }
 
 impl<K: Kept> Model for Machine<K> {
     ghost use Rattle.reg_machine.specs.History.{State};
-    ghost use Rattle.reg_machine.specs.Invariant.{IsInStep};
+    ghost use Rattle.reg_machine.specs.Recording.{IsRecorded, recording};
 
     ghost Value = { State };
 
-    ghost view = { λ m. record { history = m.stamped.items; clock = m.current.value.clock } };
+    ghost view = { λ m. record { history = m.stamped.items; clock = m.recorded.value.current.clock } };
 
-    ghost invariant = { λ m. IsInStep m.stamped.items m.current.value };
+    ghost invariant = { λ m. IsRecorded m.stamped.items (recording m.recorded.value.current m.recorded.value.audit) };
 }
 
 impl<K: Kept> Machine<K> {
@@ -88,10 +89,10 @@ impl<K: Kept> Machine<K> {
     pub fn start(alloc: Global) -> Result<Machine<K>, Spent>
         ensures { IfOk result (λ m. m ≡ start) }
     {
-        let current = started(alloc)?;
+        let recorded = Recorded::start(alloc)?;
         Ok(Machine {
             stamped: Vec::new(alloc),
-            current,
+            recorded,
         })
     }
 
@@ -114,14 +115,14 @@ impl<K: Kept> Machine<K> {
     pub fn clock(&self) -> Moment
         ensures { result ≡ self.now.clock }
     {
-        self.current.clock()
+        self.recorded.current().clock()
     }
 
     /// The facts that the history gives at the clock.
     pub fn facts(&self) -> &Facts
         ensures { result.now ≡ facts self.now.history self.now.clock }
     {
-        self.current.facts()
+        self.recorded.current().facts()
     }
 
     /// The index of names, which is in step with the facts. It takes no memory.
@@ -133,7 +134,7 @@ impl<K: Kept> Machine<K> {
     pub fn kept(&self) -> &K
         ensures { K.held result.now ≡ live self.now.clock (facts self.now.history self.now.clock) }
     {
-        self.current.kept()
+        self.recorded.current().kept()
     }
 
     /// Whether the group is a factor of a composite, where no row names it.
@@ -141,14 +142,14 @@ impl<K: Kept> Machine<K> {
         requires { edits.is_nested group (facts self.now.history self.now.clock).rows ≡ false }
         ensures { result ≡ edits.is_factor group (facts self.now.history self.now.clock).composites }
     {
-        self.current.is_factor(group)
+        self.recorded.current().is_factor(group)
     }
 
     /// Whether a row of the group that names the other, or a factor, would lead back.
     pub(crate) fn leads_back(&self, group: GroupId, other: GroupId) -> Result<bool, AllocError>
         ensures { IfOk result (λ b. b ≡ checks.leads_back group other (facts self.now.history self.now.clock)) }
     {
-        self.current.leads_back(group, other)
+        self.recorded.current().leads_back(group, other)
     }
 
     /// The next date of a membership, if it comes up to a moment. It is a look at the first dates
@@ -156,7 +157,7 @@ impl<K: Kept> Machine<K> {
     fn next_date(&self, to: Moment) -> Option<Moment>
         ensures { result ≡ due self.now.clock to (facts self.now.history self.now.clock).rows }
     {
-        self.current.next_date(to)
+        self.recorded.current().next_date(to)
     }
 
     /// What stands from the clock on, as long as no command comes: nothing that is live changes
@@ -166,7 +167,7 @@ impl<K: Kept> Machine<K> {
         ensures between { (u : ℕ) → self.now.clock ≤ u → due self.now.clock u (facts self.now.history self.now.clock).rows ≡ None → live u (facts self.now.history u) ≡ live self.now.clock (facts self.now.history self.now.clock) }
         ensures on { (u g : ℕ) (m : Member) → self.now.clock ≤ u → has_live_row g m (live u (facts self.now.history u)).rows ≡ list_any (λ (row : MemberRow). is_row g m row && is_on u row) (facts self.now.history self.now.clock).rows }
     {
-        self.current.law_rows_open();
+        self.recorded.current().law_rows_open();
     }
 
     /// The facts after one command more at the clock are those that it makes of the facts now. It does
@@ -190,9 +191,10 @@ impl<K: Kept> Machine<K> {
         ensures moved { IfOk result (λ m. m ≡ record { history = self.history; clock = date }) }
         ensures cost { OnOk result ((u : ℕ) → due self.clock u (facts self.history self.clock).rows ≡ Some date → steps.new + pass_steps date u (facts self.history date) ≤ steps.old + pass_steps self.clock u (facts self.history self.clock)) }
     {
-        let Machine { stamped, current } = self;
-        let current = dated(alloc, current, date, steps)?;
-        Ok(Machine { stamped, current })
+        let Machine { stamped, recorded } = self;
+        recorded.audit().law_follows();
+        let recorded = passed_on(alloc, recorded, date, steps)?;
+        Ok(Machine { stamped, recorded })
     }
 
     /// Sets the clock forward, and changes nothing else: the dates of memberships up to the new
@@ -218,12 +220,12 @@ impl<K: Kept> Machine<K> {
         while let Some(date) = machine.next_date(to) {
             machine = machine.pass_date(alloc, date, steps)?;
         }
-        machine.current.wait(to);
+        machine.recorded.wait(to);
         Ok(machine)
     }
 
     /// The first refusal of a caller's command now (`docs/REGISTRY.md`, "Refusals"), or None.
-    #[tactic(auto, unfolding(crate::specs::History::refusal))]
+    #[tactic(auto, unfolding(crate::specs::Refusals::refusal))]
     pub fn decide(
         &self,
         alloc: Global,
@@ -246,7 +248,7 @@ impl<K: Kept> Machine<K> {
         by: &Entity,
         command: &Command,
     ) -> Result<Option<Refusal>, AllocError>
-        ensures { IfOk result (λ found. found ≡ first_of (checks.checks self.now.history self.now.clock (facts self.now.history self.now.clock) by.now command.now)) }
+        ensures { IfOk result (λ found. found ≡ first_of (checks.checks self.now.history (length (log self.now.history self.now.clock)) self.now.clock (facts self.now.history self.now.clock) by.now command.now)) }
     {
         match command {
             Command::FolderAdd { folder, .. } => self.decide_folder_add(alloc, by, folder),
@@ -308,6 +310,10 @@ impl<K: Kept> Machine<K> {
                 privilege,
                 holder,
             } => self.decide_inherit_remove(alloc, folder, *kind, *scope, *privilege, holder),
+            Command::ConsumerAdd { consumer } => self.decide_consumer_add(alloc, consumer),
+            Command::ConsumerAck { consumer, seq } => {
+                self.decide_consumer_ack(alloc, consumer, *seq)
+            }
         }
     }
 
@@ -345,9 +351,10 @@ impl<K: Kept> Machine<K> {
         ensures cost { OnOk result (steps.new ≤ steps.old + events_steps self.clock (events_of self.clock by.now command (facts self.history self.clock)) (facts self.history self.clock)) }
     {
         let events = self.events_of(alloc, by, &command)?;
-        let Machine { stamped, current } = self;
-        let stamped = push_stamped(alloc, stamped, current.clock(), by, command)?;
-        let current = carried(alloc, current, events, steps)?;
-        Ok(Machine { stamped, current })
+        let Machine { stamped, recorded } = self;
+        recorded.audit().law_follows();
+        let stamped = push_stamped(alloc, stamped, recorded.current().clock(), by, command)?;
+        let recorded = carried_on(alloc, recorded, events, steps)?;
+        Ok(Machine { stamped, recorded })
     }
 }

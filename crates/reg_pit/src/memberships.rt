@@ -136,6 +136,13 @@ impl Memberships {
         Ok(rows)
     }
 
+    /// The intervals of each pair are none empty, and no two touch. It does nothing.
+    pub(crate) fn law_spans(&self)
+        ensures { (k : ℕ × ℕ) → AreSpans (spans_of pair_cmp self.now k) }
+    {
+        self.by_group.law_rows_apart();
+    }
+
     /// Who was a member of a group at a moment, by id.
     pub(crate) fn persons(&self, g: GroupId, t: Moment) -> Result<Vec<SubjectId>, AllocError>
         ensures { IfOk result (λ persons. Lists (λ s. are_on self.now g s t) persons.items) }

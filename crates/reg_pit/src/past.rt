@@ -225,6 +225,14 @@ impl Past {
         let _ = &self.memberships;
     }
 
+    /// Where a test tells who was a member up to the last note, the intervals are what the test gives
+    /// moment by moment. It does nothing.
+    pub fn law_spans(&self)
+        ensures { (test : ℕ → Bool) (now g s : ℕ) → NotedBy now self.now → ((t : ℕ) → t ≤ now → was_member self.now g s t ≡ test t) → member_spans self.now g s ≡ spans_until test now }
+    {
+        self.memberships.law_spans();
+    }
+
     /// From the last note on all stays as it was then. It does nothing.
     pub fn law_stays(&self)
         ensures members { (at t g s : ℕ) → at ≤ t → NotedBy at self.now → was_member self.now g s t ≡ was_member self.now g s at }

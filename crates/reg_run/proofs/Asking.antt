@@ -1,6 +1,6 @@
 -- What one question keeps, and what is replied.
-use Rattle.std.proofs.Common.{◌≡◌, ◌∙◌, Result, refl, ap, inl, inr, ◌⊎◌, ℕ, List, Bool, true, false}
-use Rattle.reg_base.specs.Names.{is_name}
+use Rattle.std.proofs.Common.{◌≡◌, ◌∙◌, Result, Ok, Err, ap, inl, inr, ◌⊎◌, ℕ}
+use Rattle.reg_terms.specs.declared.query.Query.{Query}
 use Rattle.reg_terms.specs.declared.refusal.Refusal.{Refusal}
 use Rattle.reg_terms.specs.declared.request.Request.{Request}
 use Rattle.reg_terms.specs.declared.reply.Reply.{Reply}
@@ -10,7 +10,8 @@ use Rattle.reg_service.specs.Turn.{AsksNoChange, Follows, turn, last_reply}
 use Rattle.reg_service.specs.Kept.{LeavesKeeper, keeper_of}
 use Rattle.reg_service.specs.declared.service.Next.{Next}
 use Rattle.reg_service.specs.declared.service.Next.TheVariants as next
-use Rattle.reg_run.specs.Ends.{name_reading}
+use Rattle.reg_words.specs.declared.task.Question.{Question}
+use Rattle.reg_run.specs.Questions.{◌>>=◌, asked_by, by_system, query_of}
 
 -- the keeper that is given back
 pub left_keeper : {K : Type 0} (old : K) (n : Next K) → LeavesKeeper old n → keeper_of n ≡ old
@@ -24,10 +25,10 @@ told_or_none s m reading old told (next.Go after) (inl e) same = inl (ap (λ (p 
 told_or_none s m reading old told (next.Go after) (inr w) same = inr w.fault
 told_or_none s m reading old told (next.Stop why keeper) is same = inr (is ∙ ap last_reply same.1)
 
--- the name of a group asks for no change
-pub name_asks : (name : List ℕ) → AsksNoChange (name_reading name)
-name_asks name = by_name (is_name name) refl
+-- a question asks for no change
+pub question_asks : (question : Question) → AsksNoChange (asked_by question)
+question_asks question = by_query (query_of question)
   where
-    by_name : (b : Bool) → is_name name ≡ b → AsksNoChange (name_reading name)
-    by_name true e = rw e tt
-    by_name false e = rw e tt
+    by_query : (due : Result Query Refusal) → AsksNoChange (due >>= (λ query. Ok (by_system query)))
+    by_query (Ok query) = tt
+    by_query (Err refusal) = tt

@@ -1,21 +1,21 @@
 -- How a run ends, from how its parts did.
 use Rattle.std.proofs.Common.{◌≡◌, ◌≤◌, ◌<◌, ◌^◌, ◌++◌, [], append-nil, length, List, ℕ, Bool, Option, Some, None, Result, Ok, Err, true, false, refl, ap, sym, subst, ◌∙◌, arith, max, take, ◌⊎◌, inl, inr}
-use Rattle.std.specs.Prelude.{IfSome, codes}
+use Rattle.std.specs.Prelude.{IfSome}
 use Rattle.std.specs.Io.KnownBytes.{append_known, prepend_known, IsAtEnd}
 use Rattle.reg_outside.specs.Faults.{Rose}
 use Rattle.reg_outside.specs.Streams.{first_moment, WritesFront}
-use Rattle.reg_base.specs.Names.{is_name}
 use Rattle.reg_terms.specs.declared.command.Stamped.{Stamped}
 use Rattle.reg_terms.specs.declared.refusal.Refusal.{Refusal}
-use Rattle.reg_terms.specs.declared.query.Query.TheVariants as query
 use Rattle.reg_terms.specs.declared.query.Answer.{Answer}
+use Rattle.reg_terms.specs.declared.request.Op.{Op}
+use Rattle.reg_terms.specs.declared.request.Op.TheVariants as op
+use Rattle.reg_terms.specs.declared.request.Request.{Request}
 use Rattle.reg_terms.specs.declared.reply.Reply.{Reply}
 use Rattle.reg_terms.specs.declared.reply.Reply.TheVariants as reply
 use Rattle.reg_machine.specs.History.{State}
 use Rattle.reg_keep.specs.declared.keeper.Keeper.{Ghosts}
-use Rattle.reg_view.specs.AtClock.{view}
-use Rattle.reg_view.specs.Show.{show}
-use Rattle.reg_service.specs.Turn.{turn, answered}
+use Rattle.reg_view.specs.AtClock.{told}
+use Rattle.reg_service.specs.Turn.{AsksNoChange, IsQuery, answered, at_moment, requested, turn}
 use Rattle.reg_session.specs.Answered.{Point}
 use Rattle.reg_session.specs.Lines.{lines, IsCutAtLineFeeds}
 use Rattle.reg_session.specs.Replies.{line_of}
@@ -24,10 +24,10 @@ use Rattle.reg_session.specs.declared.stop.Stop.{Stop}
 use Rattle.reg_session.specs.declared.stop.Stop.TheVariants as stop
 use Rattle.reg_run.specs.Status.{status_of}
 use Rattle.reg_run.specs.Crash.{Seen, DiskSurvives, IsWhole}
-use Rattle.reg_run.specs.Ends.{Asked, IsFlushed, Printed, ApplyEnds, DidApply, MembersEnds, RepliedFront, TooMuchExactly, begins_at, name_reading, end_of_reply, end_of_stop, is_refused}
+use Rattle.reg_run.specs.Ends.{Asked, IsFlushed, Printed, ApplyEnds, DidApply, AskEnds, RepliedFront, TooMuchExactly, begins_at, end_of_reply, end_of_stop, is_refused}
 use Rattle.reg_run.specs.World.{World, Out, output}
-use Rattle.reg_run.specs.declared.task.End.{End}
-use Rattle.reg_run.specs.declared.task.End.TheVariants as the_end
+use Rattle.reg_run.specs.declared.status.End.{End}
+use Rattle.reg_run.specs.declared.status.End.TheVariants as the_end
 
 -- answering the lines stopped
 pub apply_stopped : (s : Stop) (from : State) (taken : List ℕ) (before after : World) (more : List Stamped) (n : ℕ) (answered kept : List Stamped) → (s ≡ stop.Input → Rose before.reads after.reads)
@@ -51,54 +51,59 @@ told_query : (s : State) (m : ℕ) (r : Result Answer Refusal) → (end_of_reply
 told_query s m (Ok a) = inl (refl, refl)
 told_query s m (Err r) = inr (refl, refl)
 
-told_name : (s : State) (m : ℕ) (name : List ℕ) (b : Bool) → is_name name ≡ b
-    → (end_of_reply (turn s m (name_reading name)).0 ≡ the_end.Done) × (is_refused (turn s m (name_reading name)).0 ≡ false) ⊎ (end_of_reply (turn s m (name_reading name)).0 ≡ the_end.Refused) × (is_refused (turn s m (name_reading name)).0 ≡ true)
-told_name s m name true e = rw e (told_query s m (show (view s.history (max s.clock m) (codes "g:isa/GrouperSystem")) (query.Members name)))
-told_name s m name false e = rw e (inr (refl, refl))
+told_op : (s : State) (m : ℕ) (by : List ℕ) (o : Op) → IsQuery o
+    → (end_of_reply (requested (at_moment s m) by o).0 ≡ the_end.Done) × (is_refused (requested (at_moment s m) by o).0 ≡ false) ⊎ (end_of_reply (requested (at_moment s m) by o).0 ≡ the_end.Refused) × (is_refused (requested (at_moment s m) by o).0 ≡ true)
+told_op s m by (op.Command command) is = elim is [ ]
+told_op s m by (op.Query query) is = told_query s m (told s.history (max s.clock m) by query)
 
-replied : (moments : Option (List ℕ)) (s : State) (m : ℕ) (name : List ℕ) (b : Bool) (w w2 : Option (List ℕ))
-    → IfSome moments (λ ms. m ≡ first_moment ms) → w2 ≡ append_known w (line_of (turn s m (name_reading name)).0) → is_refused (turn s m (name_reading name)).0 ≡ b
-    → IfSome moments (λ ms. (w2 ≡ append_known w (line_of (turn s (first_moment ms) (name_reading name)).0)) × (is_refused (turn s (first_moment ms) (name_reading name)).0 ≡ b))
-replied None s m name b w w2 f is r = tt
-replied (Some ms) s m name b w w2 f is r = (rw (← f) is, rw (← f) r)
+told_reading : (s : State) (m : ℕ) (reading : Result Request Refusal) → AsksNoChange reading
+    → (end_of_reply (turn s m reading).0 ≡ the_end.Done) × (is_refused (turn s m reading).0 ≡ false) ⊎ (end_of_reply (turn s m reading).0 ≡ the_end.Refused) × (is_refused (turn s m reading).0 ≡ true)
+told_reading s m (Ok request) is = told_op s m request.by request.op is
+told_reading s m (Err r) is = inr (refl, refl)
+
+replied : (moments : Option (List ℕ)) (s : State) (m : ℕ) (reading : Result Request Refusal) (b : Bool) (w w2 : Option (List ℕ))
+    → IfSome moments (λ ms. m ≡ first_moment ms) → w2 ≡ append_known w (line_of (turn s m reading).0) → is_refused (turn s m reading).0 ≡ b
+    → IfSome moments (λ ms. (w2 ≡ append_known w (line_of (turn s (first_moment ms) reading).0)) × (is_refused (turn s (first_moment ms) reading).0 ≡ b))
+replied None s m reading b w w2 f is r = tt
+replied (Some ms) s m reading b w w2 f is r = (rw (← f) is, rw (← f) r)
 
 -- the turn's reply was printed whole
-told_ends : (name : List ℕ) (end : End) (before after : World) (s : State) (m : ℕ) (told : Reply) → IfSome before.moments (λ ms. m ≡ first_moment ms)
-    → told ≡ (turn s m (name_reading name)).0 → end ≡ end_of_reply told → after.written ≡ append_known before.written (line_of told) → IsFlushed after
-    → (end_of_reply (turn s m (name_reading name)).0 ≡ the_end.Done) × (is_refused (turn s m (name_reading name)).0 ≡ false) ⊎ (end_of_reply (turn s m (name_reading name)).0 ≡ the_end.Refused) × (is_refused (turn s m (name_reading name)).0 ≡ true)
-    → MembersEnds name end s before after
-told_ends name end before after s m told first is of wrote flushed (inl k) =
+told_ends : (reading : Result Request Refusal) (end : End) (before after : World) (s : State) (m : ℕ) (told : Reply) → IfSome before.moments (λ ms. m ≡ first_moment ms)
+    → told ≡ (turn s m reading).0 → end ≡ end_of_reply told → after.written ≡ append_known before.written (line_of told) → IsFlushed after
+    → (end_of_reply (turn s m reading).0 ≡ the_end.Done) × (is_refused (turn s m reading).0 ≡ false) ⊎ (end_of_reply (turn s m reading).0 ≡ the_end.Refused) × (is_refused (turn s m reading).0 ≡ true)
+    → AskEnds reading end s before after
+told_ends reading end before after s m told first is of wrote flushed (inl k) =
     let done : end ≡ the_end.Done = of ∙ (ap end_of_reply is ∙ k.0) in
-    let written : after.written ≡ append_known before.written (line_of (turn s m (name_reading name)).0) = wrote ∙ ap (λ (r : Reply). append_known before.written (line_of r)) is in
-    rw done (replied before.moments s m name false before.written after.written first written k.1, flushed)
-told_ends name end before after s m told first is of wrote flushed (inr k) =
+    let written : after.written ≡ append_known before.written (line_of (turn s m reading).0) = wrote ∙ ap (λ (r : Reply). append_known before.written (line_of r)) is in
+    rw done (replied before.moments s m reading false before.written after.written first written k.1, flushed)
+told_ends reading end before after s m told first is of wrote flushed (inr k) =
     let done : end ≡ the_end.Refused = of ∙ (ap end_of_reply is ∙ k.0) in
-    let written : after.written ≡ append_known before.written (line_of (turn s m (name_reading name)).0) = wrote ∙ ap (λ (r : Reply). append_known before.written (line_of r)) is in
-    rw done (replied before.moments s m name true before.written after.written first written k.1, flushed)
+    let written : after.written ≡ append_known before.written (line_of (turn s m reading).0) = wrote ∙ ap (λ (r : Reply). append_known before.written (line_of r)) is in
+    rw done (replied before.moments s m reading true before.written after.written first written k.1, flushed)
 
 -- a front of it was
-front_moment : (moments : Option (List ℕ)) (s : State) (m : ℕ) (name : List ℕ) (told : Reply) (w w2 : Option (List ℕ)) → IfSome moments (λ ms. m ≡ first_moment ms) → told ≡ (turn s m (name_reading name)).0
-    → WritesFront w w2 (line_of told) → IfSome moments (λ ms. WritesFront w w2 (line_of (turn s (first_moment ms) (name_reading name)).0))
-front_moment None s m name told w w2 first is front = tt
-front_moment (Some ms) s m name told w w2 first is front = rw (← first) (subst (λ (r : Reply). WritesFront w w2 (line_of r)) is front)
+front_moment : (moments : Option (List ℕ)) (s : State) (m : ℕ) (reading : Result Request Refusal) (told : Reply) (w w2 : Option (List ℕ)) → IfSome moments (λ ms. m ≡ first_moment ms) → told ≡ (turn s m reading).0
+    → WritesFront w w2 (line_of told) → IfSome moments (λ ms. WritesFront w w2 (line_of (turn s (first_moment ms) reading).0))
+front_moment None s m reading told w w2 first is front = tt
+front_moment (Some ms) s m reading told w w2 first is front = rw (← first) (subst (λ (r : Reply). WritesFront w w2 (line_of r)) is front)
 
-replied_front : (name : List ℕ) (before after : World) (s : State) (m : ℕ) (told : Reply) → IfSome before.moments (λ ms. m ≡ first_moment ms) → (told ≡ (turn s m (name_reading name)).0) ⊎ (told ≡ reply.NoMemory)
-    → WritesFront before.written after.written (line_of told) → RepliedFront (name_reading name) s before after
-replied_front name before after s m told first (inl is) front = inl (front_moment before.moments s m name told before.written after.written first is front)
-replied_front name before after s m told first (inr is) front = inr (subst (λ (r : Reply). WritesFront before.written after.written (line_of r)) is front)
+replied_front : (reading : Result Request Refusal) (before after : World) (s : State) (m : ℕ) (told : Reply) → IfSome before.moments (λ ms. m ≡ first_moment ms) → (told ≡ (turn s m reading).0) ⊎ (told ≡ reply.NoMemory)
+    → WritesFront before.written after.written (line_of told) → RepliedFront reading s before after
+replied_front reading before after s m told first (inl is) front = inl (front_moment before.moments s m reading told before.written after.written first is front)
+replied_front reading before after s m told first (inr is) front = inr (subst (λ (r : Reply). WritesFront before.written after.written (line_of r)) is front)
 
-members_ends : (name : List ℕ) (end : End) (before after : World) (s : State) (m : ℕ) (told : Reply) → IfSome before.moments (λ ms. m ≡ first_moment ms)
-    → (told ≡ (turn s m (name_reading name)).0) ⊎ (told ≡ reply.NoMemory) → Printed (end_of_reply told) (line_of told) end (output before) (output after) → MembersEnds name end s before after
-members_ends name end before after s m told first (inl is) (inl p) = told_ends name end before after s m told first is p.0 p.1 p.2 (told_name s m name (is_name name) refl)
-members_ends name end before after s m told first (inr is) (inl p) =
+ask_ends : (reading : Result Request Refusal) (end : End) (before after : World) (s : State) (m : ℕ) (told : Reply) → AsksNoChange reading → IfSome before.moments (λ ms. m ≡ first_moment ms)
+    → (told ≡ (turn s m reading).0) ⊎ (told ≡ reply.NoMemory) → Printed (end_of_reply told) (line_of told) end (output before) (output after) → AskEnds reading end s before after
+ask_ends reading end before after s m told query first (inl is) (inl p) = told_ends reading end before after s m told first is p.0 p.1 p.2 (told_reading s m reading query)
+ask_ends reading end before after s m told query first (inr is) (inl p) =
     let memory : end ≡ the_end.Memory = p.0 ∙ ap end_of_reply is in
     rw memory (inl (p.1 ∙ ap (λ (r : Reply). append_known before.written (line_of r)) is, p.2))
-members_ends name end before after s m told first t (inr (inl p)) = rw p.0 (p.1, replied_front name before after s m told first t p.2, p.3)
-members_ends name end before after s m told first t (inr (inr p)) = rw p.0 (inr (ap (λ (o : Out). o.written) p.1, ap (λ (o : Out). o.flushed) p.1, ap (λ (o : Out). o.writes) p.1))
+ask_ends reading end before after s m told query first t (inr (inl p)) = rw p.0 (p.1, replied_front reading before after s m told first t p.2, p.3)
+ask_ends reading end before after s m told query first t (inr (inr p)) = rw p.0 (inr (ap (λ (o : Out). o.written) p.1, ap (λ (o : Out). o.flushed) p.1, ap (λ (o : Out). o.writes) p.1))
 
 -- a service was asked
-pub asked_ends : (name : List ℕ) (end : End) (before after : World) (s : State) → Asked s before.moments (name_reading name) end (output before) (output after) → MembersEnds name end s before after
-asked_ends name end before after s a = members_ends name end before after s a.at a.told a.moment a.turn a.printed
+pub asked_ends : (reading : Result Request Refusal) (end : End) (before after : World) (s : State) → AsksNoChange reading → Asked s before.moments reading end (output before) (output after) → AskEnds reading end s before after
+asked_ends reading end before after s query a = ask_ends reading end before after s a.at a.told query a.moment a.turn a.printed
 
 -- where the input ended, failed or was too much, all that was accepted was answered
 three : IsWhole 3 → ⊥

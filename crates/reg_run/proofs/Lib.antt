@@ -3,3 +3,4 @@ pub mod Crashing
 pub mod Ending
 pub mod Naming
 pub mod Opened
+pub mod Usage

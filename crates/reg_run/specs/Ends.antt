@@ -1,16 +1,12 @@
 -- How a run ends: each end, its cause, and what was done.
-use Rattle.std.specs.Prelude.{◌≡◌, ◌⊎◌, ◌<◌, ◌≤◌, ◌^◌, ◌++◌, ℕ, List, [], Bool, true, false, Option, Some, None, Result, Ok, Err, codes, length, take, option_map, IfSome, if◌then◌else◌}
+use Rattle.std.specs.Prelude.{◌≡◌, ◌⊎◌, ◌<◌, ◌≤◌, ◌^◌, ◌++◌, ℕ, List, [], Bool, true, false, Option, Some, None, Result, Ok, Err, length, take, option_map, IfSome}
 use Rattle.std.specs.Io.KnownBytes.{append_known, IsAtEnd}
 use Rattle.reg_outside.specs.Faults.{Rose}
 use Rattle.reg_outside.specs.Streams.{first_moment, later_moments, WritesFront}
 use Rattle.reg_outside.specs.declared.disk.Disk.{Ghosts}
-use Rattle.reg_base.specs.Names.{is_name}
 use Rattle.reg_terms.specs.declared.command.Stamped.{Stamped}
 use Rattle.reg_terms.specs.declared.refusal.Refusal.{Refusal}
-use Rattle.reg_terms.specs.declared.refusal.Refusal.TheVariants.{BadName}
 use Rattle.reg_terms.specs.declared.request.Request.{Request}
-use Rattle.reg_terms.specs.declared.request.Op.TheVariants as op
-use Rattle.reg_terms.specs.declared.query.Query.TheVariants as query
 use Rattle.reg_terms.specs.declared.reply.Reply.{Reply}
 use Rattle.reg_terms.specs.declared.reply.Reply.TheVariants as reply
 use Rattle.reg_machine.specs.History.{State}
@@ -29,10 +25,11 @@ use Rattle.reg_session.specs.declared.stop.Stop.TheVariants as stop
 use Rattle.reg_run.specs.Crash.{Seen, seen, IsUntouched, DiskSurvives, DiskBegins}
 use Rattle.reg_run.specs.Status.{check_line, status_of}
 use Rattle.reg_run.specs.World.{World, Out, output}
-use Rattle.reg_run.specs.declared.task.Task.{Task}
-use Rattle.reg_run.specs.declared.task.Task.TheVariants as task
-use Rattle.reg_run.specs.declared.task.End.{End}
-use Rattle.reg_run.specs.declared.task.End.TheVariants as the_end
+use Rattle.reg_run.specs.Questions.{asked_by}
+use Rattle.reg_words.specs.declared.task.Task.{Task}
+use Rattle.reg_words.specs.declared.task.Task.TheVariants as task
+use Rattle.reg_run.specs.declared.status.End.{End}
+use Rattle.reg_run.specs.declared.status.End.TheVariants as the_end
 
 -- nothing of the input was read
 abbrev pub SameInput : World → World → Type 0
@@ -178,10 +175,6 @@ pub record DidCheck (d : Seen) (end : End) (before after : World) (from : State)
   pub same : IsUntouched d
   pub disk : DiskSurvives d from.history [] 0 (status_of end)
 
--- what the word `members` with this name asks
-abbrev pub name_reading : List ℕ → Result Request Refusal
-name_reading name = if is_name name then Ok (record { by = codes "g:isa/GrouperSystem"; op = op.Query (query.Members name) }) else Err (BadName (codes "group"))
-
 -- a reply that refuses
 abbrev pub is_refused : Reply → Bool
 is_refused (reply.Number n) = false
@@ -231,37 +224,45 @@ RepliedFront reading from before after =
     IfSome before.moments (λ moments. WritesFront before.written after.written (line_of (turn from (first_moment moments) reading).0))
     ⊎ WritesFront before.written after.written (line_of reply.NoMemory)
 
--- How `members` ends: its reply, that of the turn from the state that the file opened to, was printed, with status 0 where it
+-- How a question ends: its reply, that of the turn from the state that the file opened to, was printed, with status 0 where it
 -- isn't refused; or that there was no memory, or nothing, since there was none; or the output failed, and a front of the
 -- reply stands there. The disk doesn't fail once the journal is open.
-abbrev pub MembersEnds : List ℕ → End → State → World → World → Type 0
-MembersEnds name the_end.Done from before after = Replied (name_reading name) false from before after × IsFlushed after
-MembersEnds name the_end.Usage from before after = ⊥
-MembersEnds name the_end.Memory from before after = ((after.written ≡ append_known before.written (line_of reply.NoMemory)) × IsFlushed after) ⊎ SameOutput before after
-MembersEnds name the_end.Disk from before after = ⊥
-MembersEnds name the_end.Input from before after = ⊥
-MembersEnds name the_end.Output from before after = Rose before.writes after.writes × RepliedFront (name_reading name) from before after × (after.flushed ≡ before.flushed)
-MembersEnds name (the_end.Damaged at) from before after = ⊥
-MembersEnds name the_end.TooMuch from before after = ⊥
-MembersEnds name the_end.Exists from before after = ⊥
-MembersEnds name the_end.Refused from before after = Replied (name_reading name) true from before after × IsFlushed after
+abbrev pub AskEnds : Result Request Refusal → End → State → World → World → Type 0
+AskEnds reading the_end.Done from before after = Replied reading false from before after × IsFlushed after
+AskEnds reading the_end.Usage from before after = ⊥
+AskEnds reading the_end.Memory from before after = ((after.written ≡ append_known before.written (line_of reply.NoMemory)) × IsFlushed after) ⊎ SameOutput before after
+AskEnds reading the_end.Disk from before after = ⊥
+AskEnds reading the_end.Input from before after = ⊥
+AskEnds reading the_end.Output from before after = Rose before.writes after.writes × RepliedFront reading from before after × (after.flushed ≡ before.flushed)
+AskEnds reading (the_end.Damaged at) from before after = ⊥
+AskEnds reading the_end.TooMuch from before after = ⊥
+AskEnds reading the_end.Exists from before after = ⊥
+AskEnds reading the_end.Refused from before after = Replied reading true from before after × IsFlushed after
 
--- `members` from the state that the file opened to; it looked at the clock once, and only read the disk
-pub record DidMembers (d : Seen) (name : List ℕ) (end : End) (before after : World) (from : State) : Type 0 where
-  pub ends : MembersEnds name end from before after
+-- what is read was asked from the state that the file opened to; the clock was looked at once, and the disk only read
+pub record DidAsk (d : Seen) (reading : Result Request Refusal) (end : End) (before after : World) (from : State) : Type 0 where
+  pub ends : AskEnds reading end from before after
   pub input : SameInput before after
   pub clock : LookedOnce before after
   pub same : IsUntouched d
   pub disk : DiskSurvives d from.history [] 0 (status_of end)
 
 -- what a run of a task did
-abbrev pub Did : Seen → Task → List ℕ → End → World → World → Type 0
-Did d task.Init name end before after = DidInit d end before after
-Did d task.Apply name end before after = OverJournal d (DidApply d end before after) end before after
-Did d task.Check name end before after = OverJournal d (DidCheck d end before after) end before after
-Did d task.Members name end before after = OverJournal d (DidMembers d name end before after) end before after
+abbrev pub Did : Seen → Task → End → World → World → Type 0
+Did d task.Init end before after = DidInit d end before after
+Did d task.Apply end before after = OverJournal d (DidApply d end before after) end before after
+Did d task.Check end before after = OverJournal d (DidCheck d end before after) end before after
+Did d (task.Ask question) end before after = OverJournal d (DidAsk d (asked_by question) end before after) end before after
 
--- what a run of these words did; words that ask for nothing leave all as it was
-abbrev pub RunDid : {D : Type 0} → Ghosts D → Option Task → List ℕ → End → World → World → D → D → Type 0
-RunDid g None name end before after old new = (end ≡ the_end.Usage) × (after ≡ before) × (new ≡ old)
-RunDid g (Some asked) name end before after old new = Did (seen g old new) asked name end before after
+-- nothing was done
+abbrev pub IsIdle : {D : Type 0} → World → World → D → D → Type 0
+IsIdle before after old new = (after ≡ before) × (new ≡ old)
+
+-- what a run of these words did; words that ask for nothing leave all as it was, and so do words for which there was no memory
+abbrev pub RunDid : {D : Type 0} → Ghosts D → Option Task → End → World → World → D → D → Type 0
+RunDid g None end before after old new = ((end ≡ the_end.Usage) ⊎ (end ≡ the_end.Memory)) × IsIdle before after old new
+RunDid g (Some asked) end before after old new = Did (seen g old new) asked end before after ⊎ ((end ≡ the_end.Memory) × IsIdle before after old new)
+
+-- status 2 comes only where the words ask for nothing; and there it comes, unless there was no memory to read them
+abbrev pub IsUsage : Option Task → ℕ → Type 0
+IsUsage asked status = (status ≡ 2 → asked ≡ None) × (asked ≡ None → (status ≡ 2) ⊎ (status ≡ 3))

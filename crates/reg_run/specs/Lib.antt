@@ -1,4 +1,5 @@
 pub mod Crash
 pub mod Ends
+pub mod Questions
 pub mod Status
 pub mod World

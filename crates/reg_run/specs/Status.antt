@@ -1,35 +1,13 @@
--- The words of the program, its exit statuses and its notes.
-use Rattle.std.specs.Prelude.{◌≡◌, ◌⊎◌, ◌++◌, ℕ, List, [], ◌∷◌, Option, Some, None, codes, length, if◌then◌else◌}
-use Rattle.std.specs.Str.{bytes_eq}
+-- The exit statuses of the program and its notes.
+use Rattle.std.specs.Prelude.{◌≡◌, ◌⊎◌, ◌++◌, ℕ, List, [], ◌∷◌, Option, codes, length}
 use Rattle.std.specs.Fmt.{decimal}
 use Rattle.std.specs.Io.KnownBytes.{append_known}
 use Rattle.reg_outside.specs.Faults.{Rose}
 use Rattle.reg_outside.specs.Streams.{WritesFront}
 use Rattle.reg_base.specs.MomentText.{text_of}
 use Rattle.reg_machine.specs.History.{State}
-use Rattle.reg_run.specs.declared.task.Task.{Task}
-use Rattle.reg_run.specs.declared.task.Task.TheVariants as task
-use Rattle.reg_run.specs.declared.task.End.{End}
-use Rattle.reg_run.specs.declared.task.End.TheVariants as the_end
-
--- what one word asks for
-abbrev pub task_of_one : List ℕ → Option Task
-task_of_one word = if bytes_eq word (codes "init") then Some task.Init else
-    (if bytes_eq word (codes "apply") then Some task.Apply else
-    (if bytes_eq word (codes "check") then Some task.Check else None))
-
--- what the words ask for: `init`, `apply`, `check`, or `members` and a name
-abbrev pub task_of : List (List ℕ) → Option Task
-task_of [] = None
-task_of (word ∷ []) = task_of_one word
-task_of (word ∷ name ∷ []) = if bytes_eq word (codes "members") then Some task.Members else None
-task_of (word ∷ name ∷ more ∷ words) = None
-
--- the second word
-abbrev pub name_of : List (List ℕ) → List ℕ
-name_of [] = []
-name_of (word ∷ []) = []
-name_of (word ∷ name ∷ words) = name
+use Rattle.reg_run.specs.declared.status.End.{End}
+use Rattle.reg_run.specs.declared.status.End.TheVariants as the_end
 
 -- the exit status of a run that ended so
 abbrev pub status_of : End → ℕ

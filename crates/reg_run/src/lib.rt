@@ -4,6 +4,7 @@
 
 mod perform;
 mod program;
-mod task;
+mod question;
+mod status;
 
 pub use program::run;

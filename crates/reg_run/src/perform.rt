@@ -1,28 +1,28 @@
 // The tasks, each over a disk that it gives back.
-ghost use Rattle.std.specs.Prelude.{◌≡◌, ◌≤◌, List, ℕ, Option, Ok, Err, true, codes, length, option_map, IfOk, IfErr, IfSome, OnErr, OnOk};
+ghost use Rattle.std.specs.Prelude.{◌≡◌, ◌≤◌, List, ℕ, Option, Ok, Err, length, option_map, IfOk, IfErr, IfSome, OnErr, OnOk};
 ghost use Rattle.std.specs.Io.KnownBytes.{append_known};
 ghost use Rattle.reg_outside.specs.Disk.{Changes, Same};
 ghost use Rattle.reg_outside.specs.Faults.{Rose, HasCause};
 ghost use Rattle.reg_outside.specs.Streams.{WritesFront, later_moments};
 ghost use Rattle.reg_keep.specs.JournalWords.{disk_of};
-ghost use Rattle.reg_terms.specs.Forms.{op_has_form};
 ghost use Rattle.reg_service.specs.Opening.{opens, at_last, FrontsReopen};
-ghost use Rattle.reg_session.specs.Pending.{ReadsAs, AsksFormed};
 ghost use Rattle.reg_session.specs.Replies.{line_of};
 ghost use Rattle.reg_run.specs.Crash.{seen};
-ghost use Rattle.reg_run.specs.Ends.{Did, DidInit, OpenCaused, Asked, Printed, name_reading, end_of_reply, end_of_stop, end_of_open};
+ghost use Rattle.reg_run.specs.Ends.{Did, DidInit, OpenCaused, Asked, Printed, end_of_reply, end_of_stop, end_of_open};
+ghost use Rattle.reg_run.specs.Questions.{asked_by};
 ghost use Rattle.reg_run.specs.Status.{check_line};
 ghost use Rattle.reg_run.specs.World.{World, world, holding, printing, at_clock, out_of};
 
-use crate::task::{End, Task};
-use reg_base::{Bytes, Name, Text};
+use crate::question::asked_by;
+use crate::status::End;
 use reg_effect::Incremental;
 use reg_keep::{InitFault, Journal, Keeper, OpenFault};
 use reg_machine::Machine;
 use reg_outside::{Clock, Disk, Failed, Sink, Source, write_whole};
 use reg_service::Service;
-use reg_session::{LineReading, Stop, answer_input, reply_line, turn};
-use reg_terms::{Op, Query, Refusal, Reply, Request};
+use reg_session::{Stop, answer_input, reply_line, turn};
+use reg_terms::Reply;
+use reg_words::{Question, Task};
 use std::alloc::{AllocError, Global};
 
 fn end_of_open(fault: OpenFault) -> End
@@ -100,7 +100,7 @@ fn apply_over<S: Source, K: Sink, D: Disk, C: Clock>(
     disk: D,
     clock: &mut C,
 ) -> (End, D)
-    ensures did { (name : List ℕ) → Did (seen ⟦<D as Disk>⟧ disk result.1) Task.Apply name result.0 (world ⟦<S as Source>⟧ ⟦<K as Sink>⟧ ⟦<D as Disk>⟧ ⟦<C as Clock>⟧ input.old out.old disk clock.old) (world ⟦<S as Source>⟧ ⟦<K as Sink>⟧ ⟦<D as Disk>⟧ ⟦<C as Clock>⟧ input.new out.new result.1 clock.new) }
+    ensures did { Did (seen ⟦<D as Disk>⟧ disk result.1) Task.Apply result.0 (world ⟦<S as Source>⟧ ⟦<K as Sink>⟧ ⟦<D as Disk>⟧ ⟦<C as Clock>⟧ input.old out.old disk clock.old) (world ⟦<S as Source>⟧ ⟦<K as Sink>⟧ ⟦<D as Disk>⟧ ⟦<C as Clock>⟧ input.new out.new result.1 clock.new) }
     ensures object { D.name result.1 ≡ D.name disk }
     ensures later { D.faults disk ≤ D.faults result.1 }
 {
@@ -149,7 +149,7 @@ fn print_check<K: Sink>(alloc: Global, machine: &Machine<Incremental>, out: &mut
 
 /// Opens the journal on a disk, and says how many commands it has, and the last one's moment.
 fn check_over<K: Sink, D: Disk>(alloc: Global, out: &mut K, disk: D) -> (End, D)
-    ensures did { (name : List ℕ) (w : World) → Did (seen ⟦<D as Disk>⟧ disk result.1) Task.Check name result.0
+    ensures did { (w : World) → Did (seen ⟦<D as Disk>⟧ disk result.1) Task.Check result.0
         (holding ⟦<D as Disk>⟧ (printing ⟦<K as Sink>⟧ w out.old) disk) (holding ⟦<D as Disk>⟧ (printing ⟦<K as Sink>⟧ w out.new) result.1) }
     ensures object { D.name result.1 ≡ D.name disk }
     ensures later { D.faults disk ≤ D.faults result.1 }
@@ -161,47 +161,6 @@ fn check_over<K: Sink, D: Disk>(alloc: Global, out: &mut K, disk: D) -> (End, D)
             let end = print_check(alloc, service.machine(), out);
             (end, close(service))
         }
-    }
-}
-
-/// The refusal of a text that is no name.
-fn bad_name(alloc: Global) -> LineReading
-    ensures reads { ReadsAs result (Err (Refusal.BadName (codes "group"))) }
-    ensures form { AsksFormed result }
-{
-    match Text::new(alloc, "group") {
-        Ok(field) => LineReading::Refused(Refusal::BadName { field }),
-        Err(AllocError) => LineReading::NoMemory,
-    }
-}
-
-/// What is asked for the members of a group, by GrouperSystem.
-fn asked_of(alloc: Global, group: Name) -> LineReading
-    requires { op_has_form (Op.Query (Query.Members group)) ≡ true }
-    ensures reads { ReadsAs result (Ok (record { by = codes "g:isa/GrouperSystem"; op = Op.Query (Query.Members group) })) }
-    ensures form { AsksFormed result }
-{
-    match Bytes::of(alloc, b"g:isa/GrouperSystem") {
-        Ok(by) => LineReading::Asked(Request {
-            by,
-            op: Op::Query(Query::Members { group }),
-        }),
-        Err(AllocError) => {
-            drop(group);
-            LineReading::NoMemory
-        }
-    }
-}
-
-/// What the word `members` with this name asks.
-fn name_reading(alloc: Global, name: &str) -> LineReading
-    ensures reads { ReadsAs result (name_reading name.now) }
-    ensures form { AsksFormed result }
-{
-    match Name::parse(alloc, name.as_bytes()) {
-        Ok(Some(group)) => asked_of(alloc, group),
-        Ok(None) => bad_name(alloc),
-        Err(AllocError) => LineReading::NoMemory,
     }
 }
 
@@ -228,21 +187,20 @@ fn print_reply<K: Sink>(alloc: Global, reply: &Reply, out: &mut K) -> End
     }
 }
 
-/// Asks a service for the members of a group, as GrouperSystem at the clock, and gives its keeper
-/// back as it was.
-fn members<J: Keeper, K: Sink, C: Clock>(
+/// Asks a service a question, at the clock, and gives its keeper back as it was.
+fn ask<J: Keeper, K: Sink, C: Clock>(
     alloc: Global,
     service: Service<J>,
-    name: &str,
+    question: &Question,
     out: &mut K,
     clock: &mut C,
 ) -> (End, J)
-    ensures asked { Asked service.state (C.moments clock.old) (name_reading name.now) result.0 (out_of ⟦<K as Sink>⟧ out.old) (out_of ⟦<K as Sink>⟧ out.new) }
+    ensures asked { Asked service.state (C.moments clock.old) (asked_by question.now) result.0 (out_of ⟦<K as Sink>⟧ out.old) (out_of ⟦<K as Sink>⟧ out.new) }
     ensures same { result.1 ≡ service.keeper }
     ensures clock { C.moments clock.new ≡ option_map later_moments (C.moments clock.old) }
 {
     let at = clock.now();
-    let reading = name_reading(alloc, name);
+    let reading = asked_by(alloc, question);
     let (reply, next) = turn(alloc, service, at, reading);
     let end = print_reply(alloc, &reply, out);
     // By a call: dropped in place it would be taken apart by its kinds.
@@ -250,15 +208,15 @@ fn members<J: Keeper, K: Sink, C: Clock>(
     (end, next.into_keeper())
 }
 
-/// Asks the journal on a disk for the members of a group.
-fn members_over<K: Sink, D: Disk, C: Clock>(
+/// Asks the journal on a disk a question.
+fn ask_over<K: Sink, D: Disk, C: Clock>(
     alloc: Global,
-    name: &str,
+    question: &Question,
     out: &mut K,
     disk: D,
     clock: &mut C,
 ) -> (End, D)
-    ensures did { (w : World) → Did (seen ⟦<D as Disk>⟧ disk result.1) Task.Members name.now result.0
+    ensures did { (w : World) → Did (seen ⟦<D as Disk>⟧ disk result.1) (Task.Ask question.now) result.0
         (holding ⟦<D as Disk>⟧ (printing ⟦<K as Sink>⟧ (at_clock ⟦<C as Clock>⟧ w clock.old) out.old) disk)
         (holding ⟦<D as Disk>⟧ (printing ⟦<K as Sink>⟧ (at_clock ⟦<C as Clock>⟧ w clock.new) out.new) result.1) }
     ensures object { D.name result.1 ≡ D.name disk }
@@ -269,7 +227,7 @@ fn members_over<K: Sink, D: Disk, C: Clock>(
         Ok(service) => {
             service.stays();
             service.law_stops();
-            let (end, keeper) = members(alloc, service, name, out, clock);
+            let (end, keeper) = ask(alloc, service, question, out, clock);
             (end, keeper.into_disk())
         }
     }
@@ -278,14 +236,13 @@ fn members_over<K: Sink, D: Disk, C: Clock>(
 /// Does a task.
 pub fn perform<S: Source, K: Sink, D: Disk, C: Clock>(
     alloc: Global,
-    task: Task,
-    name: &str,
+    task: &Task,
     input: &mut S,
     out: &mut K,
     disk: D,
     clock: &mut C,
 ) -> (End, D)
-    ensures did { Did (seen ⟦<D as Disk>⟧ disk result.1) task name.now result.0 (world ⟦<S as Source>⟧ ⟦<K as Sink>⟧ ⟦<D as Disk>⟧ ⟦<C as Clock>⟧ input.old out.old disk clock.old) (world ⟦<S as Source>⟧ ⟦<K as Sink>⟧ ⟦<D as Disk>⟧ ⟦<C as Clock>⟧ input.new out.new result.1 clock.new) }
+    ensures did { Did (seen ⟦<D as Disk>⟧ disk result.1) task.now result.0 (world ⟦<S as Source>⟧ ⟦<K as Sink>⟧ ⟦<D as Disk>⟧ ⟦<C as Clock>⟧ input.old out.old disk clock.old) (world ⟦<S as Source>⟧ ⟦<K as Sink>⟧ ⟦<D as Disk>⟧ ⟦<C as Clock>⟧ input.new out.new result.1 clock.new) }
     ensures object { D.name result.1 ≡ D.name disk }
     ensures later { D.faults disk ≤ D.faults result.1 }
 {
@@ -293,6 +250,6 @@ pub fn perform<S: Source, K: Sink, D: Disk, C: Clock>(
         Task::Init => init(disk),
         Task::Apply => apply_over(alloc, input, out, disk, clock),
         Task::Check => check_over(alloc, out, disk),
-        Task::Members => members_over(alloc, name, out, disk, clock),
+        Task::Ask(question) => ask_over(alloc, question, out, disk, clock),
     }
 }

@@ -6,7 +6,8 @@ use Rattle.reg_outside.specs.Disk.{Leaves}
 use Rattle.reg_outside.specs.Faults.{Rose}
 use Rattle.reg_terms.specs.declared.command.Stamped.{Stamped}
 use Rattle.reg_terms.specs.declared.request.Op.TheVariants as op
-use Rattle.reg_machine.specs.History.{State, appended, refusal}
+use Rattle.reg_machine.specs.History.{State, appended}
+use Rattle.reg_machine.specs.Refusals.{refusal}
 use Rattle.reg_wire.specs.Payload.{payload, stamped_of}
 use Rattle.reg_keep.specs.declared.keeper.Keeper.{Ghosts}
 use Rattle.reg_keep.specs.Keeping.{IsOneOf, AreOneOf}

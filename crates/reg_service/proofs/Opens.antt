@@ -5,7 +5,8 @@ use Rattle.std.proofs.lemmas.Bool.Decides.{nat_tests}
 use Rattle.std.proofs.lemmas.List.{take-append-drop, take-append-le, map-append, length-take-le, take_all, take_at}
 use Rattle.reg_terms.specs.declared.command.Stamped.{Stamped}
 use Rattle.reg_terms.specs.declared.refusal.Refusal.{Refusal}
-use Rattle.reg_machine.specs.History.{State, start, refusal, appended}
+use Rattle.reg_machine.specs.History.{State, start, appended}
+use Rattle.reg_machine.specs.Refusals.{refusal}
 use Rattle.reg_wire.specs.Payload.{payload, stamped_of, IsWritable}
 use Rattle.reg_service.specs.Opening.{payloads_of, last_from, at_last, accepted, after_stamped, after_payload, or_place, and_then, judged, IsServed, Reopens, FrontsReopen}
 

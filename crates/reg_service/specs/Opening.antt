@@ -2,7 +2,8 @@
 use Rattle.std.specs.Prelude.{◌≡◌, ℕ, ◌≤◌, List, [], ◌∷◌, Bool, false, Option, Some, None, Result, Ok, Err, map, nat_lt, if◌then◌else◌, IfSome, length, take}
 use Rattle.reg_terms.specs.declared.command.Stamped.{Stamped}
 use Rattle.reg_terms.specs.declared.refusal.Refusal.{Refusal}
-use Rattle.reg_machine.specs.History.{State, start, appended, refusal}
+use Rattle.reg_machine.specs.History.{State, start, appended}
+use Rattle.reg_machine.specs.Refusals.{refusal}
 use Rattle.reg_wire.specs.Payload.{payload, stamped_of}
 use Rattle.reg_keep.specs.Frames.{opened}
 

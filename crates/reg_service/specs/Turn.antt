@@ -6,9 +6,9 @@ use Rattle.reg_terms.specs.declared.command.Command.{Command}
 use Rattle.reg_terms.specs.declared.command.Stamped.{Stamped}
 use Rattle.reg_terms.specs.declared.refusal.Refusal.{Refusal}
 use Rattle.reg_terms.specs.declared.refusal.Refusal.TheVariants.{NoCaller}
-use Rattle.reg_machine.specs.History.{State, refusal, appended}
-use Rattle.reg_view.specs.AtClock.{view}
-use Rattle.reg_view.specs.Show.{show}
+use Rattle.reg_machine.specs.History.{State, appended}
+use Rattle.reg_machine.specs.Refusals.{refusal}
+use Rattle.reg_view.specs.AtClock.{told}
 use Rattle.reg_terms.specs.declared.query.Answer.{Answer}
 use Rattle.reg_terms.specs.declared.request.Request.{Request}
 use Rattle.reg_terms.specs.declared.request.Op.{Op}
@@ -43,7 +43,7 @@ answered (Err r) = reply.Refused r
 -- the reply to what is asked at the clock, and the state after it
 abbrev pub requested : State → List ℕ → Op → Reply × State
 requested s by (op.Command command) = ordered s (entity_of by) command
-requested s by (op.Query query) = (answered (show (view s.history s.clock by) query), s)
+requested s by (op.Query query) = (answered (told s.history s.clock by query), s)
 
 -- the reply to a reading at a moment, and the state after it
 abbrev pub turn : State → ℕ → Result Request Refusal → Reply × State

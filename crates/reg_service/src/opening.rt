@@ -1,7 +1,8 @@
 // The machine of a journal's records. A command is dropped by a call of `drop`: dropped in place,
 // it is taken apart by its kinds at each exit, and its proof is then ten times as large.
 ghost use Rattle.std.specs.Prelude.{◌≡◌, ◌≤◌, is_some, true, ℕ, Ok, Err, Some, None, IfOk, IfErr, IsErrOf};
-ghost use Rattle.reg_machine.specs.History.{start, refusal, appended};
+ghost use Rattle.reg_machine.specs.History.{start, appended};
+ghost use Rattle.reg_machine.specs.Refusals.{refusal};
 ghost use Rattle.reg_keep.specs.declared.open.OpenFault.TheVariants.{Damaged};
 ghost use Rattle.reg_terms.specs.Forms.{has_form};
 ghost use Rattle.reg_service.specs.Opening.{judged, or_place, accepted, after_stamped, after_payload};

@@ -1,7 +1,8 @@
 // One request after another, over a keeper. A command is dropped by a call of `drop`, as in
 // `opening`: else each exit takes it apart by its kinds.
 ghost use Rattle.std.specs.Prelude.{◌≡◌, ℕ, List, Result, true, false, Ok, Err, None, IfOk, IfErr, IfSome};
-ghost use Rattle.reg_machine.specs.History.{start, refusal};
+ghost use Rattle.reg_machine.specs.History.{start};
+ghost use Rattle.reg_machine.specs.Refusals.{refusal};
 ghost use Rattle.reg_keep.specs.Frames.{payloads_of_records};
 ghost use Rattle.reg_keep.specs.declared.open.OpenFault.TheVariants.{Damaged};
 ghost use Rattle.reg_terms.specs.declared.command.Stamped.{Stamped};

@@ -8,7 +8,8 @@ use Rattle.reg_outside.specs.Streams.{first_moment, later_moments}
 use Rattle.reg_terms.specs.declared.refusal.Refusal.{Refusal}
 use Rattle.reg_base.specs.declared.entity.Entity.{Entity}
 use Rattle.reg_terms.specs.declared.command.Command.{Command}
-use Rattle.reg_machine.specs.History.{State, refusal}
+use Rattle.reg_machine.specs.History.{State}
+use Rattle.reg_machine.specs.Refusals.{refusal}
 use Rattle.reg_terms.specs.declared.request.Request.{Request}
 use Rattle.reg_terms.specs.declared.request.Op.{Op}
 use Rattle.reg_terms.specs.declared.request.Op.TheVariants as op

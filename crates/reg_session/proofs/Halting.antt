@@ -13,7 +13,8 @@ use Rattle.reg_terms.specs.declared.refusal.Refusal.TheVariants.{BadWindow}
 use Rattle.reg_terms.specs.declared.request.Request.{Request}
 use Rattle.reg_terms.specs.declared.request.Op.{Op}
 use Rattle.reg_terms.specs.declared.request.Op.TheVariants as op
-use Rattle.reg_machine.specs.History.{State, refusal}
+use Rattle.reg_machine.specs.History.{State}
+use Rattle.reg_machine.specs.Refusals.{refusal}
 use Rattle.reg_keep.specs.declared.keeper.Keeper.{Ghosts}
 use Rattle.reg_service.specs.Opening.{payloads_of, Served, FrontsReopen}
 use Rattle.reg_service.specs.Kept.{KeptOn, IsBetween, IsOneMore, Stopped, Halted, KeepsNext, Began, RoseAt}

@@ -6,9 +6,9 @@ use Rattle.reg_base.specs.declared.entity.Entity.{Entity}
 use Rattle.reg_terms.specs.declared.command.Command.{Command}
 use Rattle.reg_terms.specs.declared.command.Stamped.{Stamped}
 use Rattle.reg_terms.specs.declared.refusal.Refusal.{Refusal}
-use Rattle.reg_machine.specs.History.{State, refusal}
-use Rattle.reg_view.specs.AtClock.{view}
-use Rattle.reg_view.specs.Show.{show}
+use Rattle.reg_machine.specs.History.{State}
+use Rattle.reg_machine.specs.Refusals.{refusal}
+use Rattle.reg_view.specs.AtClock.{told}
 use Rattle.reg_terms.specs.declared.query.Answer as terms
 use Rattle.reg_terms.specs.declared.request.Request.{Request}
 use Rattle.reg_terms.specs.declared.request.Op.{Op}
@@ -50,7 +50,7 @@ ordered_numbers s (Some by) command = decided_numbers s by command (refusal s.hi
 
 requested_numbers : (s : State) (by : List ℕ) (asked : Op) → NumbersAdded s (requested s by asked).0 (requested s by asked).1
 requested_numbers s by (op.Command command) = ordered_numbers s (entity_of by) command
-requested_numbers s by (op.Query query) = answered_numbers s (show (view s.history s.clock by) query)
+requested_numbers s by (op.Query query) = answered_numbers s (told s.history s.clock by query)
 
 moved : (s : State) (m : ℕ) (told : Reply) (after : State) → NumbersAdded (at_moment s m) told after → NumbersAdded s told after
 moved s m told after t = record { more = t.more; grown = t.grown; tells = t.tells }

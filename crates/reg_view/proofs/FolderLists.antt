@@ -1,6 +1,5 @@
 -- The listing of a folder over the facts is the one that the view shows.
 use Rattle.std.proofs.Common.{◌≡◌, ◌∷◌, ℕ, List, [], Bool, true, false, Option, Some, None, Result, Ok, Err, inl, inr, refl, sym, ap, ◌∙◌, map, filter}
-use Rattle.std.specs.Prelude.{if◌then◌else◌}
 use Rattle.std.specs.List.{find}
 use Rattle.std.specs.List.Sorted.{IsStrictlySortedBy}
 use Rattle.std.specs.Cmp.Lexicographic.{slice_cmp}
@@ -24,6 +23,7 @@ use Rattle.reg_effect.specs.declared.live.Live.{Live}
 use Rattle.reg_priv.specs.declared.who.Who.{Who}
 use Rattle.reg_priv.specs.May.{visible}
 use Rattle.reg_view.specs.Answers.{is_seen, listing, listing_of, seen_names}
+use Rattle.reg_view.specs.Past.{Past}
 use Rattle.reg_view.specs.Show.{◌>>=◌, found_or, folder_named, inside, shown_listing}
 use Rattle.reg_view.specs.View.{View, AttributeSeen, GroupSeen, attribute_object, attribute_seen, definition_object, folder_object, group_object, group_seen, seen_by}
 use Rattle.reg_view.proofs.Found.{chosen, found_by}
@@ -49,9 +49,9 @@ has_id d (r ∷ rows) row h = elim (cases_Bool (same_object (Folder r.id) (Folde
 ]
 
 module _ (sorted : (texts : List (List ℕ)) → IsStrictlySortedBy (slice_cmp nat_cmp) (by_bytes texts)) (same : (text : List ℕ) (texts : List (List ℕ)) → is_among text (by_bytes texts) ≡ is_among text texts)
-    (L : Live) (f : Lists) (sound : IsSound f) (are : AreNamed f) (c : Who) (now : ℕ) (by : List ℕ) (folder : List ℕ) where
+    (past : Past) (moment : ℕ) (L : Live) (f : Lists) (sound : IsSound f) (are : AreNamed f) (c : Who) (now : ℕ) (by : List ℕ) (folder : List ℕ) where
   abbrev v : View
-  v = seen_by L f now by c
+  v = seen_by past L f now moment by c
 
   abbrev folder_name : FolderRow → List ℕ
   folder_name row = name_of (Folder row.id) f

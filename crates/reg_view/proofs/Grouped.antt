@@ -1,5 +1,5 @@
 -- The groups of a person over the facts are those that the view shows.
-use Rattle.std.proofs.Common.{Bor, ◌≡◌, ◌==◌, ◌&&◌, ◌<◌, ◌≤◌, ◌∷◌, ℕ, List, [], Bool, true, false, Option, Some, None, Result, Ok, Err, inl, inr, refl, sym, ap, ◌∙◌, map, filter, bytes_eq, codes, arith}
+use Rattle.std.proofs.Common.{Bor, ◌≡◌, ◌==◌, ◌&&◌, ◌<◌, ◌∷◌, ℕ, List, [], Bool, true, false, Option, Some, None, Result, Ok, Err, inl, inr, refl, sym, ap, ◌∙◌, map, filter, bytes_eq, arith}
 use Rattle.std.specs.Prelude.{if◌then◌else◌, is_some}
 use Rattle.std.specs.List.{AllByRecursion, list_any}
 use Rattle.std.specs.List.Sorted.{IsStrictlySortedBy}
@@ -7,7 +7,7 @@ use Rattle.std.specs.BTreeSet.{BTreeSet}
 use Rattle.std.specs.Option.{option_copied}
 use Rattle.std.specs.Ordering.{nat_cmp, is_eq}
 use Rattle.std.specs.declared.cmp.Ordering.TheVariants.{Less}
-use Rattle.std.proofs.lemmas.Bool.{cases_Bool, both_ways, eqb-true, eq-eqb, false_from_ne_true}
+use Rattle.std.proofs.lemmas.Bool.{cases_Bool, eqb-true}
 use Rattle.std.proofs.lemmas.Bool.Decides.{nat_tests}
 use Rattle.std.proofs.lemmas.Cmp.{nat_cmp_total}
 use Rattle.std.proofs.lemmas.Grind.{common_steps}
@@ -17,7 +17,7 @@ use Rattle.reg_base.specs.declared.entity.Entity.{Entity}
 use Rattle.reg_base.specs.declared.entity.Entity.TheVariants as entity
 use Rattle.reg_terms.specs.declared.kinds.Object.TheVariants as object
 use Rattle.reg_terms.specs.declared.refusal.Refusal.{Refusal}
-use Rattle.reg_terms.specs.declared.refusal.Refusal.TheVariants.{NotFound, WrongKind}
+use Rattle.reg_terms.specs.declared.refusal.Refusal.TheVariants.{NotFound}
 use Rattle.reg_terms.specs.declared.rows.GroupRow.{GroupRow}
 use Rattle.reg_terms.specs.declared.rows.SubjectRow.{SubjectRow}
 use Rattle.reg_terms.specs.declared.query.Answer.{Answer}
@@ -34,10 +34,12 @@ use Rattle.reg_facts.specs.Sound.{AreTextsOnce, AscendFrom, IsSound, has_group}
 use Rattle.reg_effect.specs.declared.live.Live.{Live}
 use Rattle.reg_effect.specs.Member.{member}
 use Rattle.reg_priv.specs.declared.who.Who.{Who}
-use Rattle.reg_view.specs.Answers.{groups_with, groups_of, groups_of_person, readable_names}
+use Rattle.reg_view.specs.Answers.{groups_at, groups_of, groups_where, no_person, readable_names}
+use Rattle.reg_view.specs.Past.{Past, moment_of}
 use Rattle.reg_view.specs.Show as shown
-use Rattle.reg_view.specs.Show.{◌>>=◌, shown_groups}
+use Rattle.reg_view.specs.Show.{◌>>=◌, in_time, shown_groups}
 use Rattle.reg_view.specs.View.{View, GroupRead, GroupSeen, group_object, group_read, is_readable, seen_by, shown_where}
+use Rattle.reg_view.proofs.PastGroups.{in_time_same}
 use Rattle.reg_view.proofs.Same.{bytes_same}
 use Rattle.reg_view.proofs.Seen.{by_seen}
 
@@ -72,7 +74,7 @@ all_above : (n top : ℕ) (xs : List ℕ) → AscendFrom n top xs → AllByRecur
 all_above n top [] up = tt
 all_above n top (x ∷ xs) up = above n x top xs up.0 up.1
 
-ascending : (n top : ℕ) (xs : List ℕ) → AscendFrom n top xs → IsStrictlySortedBy nat_cmp xs
+pub ascending : (n top : ℕ) (xs : List ℕ) → AscendFrom n top xs → IsStrictlySortedBy nat_cmp xs
 unfolding IsStrictlySortedBy
 ascending n top [] up = tt
 ascending n top (x ∷ xs) up = (all_above x top xs up.1, ascending x top xs up.1)
@@ -124,12 +126,12 @@ names_map : (f : Lists) (rows : List GroupRow) → map (λ (g : ℕ). name_of (o
 names_map f [] = refl
 names_map f (row ∷ rows) = ap (λ more. name_of (object.Group row.id) f ∷ more) (names_map f rows)
 
--- the groups of a person's ids are those of the rows
-pub names_of_ids : (L : Live) (f : Lists) (c : Who) (s : ℕ) (ids : List ℕ) → IsSound f → IsStrictlySortedBy nat_cmp ids → ((g : ℕ) → among g ids ≡ member L g s) → answer.Groups (readable_names L f c ids) ≡ groups_with L f c s
-names_of_ids L f c s ids sound sorted each =
+-- the groups of some ids are those of the rows
+pub names_of_ids : (L : Live) (f : Lists) (c : Who) (is : ℕ → Bool) (ids : List ℕ) → IsSound f → IsStrictlySortedBy nat_cmp ids → ((g : ℕ) → among g ids ≡ is g) → answer.Groups (readable_names L f c ids) ≡ groups_where is L f c
+names_of_ids L f c is ids sound sorted each =
     let reads : ℕ → Bool = λ g. is_readable L f c (object.Group g) in
     let stands : ℕ → Bool = λ g. has_group g f.groups && reads g in
-    let has : ℕ → Bool = λ g. member L g s && reads g in
+    let has : ℕ → Bool = λ g. is g && reads g in
     let all : List ℕ = map (λ (row : GroupRow). row.id) f.groups in
     let a : BTreeSet ℕ = record { keys = filter stands ids } in
     let b : BTreeSet ℕ = record { keys = filter has all } in
@@ -138,7 +140,7 @@ names_of_ids L f c s ids sound sorted each =
     among_is q (filter stands ids)
     ∙ among_filter stands q ids
     ∙ ap (λ x. stands q && x) (each q)
-    ∙ either_way (has_group q f.groups) (reads q) (member L q s)
+    ∙ either_way (has_group q f.groups) (reads q) (is q)
     ∙ ap (λ x. has q && x) (sym (among_ids q f.groups))
     ∙ sym (among_filter has q all)
     ∙ sym (among_is q (filter has all))) exact_unsigned in
@@ -175,44 +177,66 @@ member_told test text (row ∷ rows) once = elim (cases_Bool (bytes_eq row.text 
   ]
 ]
 
-module _ (L : Live) (f : Lists) (sound : IsSound f) (are : AreNamed f) (once : AreTextsOnce f.subjects) (c : Who) (now : ℕ) (by : List ℕ) where
-  abbrev v : View
-  v = seen_by L f now by c
+-- groups by two tests that agree
+rows_same : (a b reads : ℕ → Bool) → ((g : ℕ) → a g ≡ b g) → (rows : List GroupRow) → filter (λ (row : GroupRow). a row.id && reads row.id) rows ≡ filter (λ (row : GroupRow). b row.id && reads row.id) rows
+rows_same a b reads same [] = refl
+rows_same a b reads same (row ∷ rows) = elim (cases_Bool (b row.id && reads row.id)) [
+  | inl t ↦ let u : (a row.id && reads row.id) ≡ true = ap (λ x. x && reads row.id) (same row.id) ∙ t in rw (t, u) (ap (λ more. row ∷ more) (rows_same a b reads same rows))
+  | inr t ↦ let u : (a row.id && reads row.id) ≡ false = ap (λ x. x && reads row.id) (same row.id) ∙ t in rw (t, u) (rows_same a b reads same rows)
+]
+
+groups_same : (L : Live) (f : Lists) (c : Who) (a b : ℕ → Bool) → ((g : ℕ) → a g ≡ b g) → groups_where a L f c ≡ groups_where b L f c
+groups_same L f c a b same = ap (λ rows. answer.Groups (map (λ (row : GroupRow). name_of (object.Group row.id) f) rows)) (rows_same a b (λ g. is_readable L f c (object.Group g)) same f.groups)
+
+module _ (past : Past) (L : Live) (f : Lists) (sound : IsSound f) (are : AreNamed f) (once : AreTextsOnce f.subjects) (c : Who) (now : ℕ) (by : List ℕ) where
+  abbrev view_at : ℕ → View
+  view_at moment = seen_by past L f now moment by c
 
   -- the rows of a person
-  module _ (text : List ℕ) (s : ℕ) (at : subject_id text f.subjects ≡ Some s) where
-    has : (g : ℕ) → is_among text (texts_where (member L g) f.subjects) ≡ member L g s
-    has g = member_told (member L g) text f.subjects once ∙ ap (passes (member L g)) at
+  module _ (moment : ℕ) (text : List ℕ) (s : ℕ) (at : subject_id text f.subjects ≡ Some s) where
+    has : (g : ℕ) → is_among text (texts_where (past.was moment g) f.subjects) ≡ past.was moment g s
+    has g = member_told (past.was moment g) text f.subjects once ∙ ap (passes (past.was moment g)) at
 
-    rows_with : (rows : List GroupRow) → map (λ (row : GroupRow). name_of (object.Group row.id) f) (filter (λ (row : GroupRow). member L row.id s && is_readable L f c (object.Group row.id)) rows)
-        ≡ map (λ (g : GroupRead). g.name) (filter (λ (g : GroupRead). is_among text g.members) (shown_where group_object (is_readable L f c) (group_read L f) rows))
+    rows_with : (rows : List GroupRow) → map (λ (row : GroupRow). name_of (object.Group row.id) f) (filter (λ (row : GroupRow). past.was moment row.id s && is_readable L f c (object.Group row.id)) rows)
+        ≡ map (λ (g : GroupRead). g.name) (filter (λ (g : GroupRead). is_among text g.past.members) (shown_where group_object (is_readable L f c) (group_read past f moment) rows))
     rows_with [] = refl
     rows_with (row ∷ rows) = elim (cases_Bool (is_readable L f c (object.Group row.id))) [
-      | inl r ↦ elim (cases_Bool (member L row.id s)) [
+      | inl r ↦ elim (cases_Bool (past.was moment row.id s)) [
         | inl m ↦ rw (r, has row.id, m) (ap (λ more. name_of (object.Group row.id) f ∷ more) (rows_with rows))
         | inr m ↦ rw (r, has row.id, m) (rows_with rows)
       ]
-      | inr r ↦ elim (cases_Bool (member L row.id s)) [
+      | inr r ↦ elim (cases_Bool (past.was moment row.id s)) [
         | inl m ↦ rw (r, m) (rows_with rows)
         | inr m ↦ rw (r, m) (rows_with rows)
       ]
     ]
 
-  person_agrees : (text : List ℕ) (o : Option ℕ) → subject_id text f.subjects ≡ o
-      → (elim o [ None ↦ Err (NotFound text) | Some s ↦ Ok (groups_with L f c s) ]) ≡ ((if is_some o then Ok (entity.Person text) else Err (NotFound text)) >>= shown.groups_with v)
-  person_agrees text None at = refl
-  person_agrees text (Some s) at = ap (λ names. Ok (answer.Groups names)) (rows_with text s at f.groups)
+  module _ (is_now : (g s : ℕ) → past.was now g s ≡ member L g s) where
+    abbrev shows : Option ℕ → Entity → Result Answer Refusal
+    shows at e = in_time now at >>= (λ _. shown.groups_with (view_at (moment_of now at)) e)
 
-  pub groups_agree : (e : Entity) → groups_of L f c e ≡ shown_groups v e
-  groups_agree (entity.Person text) =
-      person_agrees text (subject_id text f.subjects) refl
-      ∙ ap (λ b. (if b then Ok (entity.Person text) else Err (NotFound text)) >>= shown.groups_with v) (sym (text_known text f.subjects))
-  groups_agree (entity.Group name) =
-      by_seen L f sound are c now by name (λ (g : GroupSeen). Err (WrongKind (codes "subject"))) (λ id. Err (WrongKind (codes "subject"))) (λ row at there. refl)
-      ∙ sym (after_seen (shown.seen v name))
-    where
-      after_seen : (r : Result GroupSeen Refusal) → ((r >>= (λ _. Ok (entity.Group name))) >>= shown.groups_with v) ≡ (r >>= (λ _. Err (WrongKind (codes "subject"))))
-      after_seen (Ok g) = refl
-      after_seen (Err e) = refl
-  groups_agree entity.System = refl
-  groups_agree entity.Everyone = refl
+    abbrev groups_then : ℕ → ℕ → Result Answer Refusal
+    groups_then s t = Ok (groups_where (λ g. past.was t g s) L f c)
+
+    moment_same : (at : Option ℕ) (s : ℕ) → groups_at past L f now c s at ≡ (in_time now at >>= (λ _. groups_then s (moment_of now at)))
+    moment_same None s = ap (λ a. Ok a) (groups_same L f c (λ g. member L g s) (λ g. past.was now g s) (λ g. sym (is_now g s)))
+    moment_same (Some at) s = in_time_same (groups_then s) now at
+
+    person_agrees : (text : List ℕ) (at : Option ℕ) (o : Option ℕ) → subject_id text f.subjects ≡ o
+        → (elim o [ None ↦ Err (NotFound text) | Some s ↦ groups_at past L f now c s at ]) ≡ ((if is_some o then Ok (entity.Person text) else Err (NotFound text)) >>= shows at)
+    person_agrees text at None is = refl
+    person_agrees text at (Some s) is = moment_same at s ∙ ap (λ names. in_time now at >>= (λ _. Ok (answer.Groups names))) (rows_with (moment_of now at) text s is f.groups)
+
+    pub groups_agree : (e : Entity) (at : Option ℕ) → groups_of past L f now c e at ≡ shown_groups (view_at (moment_of now at)) e at
+    groups_agree (entity.Person text) at =
+        person_agrees text at (subject_id text f.subjects) refl
+        ∙ ap (λ b. (if b then Ok (entity.Person text) else Err (NotFound text)) >>= shows at) (sym (text_known text f.subjects))
+    groups_agree (entity.Group name) at =
+        by_seen past (moment_of now at) L f sound are c now by name (λ (g : GroupSeen). no_person now at) (λ id. no_person now at) (λ row at there. refl)
+        ∙ sym (after_seen (shown.seen (view_at (moment_of now at)) name))
+      where
+        after_seen : (r : Result GroupSeen Refusal) → ((r >>= (λ _. Ok (entity.Group name))) >>= shows at) ≡ (r >>= (λ _. no_person now at))
+        after_seen (Ok g) = refl
+        after_seen (Err e) = refl
+    groups_agree entity.System at = refl
+    groups_agree entity.Everyone at = refl

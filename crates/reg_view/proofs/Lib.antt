@@ -6,11 +6,15 @@ pub mod Found
 pub mod Standing
 pub mod Seen
 pub mod Agreeing
+pub mod Gone
+pub mod PastGroups
+pub mod Logged
 pub mod Ordered
 pub mod Homes
 pub mod Listed
 pub mod FolderLists
 pub mod Grouped
+pub mod HistoryRows
 pub mod Meaning
 pub mod Powers
 pub mod Shown

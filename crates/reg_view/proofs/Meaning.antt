@@ -1,8 +1,7 @@
 -- What a text names over the facts is what it names in the view.
-use Rattle.std.proofs.Common.{◌≡◌, ◌==◌, ◌||◌, ◌∷◌, ℕ, List, [], Bool, true, false, Option, Some, None, Result, Ok, Err, inl, inr, refl, sym, ap, ◌∙◌, map, codes}
+use Rattle.std.proofs.Common.{◌≡◌, ◌==◌, ℕ, List, Bool, true, false, Option, Some, None, Result, Ok, Err, refl, sym, ap, ◌∙◌, codes}
 use Rattle.std.specs.Prelude.{if◌then◌else◌, is_some}
 use Rattle.std.specs.List.{find, list_any}
-use Rattle.std.proofs.lemmas.Bool.{cases_Bool, both_ways}
 use Rattle.reg_base.specs.Entities.{entity_of}
 use Rattle.reg_base.specs.declared.entity.Entity.{Entity}
 use Rattle.reg_base.specs.declared.entity.Entity.TheVariants as entity
@@ -19,12 +18,12 @@ use Rattle.reg_facts.specs.Edits.{subject_id}
 use Rattle.reg_facts.specs.Lists.{Lists}
 use Rattle.reg_facts.specs.Named.{AreNamed}
 use Rattle.reg_facts.specs.Naming.{name_of, resolve}
-use Rattle.reg_facts.specs.Rows.{attribute_row}
-use Rattle.reg_facts.specs.Sound.{IsSound, is_named}
+use Rattle.reg_facts.specs.Sound.{IsSound}
 use Rattle.reg_effect.specs.declared.live.Live.{Live}
 use Rattle.reg_priv.specs.declared.who.Who.{Who}
 use Rattle.reg_priv.specs.May.{visible}
 use Rattle.reg_view.specs.Answers.{definition_of, entity_found, entity_object, group_seen, name_found, object_found}
+use Rattle.reg_view.specs.Past.{Past}
 use Rattle.reg_view.specs.Show as shown
 use Rattle.reg_view.specs.Show.{◌>>=◌, found_or, named, Kind, Meant, AFolder, AGroup, ADefinition, AnAttribute, Named, ASubject, Internal, attribute_named, definition_named, entity_seen, folder_named, group_named, object_meant, object_named, object_seen}
 use Rattle.reg_view.specs.Texts.{definition_name}
@@ -50,9 +49,9 @@ Stands f (entity.Group name) = Unit {0}
 Stands f entity.System = Unit {0}
 Stands f entity.Everyone = Unit {0}
 
-module _ (L : Live) (f : Lists) (sound : IsSound f) (are : AreNamed f) (c : Who) (now : ℕ) (by : List ℕ) where
+module _ (past : Past) (moment : ℕ) (L : Live) (f : Lists) (sound : IsSound f) (are : AreNamed f) (c : Who) (now : ℕ) (by : List ℕ) where
   abbrev v : View
-  v = seen_by L f now by c
+  v = seen_by past L f now moment by c
 
   -- ---- entities
 
@@ -77,7 +76,7 @@ module _ (L : Live) (f : Lists) (sound : IsSound f) (are : AreNamed f) (c : Who)
         ∙ ap (λ b. (if b then Ok (entity.Person text) else Err (NotFound text)) >>= k) (sym (text_known text f.subjects))
     by_entity (entity.Group name) same =
         seen_step name (group_seen L f c name)
-        ∙ by_seen L f sound are c now by name (λ _. k (entity.Group name)) (λ _. m) (λ row at there. same tt)
+        ∙ by_seen past moment L f sound are c now by name (λ _. k (entity.Group name)) (λ _. m) (λ row at there. same tt)
         ∙ sym (shown_step name (shown.seen v name))
     by_entity entity.System same = same tt
     by_entity entity.Everyone same = same tt
@@ -123,7 +122,7 @@ module _ (L : Live) (f : Lists) (sound : IsSound f) (are : AreNamed f) (c : Who)
       group_go (Some (Subject s)) at = other_kind (Subject s) (λ r. refl)
 
       seen_meant : (o : Option Object) → resolve name f ≡ o → told_of o ≡ (shown.seen v name >>= (λ _. k (Named name AGroup)))
-      seen_meant o at = group_go o at ∙ sym (ap shows (seen_is L f sound are c now by name o at))
+      seen_meant o at = group_go o at ∙ sym (ap shows (seen_is past moment L f sound are c now by name o at))
 
     by_entity_object : (e : Entity) → (entity_found L f c e >>= m) ≡ (entity_seen v e >>= meant)
     by_entity_object (entity.Person text) =
@@ -179,7 +178,7 @@ module _ (L : Live) (f : Lists) (sound : IsSound f) (are : AreNamed f) (c : Who)
       found_lists : (o : Option Object) → resolve text f ≡ o → object_named v text ≡ in_lists (folders_of o) (groups_of o) (definitions_of o) (attributes_of o)
       found_lists o at =
           ap (λ x. in_lists x (group_named v text) (definition_named v text) (attribute_named v text)) (found_by f are text folder_object (visible L f c) folder_name (λ (n : List ℕ). n) (λ r. refl) f.folders o (folders_named f sound) at)
-          ∙ ap (λ x. in_lists (folders_of o) x (definition_named v text) (attribute_named v text)) (seen_is L f sound are c now by text o at)
+          ∙ ap (λ x. in_lists (folders_of o) x (definition_named v text) (attribute_named v text)) (seen_is past moment L f sound are c now by text o at)
           ∙ ap (λ x. in_lists (folders_of o) (groups_of o) x (attribute_named v text)) (found_by f are text definition_object (visible L f c) def_name (λ (n : List ℕ). n) (λ r. refl) f.definitions o (definitions_named f) at)
           ∙ ap (λ x. in_lists (folders_of o) (groups_of o) (definitions_of o) x) (found_by f are text attribute_object (visible L f c) (attribute_seen f) (λ (a : AttributeSeen). a.name) (λ r. refl) f.attributes o (attributes_named f) at)
 

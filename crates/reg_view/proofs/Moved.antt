@@ -6,28 +6,40 @@ use Rattle.reg_terms.specs.declared.query.Query.{Query}
 use Rattle.reg_terms.specs.declared.query.Answer.{Answer}
 use Rattle.reg_facts.specs.Lists.{Lists}
 use Rattle.reg_effect.specs.declared.live.Live.{Live}
+use Rattle.reg_effect.specs.Member.{member}
 use Rattle.reg_machine.specs.History.{facts}
 use Rattle.reg_machine.specs.Live.{live}
-use Rattle.reg_view.specs.AtClock.{view}
+use Rattle.reg_view.specs.AtClock.{asked_at, view}
+use Rattle.reg_view.specs.Past.{Past, past}
 use Rattle.reg_view.specs.Show.{show}
 use Rattle.reg_view.specs.Telling.{IfRefused, TellsOf, names_of}
-use Rattle.reg_view.specs.Unseen.{IsUnseen}
+use Rattle.reg_view.specs.Unseen.{IsOfNoneGone, IsUnseen}
 use Rattle.reg_view.specs.View.{View, view_of}
 use Rattle.reg_view.proofs.Tellings.{show_says}
 
 pub at_clock : (history : List Stamped) (now : ℕ) (by : List ℕ) (q : Query) (L : Live) (f : Lists) (r : Result Answer Refusal) → L ≡ live now (facts history now) → f ≡ facts history now
-    → ((t : ℕ) → r ≡ show (view_of L f t by) q) → r ≡ show (view history now by) q
+    → r ≡ show (view_of (past history now) L f now (asked_at now q) by) q → r ≡ show (view history now (asked_at now q) by) q
 unfolding view
 at_clock history now by q L f r live_is facts_is shown =
-    shown now
-    ∙ ap (λ l. show (view_of l f now by) q) live_is
-    ∙ ap (λ g. show (view_of (live now (facts history now)) g now by) q) facts_is
+    shown
+    ∙ ap (λ l. show (view_of (past history now) l f now (asked_at now q) by) q) live_is
+    ∙ ap (λ g. show (view_of (past history now) (live now (facts history now)) g now (asked_at now q) by) q) facts_is
 
 -- a group that isn't seen at the clock isn't seen over the facts there
 pub unseen_at : (history : List Stamped) (now : ℕ) (by group : List ℕ) (L : Live) (f : Lists) → L ≡ live now (facts history now) → f ≡ facts history now
     → IsUnseen (live now (facts history now)) (facts history now) by group → IsUnseen L f by group
 unseen_at history now by group L f live_is facts_is h =
     subst (λ l. IsUnseen l f by group) (sym live_is) (subst (λ g. IsUnseen (live now (facts history now)) g by group) (sym facts_is) h)
+
+-- and so one that isn't gone
+pub none_gone_at : (p : Past) (history : List Stamped) (now : ℕ) (by : List ℕ) (q : Query) (L : Live) (f : Lists) → L ≡ live now (facts history now) → f ≡ facts history now
+    → IsOfNoneGone p (live now (facts history now)) (facts history now) by q → IsOfNoneGone p L f by q
+none_gone_at p history now by q L f live_is facts_is h =
+    subst (λ l. IsOfNoneGone p l f by q) (sym live_is) (subst (λ g. IsOfNoneGone p (live now (facts history now)) g by q) (sym facts_is) h)
+
+-- who is a member at the clock is who was
+pub now_is : (history : List Stamped) (now : ℕ) (L : Live) → L ≡ live now (facts history now) → (g s : ℕ) → (past history now).was now g s ≡ member L g s
+now_is history now L live_is g s = ap (λ l. member l g s) (sym live_is)
 
 -- what is shown tells nothing else
 pub tells_at : (v : View) (q : Query) (r : Result Answer Refusal) → r ≡ show v q → IfRefused (TellsOf v (names_of q)) r

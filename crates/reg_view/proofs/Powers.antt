@@ -1,7 +1,6 @@
 -- Grants and privileges over the facts are those that the view shows.
-use Rattle.std.proofs.Common.{◌≡◌, ◌∷◌, ℕ, List, [], Bool, true, false, Option, Some, None, Result, Ok, Err, inl, inr, refl, sym, ap, ◌∙◌, map, codes, bytes_eq}
+use Rattle.std.proofs.Common.{◌≡◌, ◌∷◌, ℕ, List, [], Bool, true, false, Option, Some, None, Result, Ok, Err, inl, inr, refl, sym, ap, ◌∙◌, map, bytes_eq}
 use Rattle.std.specs.Prelude.{if◌then◌else◌, option_map}
-use Rattle.std.specs.List.{find}
 use Rattle.std.proofs.lemmas.Bool.{cases_Bool}
 use Rattle.reg_base.specs.declared.entity.Entity.{Entity}
 use Rattle.reg_base.specs.declared.entity.Entity.TheVariants as entity
@@ -10,7 +9,7 @@ use Rattle.reg_base.specs.declared.privilege.Privilege.TheVariants as privilege
 use Rattle.reg_terms.specs.declared.kinds.Object.{Object}
 use Rattle.reg_terms.specs.declared.kinds.Object.TheVariants.{Folder, Group, Def, Attr, Subject}
 use Rattle.reg_terms.specs.declared.refusal.Refusal.{Refusal}
-use Rattle.reg_terms.specs.declared.refusal.Refusal.TheVariants.{NotFound, WrongKind}
+use Rattle.reg_terms.specs.declared.refusal.Refusal.TheVariants.{NotFound}
 use Rattle.reg_terms.specs.declared.rows.SubjectRow.{SubjectRow}
 use Rattle.reg_terms.specs.declared.query.Answer.{Answer}
 use Rattle.reg_terms.specs.declared.query.Answer.TheVariants as answer
@@ -24,6 +23,7 @@ use Rattle.reg_priv.specs.declared.who.Who.{Who}
 use Rattle.reg_priv.specs.declared.who.Who.TheVariants as who
 use Rattle.reg_priv.specs.May.{is_root, privileges_of, visible, who_of}
 use Rattle.reg_view.specs.Answers as answers
+use Rattle.reg_view.specs.Past.{Past}
 use Rattle.reg_view.specs.Show as shown
 use Rattle.reg_view.specs.Show.{◌>>=◌, found_or, denied, named, root_denied, is_caller, Kind, Meant, AFolder, AGroup, ADefinition, AnAttribute, Named, ASubject, Internal, entity_seen, shown_grants, shown_may}
 use Rattle.reg_view.specs.View.{View, Administered, Powers, administered, is_admin, objects, own_powers, person_powers, seen_by}
@@ -35,9 +35,9 @@ use Rattle.reg_view.proofs.Standing.{object_there, objects_named, subject_unname
 abbrev shown_may_of : List Privilege → Result Answer Refusal
 shown_may_of ps = Ok (answer.May ps)
 
-module _ (L : Live) (f : Lists) (sound : IsSound f) (are : AreNamed f) (c : Who) (now : ℕ) (by : List ℕ) where
+module _ (past : Past) (moment : ℕ) (L : Live) (f : Lists) (sound : IsSound f) (are : AreNamed f) (c : Who) (now : ℕ) (by : List ℕ) where
   abbrev v : View
-  v = seen_by L f now by c
+  v = seen_by past L f now moment by c
 
   -- what is listed of an object by its name
   own_is : (name : List ℕ) (o : Object) → resolve name f ≡ Some o → visible L f c o ≡ true → named (λ (p : Powers). p.name) v.own name ≡ Some (own_powers L f c o)
@@ -86,7 +86,7 @@ module _ (L : Live) (f : Lists) (sound : IsSound f) (are : AreNamed f) (c : Who)
   no_subject name o at s is = subject_unnamed f sound s (ap (λ x. is_named x f) (sym is) ∙ (are.found name o at).1)
 
   pub grants_agree : (text : List ℕ) → answers.grants_of L f c text ≡ shown_grants v text
-  grants_agree text = by_object L f sound are c now by (answers.grants_on L f c) (shown.grants_on v) refl (λ s. refl)
+  grants_agree text = by_object past moment L f sound are c now by (answers.grants_on L f c) (shown.grants_on v) refl (λ s. refl)
       (λ name o at sees. as_admin (λ (a : Administered). shown.grants_told a (kind_of f o)) (answers.grants_told f o) name o at (grants_same o (no_subject name o at)) (no_subject name o at)) text
 
   -- ---- what someone may do
@@ -145,10 +145,10 @@ module _ (L : Live) (f : Lists) (sound : IsSound f) (are : AreNamed f) (c : Who)
     on_named false name o at sees stands = as_admin (λ (a : Administered). shown.powers_for a e) (answers.powers_told L f (who_of e f) o) name o at (powers_same o e stands) (no_subject name o at)
 
     pub may_agrees : (text : List ℕ) → answers.may_of L f by c text e ≡ shown_may v text e
-    may_agrees text = by_object L f sound are c now by
+    may_agrees text = by_object past moment L f sound are c now by
         (λ o. answers.entity_found L f c e >>= (λ _. tells o))
         (λ o. entity_seen v e >>= shows o)
-        (by_entity L f sound are c now by (tells None) (shows Internal) e (λ stands. internal (is_caller by e)))
-        (λ s. by_entity L f sound are c now by (tells (Some (Subject s))) (shows ASubject) e (λ stands. on_subject (is_caller by e) (is_root L f c) s stands))
-        (λ name o at sees. by_entity L f sound are c now by (tells (Some o)) (shows (Named name (kind_of f o))) e (λ stands. on_named (is_caller by e) name o at sees stands))
+        (by_entity past moment L f sound are c now by (tells None) (shows Internal) e (λ stands. internal (is_caller by e)))
+        (λ s. by_entity past moment L f sound are c now by (tells (Some (Subject s))) (shows ASubject) e (λ stands. on_subject (is_caller by e) (is_root L f c) s stands))
+        (λ name o at sees. by_entity past moment L f sound are c now by (tells (Some o)) (shows (Named name (kind_of f o))) e (λ stands. on_named (is_caller by e) name o at sees stands))
         text

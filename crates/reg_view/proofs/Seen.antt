@@ -1,5 +1,5 @@
 -- What is found in the view of a name is what the facts have of it.
-use Rattle.std.proofs.Common.{◌≡◌, ◌==◌, ◌∷◌, ℕ, List, [], Bool, true, false, Option, Some, None, Result, Ok, Err, inl, inr, refl, sym, ap, ◌∙◌, option_map}
+use Rattle.std.proofs.Common.{◌≡◌, ◌==◌, ◌∷◌, ℕ, List, [], Bool, true, false, Option, Some, None, Result, Ok, Err, inl, inr, refl, sym, ap, ◌∙◌}
 use Rattle.std.specs.Prelude.{if◌then◌else◌}
 use Rattle.std.specs.List.{find}
 use Rattle.std.proofs.lemmas.Bool.{cases_Bool, eqb-true}
@@ -12,14 +12,15 @@ use Rattle.reg_terms.specs.declared.rows.GroupRow.{GroupRow}
 use Rattle.reg_terms.specs.Kinds.{same_object, as_group}
 use Rattle.reg_facts.specs.Lists.{Lists}
 use Rattle.reg_facts.specs.Named.{AreNamed}
-use Rattle.reg_facts.specs.Naming.{resolve, name_of}
+use Rattle.reg_facts.specs.Naming.{resolve}
 use Rattle.reg_facts.specs.Sound.{IsSound}
 use Rattle.reg_effect.specs.declared.live.Live.{Live}
 use Rattle.reg_priv.specs.declared.who.Who.{Who}
 use Rattle.reg_priv.specs.May.{visible}
 use Rattle.reg_view.specs.Answers as answers
+use Rattle.reg_view.specs.Past.{Past}
 use Rattle.reg_view.specs.Show.{◌>>=◌, found_or, denied, named, seen, read, group_named}
-use Rattle.reg_view.specs.View.{View, GroupSeen, GroupRead, folder_object, group_object, group_seen, group_read, is_readable, seen_by, shown_where}
+use Rattle.reg_view.specs.View.{View, GroupSeen, GroupRead, group_object, group_seen, group_read, is_readable, seen_by}
 use Rattle.reg_view.proofs.Found.{chosen, found_by}
 use Rattle.reg_view.proofs.Standing.{group_there, groups_named}
 
@@ -53,15 +54,15 @@ has_id g (r ∷ rows) row h = elim (cases_Bool (r.id == g)) [
   | inr t ↦ has_id g rows row (rw t at h)
 ]
 
-module _ (L : Live) (f : Lists) (sound : IsSound f) (are : AreNamed f) (c : Who) (now : ℕ) (by : List ℕ) (text : List ℕ) where
+module _ (past : Past) (moment : ℕ) (L : Live) (f : Lists) (sound : IsSound f) (are : AreNamed f) (c : Who) (now : ℕ) (by : List ℕ) (text : List ℕ) where
   abbrev v : View
-  v = seen_by L f now by c
+  v = seen_by past L f now moment by c
 
   abbrev seen_of : Option Object → Option GroupSeen
   seen_of o = chosen group_object (visible L f c) (group_seen f) f.groups o
 
   abbrev read_of : Option Object → Option GroupRead
-  read_of o = chosen group_object (is_readable L f c) (group_read L f) f.groups o
+  read_of o = chosen group_object (is_readable L f c) (group_read past f moment) f.groups o
 
   abbrev told : Option Object → Result ℕ Refusal
   told o = elim (as_group o) [ None ↦ Err (NotFound text) | Some id ↦ if visible L f c (Group id) then Ok id else Err (NotFound text) ]
@@ -70,7 +71,7 @@ module _ (L : Live) (f : Lists) (sound : IsSound f) (are : AreNamed f) (c : Who)
   seen_is o at = found_by f are text group_object (visible L f c) (group_seen f) (λ (g : GroupSeen). g.name) (λ r. refl) f.groups o (groups_named f) at
 
   read_is : (o : Option Object) → resolve text f ≡ o → named (λ (g : GroupRead). g.name) v.readable text ≡ read_of o
-  read_is o at = found_by f are text group_object (is_readable L f c) (group_read L f) (λ (g : GroupRead). g.name) (λ r. refl) f.groups o (groups_named f) at
+  read_is o at = found_by f are text group_object (is_readable L f c) (group_read past f moment) (λ (g : GroupRead). g.name) (λ r. refl) f.groups o (groups_named f) at
 
   module _ {B : Type 0} (k : GroupSeen → Result B Refusal) (m : ℕ → Result B Refusal) (same : (row : GroupRow) → resolve text f ≡ Some (Group row.id) → find (λ (r : GroupRow). r.id == row.id) f.groups ≡ Some row → m row.id ≡ k (group_seen f row)) where
     abbrev shows : Option GroupSeen → Result B Refusal
@@ -100,7 +101,7 @@ module _ (L : Live) (f : Lists) (sound : IsSound f) (are : AreNamed f) (c : Who)
     pub by_seen : (answers.group_seen L f c text >>= m) ≡ (seen v text >>= k)
     by_seen = go (resolve text f) refl ∙ sym (ap shows (seen_is (resolve text f) refl))
 
-  module _ {B : Type 0} (k : GroupRead → Result B Refusal) (m : ℕ → Result B Refusal) (same : (row : GroupRow) → m row.id ≡ k (group_read L f row)) where
+  module _ {B : Type 0} (k : GroupRead → Result B Refusal) (m : ℕ → Result B Refusal) (same : (row : GroupRow) → m row.id ≡ k (group_read past f moment row)) where
     abbrev reads : Option GroupRead → Result B Refusal
     reads r = found_or r (denied text privilege.Read) >>= k
 
@@ -110,8 +111,8 @@ module _ (L : Live) (f : Lists) (sound : IsSound f) (are : AreNamed f) (c : Who)
 
     read_on : (row : GroupRow) → resolve text f ≡ Some (Group row.id) → find (λ (r : GroupRow). r.id == row.id) f.groups ≡ Some row → ((if is_readable L f c (Group row.id) then Ok row.id else Err (denied text privilege.Read)) >>= m) ≡ (read v text >>= k)
     read_on row at there =
-        is_read (is_readable L f c (Group row.id)) row.id (group_read L f row) (same row)
-        ∙ sym (ap reads (its_row group_object (is_readable L f c) (group_read L f) f.groups (Group row.id) row there))
+        is_read (is_readable L f c (Group row.id)) row.id (group_read past f moment row) (same row)
+        ∙ sym (ap reads (its_row group_object (is_readable L f c) (group_read past f moment) f.groups (Group row.id) row there))
         ∙ sym (ap reads (read_is (Some (Group row.id)) at))
 
     -- going on from a group that is read

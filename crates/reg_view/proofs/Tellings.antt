@@ -1,7 +1,7 @@
 -- A refusal names nothing that the query doesn't name, but for the root and the definition of an attribute that is seen.
 use Rattle.std.proofs.Common.{◌≡◌, ◌==◌, ◌||◌, ◌∷◌, ◌++◌, ℕ, List, [], Bool, true, false, Option, Some, None, Result, Ok, Err, inl, inr, refl, sym, ap, ◌∙◌, bytes_eq, codes}
-use Rattle.std.specs.Prelude.{⊤, if◌then◌else◌}
-use Rattle.std.specs.List.{find, list_any}
+use Rattle.std.specs.Prelude.{⊤, nat_lt, option_map, if◌then◌else◌}
+use Rattle.std.specs.List.{list_any}
 use Rattle.std.proofs.lemmas.Bool.{cases_Bool, both_ways, or_left, or_right}
 use Rattle.std.proofs.lemmas.List.Folds.{list_any-append}
 use Rattle.reg_base.specs.Entities.{entity_of}
@@ -10,7 +10,7 @@ use Rattle.reg_base.specs.declared.entity.Entity.TheVariants as entity
 use Rattle.reg_base.specs.declared.privilege.Privilege.{Privilege}
 use Rattle.reg_base.specs.declared.privilege.Privilege.TheVariants as privilege
 use Rattle.reg_terms.specs.declared.refusal.Refusal.{Refusal}
-use Rattle.reg_terms.specs.declared.refusal.Refusal.TheVariants.{NoCaller, NotFound, Denied}
+use Rattle.reg_terms.specs.declared.refusal.Refusal.TheVariants.{NoCaller, NotFound, Future}
 use Rattle.reg_terms.specs.declared.query.Query.{Query}
 use Rattle.reg_terms.specs.declared.query.Query.TheVariants as query
 use Rattle.reg_terms.specs.declared.query.Answer.{Answer}
@@ -19,7 +19,8 @@ use Rattle.reg_facts.specs.Children.{is_among}
 use Rattle.reg_view.specs.Show as shown
 use Rattle.reg_view.specs.Show.{◌>>=◌, found_or, denied, named, Kind, Meant, AFolder, AGroup, ADefinition, AnAttribute, Named, ASubject, Internal}
 use Rattle.reg_view.specs.Telling.{entity_names, object_names, names_of, is_definition, TellsOf, IfRefused}
-use Rattle.reg_view.specs.View.{View, AttributeSeen, Administered, GroupRead, GroupSeen, Powers}
+use Rattle.reg_view.specs.Past.{GroupPast}
+use Rattle.reg_view.specs.View.{View, AttributeSeen, Administered, ConsumerSeen, GroupGone, GroupRead, GroupSeen, Powers}
 use Rattle.reg_view.proofs.Same.{bytes_same, bytes_self}
 
 -- what is found has this, or the refusal tells nothing else
@@ -45,11 +46,14 @@ in_right : (text : List ℕ) (a b : List (List ℕ)) → is_among text b ≡ tru
 in_right text a b h = list_any-append (λ t. bytes_eq t text) a b ∙ or_right (is_among text a) (is_among text b) h
 
 -- results of one type
-abbrev members_answer : GroupRead → Answer
-members_answer g = answer.Members g.members
-
 abbrev rows_answer : GroupRead → Answer
 rows_answer g = answer.Rows g.composite g.rows
+
+abbrev its_past : GroupPast → Result GroupPast Refusal
+its_past g = Ok g
+
+abbrev in_step : Result ⊤ Refusal
+in_step = Ok tt
 
 abbrev meaning : Meant → Result Meant Refusal
 meaning m = Ok m
@@ -86,6 +90,35 @@ module _ (v : View) where
   read_says group k =
       next (λ (g : GroupSeen). ⊤) (TellsOf v (group ∷ [])) (shown.seen v group) (λ _. shown.read v group >>= (λ g. answered (k g))) (seen_says (group ∷ []) group (first group [])) (λ g h.
       next (λ (g : GroupRead). ⊤) (TellsOf v (group ∷ [])) (shown.read v group) (λ g. answered (k g)) (found_says (TellsOf v (group ∷ [])) (named (λ (g : GroupRead). g.name) v.readable group) _ (own (group ∷ []) group privilege.Read (first group []))) (λ g h. tt))
+
+  -- ---- the past
+
+  told_past : (names : List (List ℕ)) (r : Result GroupRead Refusal) → Says (λ (g : GroupRead). ⊤) (TellsOf v names) r → Says (λ (g : GroupPast). ⊤) (TellsOf v names) (r >>= (λ g. its_past g.past))
+  told_past names (Ok g) h = tt
+  told_past names (Err e) h = h
+
+  past_says : (group : List ℕ) (s : Option GroupSeen) → Says (λ (g : GroupPast). ⊤) (TellsOf v (group ∷ [])) (shown.past_told v group s)
+  past_says group (Some s) = told_past (group ∷ []) (shown.read v group) (found_says (TellsOf v (group ∷ [])) (named (λ (g : GroupRead). g.name) v.readable group) (denied group privilege.Read) (own (group ∷ []) group privilege.Read (first group [])))
+  past_says group None = found_says (TellsOf v (group ∷ [])) (option_map (λ (g : GroupGone). g.past) (shown.gone_named v group)) (NotFound group) (first group [])
+
+  early : (names : List (List ℕ)) (b : Bool) (now at : ℕ) → Says (λ (u : ⊤). ⊤) (TellsOf v names) (if b then Err (Future at now) else in_step)
+  early names true now at = tt
+  early names false now at = tt
+
+  in_time_says : (names : List (List ℕ)) (now : ℕ) (at : Option ℕ) → Says (λ (u : ⊤). ⊤) (TellsOf v names) (shown.in_time now at)
+  in_time_says names now None = tt
+  in_time_says names now (Some at) = early names (nat_lt now at) now at
+
+  members_say : (group : List ℕ) (at : Option ℕ) → IfRefused (TellsOf v (group ∷ [])) (shown.shown_members v group at)
+  members_say group at =
+      next (λ (g : GroupPast). ⊤) (TellsOf v (group ∷ [])) (shown.past_of v group) (λ g. shown.in_time v.now at >>= (λ _. answered (answer.Members g.members))) (past_says group (shown.group_named v group)) (λ g h.
+      next (λ (u : ⊤). ⊤) (TellsOf v (group ∷ [])) (shown.in_time v.now at) (λ _. answered (answer.Members g.members)) (in_time_says (group ∷ []) v.now at) (λ u t. tt))
+
+  history_says : (group : List ℕ) → IfRefused (TellsOf v (group ∷ [])) (shown.shown_history v group)
+  history_says group = next (λ (g : GroupPast). ⊤) (TellsOf v (group ∷ [])) (shown.past_of v group) (λ g. answered (answer.History g.history)) (past_says group (shown.group_named v group)) (λ g h. tt)
+
+  log_says : (consumer : List ℕ) (max : ℕ) → IfRefused (TellsOf v (consumer ∷ [])) (shown.shown_log v consumer max)
+  log_says consumer max = next (λ (c : ConsumerSeen). ⊤) (TellsOf v (consumer ∷ [])) (found_or (named (λ (c : ConsumerSeen). c.name) v.consumers consumer) (NotFound consumer)) _ (found_says (TellsOf v (consumer ∷ [])) (named (λ (c : ConsumerSeen). c.name) v.consumers consumer) (NotFound consumer) (first consumer [])) (λ c h. tt)
 
   listing_says : (folder : List ℕ) → IfRefused (TellsOf v (folder ∷ [])) (shown.shown_listing v folder)
   listing_says folder = next (λ (d : List ℕ). ⊤) (TellsOf v (folder ∷ [])) (found_or (shown.folder_named v folder) (NotFound folder)) _ (found_says (TellsOf v (folder ∷ [])) (shown.folder_named v folder) (NotFound folder) (first folder [])) (λ g h. tt)
@@ -197,8 +230,10 @@ module _ (v : View) where
   with_says names entity.System = tt
   with_says names entity.Everyone = tt
 
-  groups_says : (e : Entity) → IfRefused (TellsOf v (entity_names e)) (shown.shown_groups v e)
-  groups_says e = next (λ (x : Entity). AreThese (entity_names x) (entity_names e)) (TellsOf v (entity_names e)) (shown.entity_seen v e) (shown.groups_with v) (entity_says (entity_names e) e (λ other h. h)) (λ x h. with_says (entity_names e) x)
+  groups_says : (e : Entity) (at : Option ℕ) → IfRefused (TellsOf v (entity_names e)) (shown.shown_groups v e at)
+  groups_says e at =
+      next (λ (x : Entity). AreThese (entity_names x) (entity_names e)) (TellsOf v (entity_names e)) (shown.entity_seen v e) (λ x. shown.in_time v.now at >>= (λ _. shown.groups_with v x)) (entity_says (entity_names e) e (λ other h. h)) (λ x h.
+      next (λ (u : ⊤). ⊤) (TellsOf v (entity_names e)) (shown.in_time v.now at) (λ _. shown.groups_with v x) (in_time_says (entity_names e) v.now at) (λ u t. with_says (entity_names e) x))
 
   own_says : (names : List (List ℕ)) (o : Meant) → MeantSays names o → IfRefused (TellsOf v names) (shown.own_told v o)
   own_says names (Named name kind) says = next (λ (p : Powers). ⊤) (TellsOf v names) (found_or (named (λ (p : Powers). p.name) v.own name) (NotFound name)) _ (found_says (TellsOf v names) (named (λ (p : Powers). p.name) v.own name) (NotFound name) says.0) (λ p t. tt)
@@ -238,11 +273,13 @@ module _ (v : View) where
   shown_says : (q : Query) → IfRefused (TellsOf v (names_of q)) (shown.shown v q)
   shown_says (query.GroupGet group) = group_says group
   shown_says (query.FolderList folder) = listing_says folder
-  shown_says (query.Members group) = read_says group (λ g. members_answer g)
+  shown_says (query.Members group at) = members_say group at
   shown_says (query.Rows group) = read_says group (λ g. rows_answer g)
-  shown_says (query.Groups subject) = groups_says subject
+  shown_says (query.Groups subject at) = groups_says subject at
   shown_says (query.Grants object) = grants_says object
   shown_says (query.May object e) = may_says object e
+  shown_says (query.History group) = history_says group
+  shown_says (query.Log consumer max) = log_says consumer max
 
   standing_says : (b : Bool) (q : Query) → IfRefused (TellsOf v (names_of q)) (if b then shown.shown v q else Err NoCaller)
   standing_says true q = shown_says q

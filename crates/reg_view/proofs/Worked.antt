@@ -1,17 +1,21 @@
 -- Worked examples computed: a group with VIEW alone, one without, a privilege that a complement holds, and a move out of a scope.
-use Rattle.std.proofs.Common.{◌≡◌, ℕ, List, [], ◌∷◌, Result, Ok, Err, Some, None, codes, refl}
+use Rattle.std.proofs.Common.{◌≡◌, ◌==◌, ◌&&◌, ℕ, Bool, Option, List, [], ◌∷◌, Result, Ok, Err, Some, None, codes, refl}
+use Rattle.std.specs.Prelude.{if◌then◌else◌, nat_le, nat_lt}
 use Rattle.reg_base.specs.Entities.{entity_of}
 use Rattle.reg_base.specs.NameParts.{extension_of, folder_of}
-use Rattle.reg_base.specs.declared.entity.Entity.{Entity}
 use Rattle.reg_base.specs.declared.entity.Entity.TheVariants as entity
 use Rattle.reg_base.specs.declared.privilege.Privilege.TheVariants as privilege
 use Rattle.reg_terms.specs.declared.command.Command.{Command}
-use Rattle.reg_terms.specs.declared.command.Command.TheVariants.{FolderAdd, FolderMove, GroupAdd, SubjectAdd, MemberAdd, CompositeSet, GrantAdd, InheritAdd}
+use Rattle.reg_terms.specs.declared.command.Command.TheVariants.{FolderAdd, FolderMove, ConsumerAdd, GroupAdd, GroupDelete, SubjectAdd, MemberAdd, CompositeSet, GrantAdd, InheritAdd}
+use Rattle.reg_terms.specs.declared.entry_kinds.EntryKind.TheVariants as kinds
+use Rattle.reg_terms.specs.declared.kinds.Holder.TheVariants as holder
 use Rattle.reg_terms.specs.declared.kinds.InheritKind.TheVariants as kind
+use Rattle.reg_terms.specs.declared.kinds.Object.{Object}
+use Rattle.reg_terms.specs.declared.kinds.Object.TheVariants as object
 use Rattle.reg_terms.specs.declared.kinds.Scope.TheVariants.{Sub}
 use Rattle.reg_terms.specs.declared.kinds.SetOp.TheVariants.{Complement}
 use Rattle.reg_terms.specs.declared.refusal.Refusal.{Refusal}
-use Rattle.reg_terms.specs.declared.refusal.Refusal.TheVariants.{NotFound, Denied}
+use Rattle.reg_terms.specs.declared.refusal.Refusal.TheVariants.{NotFound, Denied, Future}
 use Rattle.reg_terms.specs.declared.query.Query.{Query}
 use Rattle.reg_terms.specs.declared.query.Query.TheVariants as query
 use Rattle.reg_terms.specs.declared.query.Answer.{Answer}
@@ -23,6 +27,7 @@ use Rattle.reg_facts.specs.Naming.{resolve, placed, lies_in, path, extensions, n
 use Rattle.reg_facts.specs.RowOrder.{rows_of}
 use Rattle.reg_effect.specs.Changes.{live_of}
 use Rattle.reg_effect.specs.Member.{member}
+use Rattle.reg_view.specs.Past.{Past, moment_of}
 use Rattle.reg_view.specs.Show.{show}
 use Rattle.reg_view.specs.View.{view_of}
 
@@ -31,18 +36,22 @@ abbrev after : List Command → Lists → Lists
 after [] f = f
 after (c ∷ cs) f = after cs (edit 0 entity.System c f)
 
+-- a past in which all was as it is
+abbrev nothing_past : Lists → Past
+nothing_past f = record { was = λ t g s. member (live_of 0 f.rows f.composites) g s; spans = λ g s. []; lines = []; gone = []; last_name = λ o. [] }
+
 -- what a caller is answered
 abbrev asks : Lists → List ℕ → Query → Result Answer Refusal
-asks f by q = show (view_of (live_of 0 f.rows f.composites) f 0 by) q
+asks f by q = show (view_of (nothing_past f) (live_of 0 f.rows f.composites) f 0 0 by) q
 
 pub ann_and_g : Lists
 ann_and_g = after (SubjectAdd (entity.Person (codes "uni/ann")) [] ∷ GroupAdd (codes "g") [] ∷ []) start
 
-pub not_seen : asks ann_and_g (codes "uni/ann") (query.Members (codes "g")) ≡ Err (NotFound (codes "g"))
+pub not_seen : asks ann_and_g (codes "uni/ann") (query.Members (codes "g") None) ≡ Err (NotFound (codes "g"))
 unfolding ann_and_g events_of entity_of resolve placed lies_in path extensions name_of rows_of member extension_of folder_of
 not_seen = refl
 
-pub seen_but_not_read : asks (after (GrantAdd (codes "g") privilege.View (entity.Person (codes "uni/ann")) ∷ []) ann_and_g) (codes "uni/ann") (query.Members (codes "g")) ≡ Err (Denied (codes "g") (codes "READ"))
+pub seen_but_not_read : asks (after (GrantAdd (codes "g") privilege.View (entity.Person (codes "uni/ann")) ∷ []) ann_and_g) (codes "uni/ann") (query.Members (codes "g") None) ≡ Err (Denied (codes "g") (codes "READ"))
 unfolding ann_and_g events_of entity_of object_of resolve placed lies_in path extensions name_of rows_of member extension_of folder_of
 seen_but_not_read = refl
 
@@ -57,11 +66,11 @@ readers = after (
     ∷ GrantAdd (codes "g") privilege.Read (entity.Group (codes "readers")) ∷ GrantAdd (codes "g") privilege.View entity.Everyone ∷ []
     ) start
 
-pub reads_by_complement : asks readers (codes "uni/bob") (query.Members (codes "g")) ≡ Ok (answer.Members [])
+pub reads_by_complement : asks readers (codes "uni/bob") (query.Members (codes "g") None) ≡ Ok (answer.Members [])
 unfolding readers events_of entity_of object_of resolve placed lies_in path extensions name_of rows_of member extension_of folder_of
 reads_by_complement = refl
 
-pub no_longer : asks (after (MemberAdd (codes "worse") (entity.Person (codes "uni/bob")) None None ∷ []) readers) (codes "uni/bob") (query.Members (codes "g")) ≡ Err (Denied (codes "g") (codes "READ"))
+pub no_longer : asks (after (MemberAdd (codes "worse") (entity.Person (codes "uni/bob")) None None ∷ []) readers) (codes "uni/bob") (query.Members (codes "g") None) ≡ Err (Denied (codes "g") (codes "READ"))
 unfolding readers events_of entity_of object_of resolve placed lies_in path extensions name_of rows_of member extension_of folder_of
 no_longer = refl
 
@@ -80,3 +89,70 @@ may_below = refl
 pub moved_away : asks (after (FolderMove (codes "app:web") (codes "old") ∷ []) below_app) (codes "uni/bob") (query.GroupGet (codes "old:web:admins")) ≡ Err (NotFound (codes "old:web:admins"))
 unfolding below_app events_of entity_of object_of resolve placed lies_in path extensions name_of rows_of member extension_of folder_of
 moved_away = refl
+
+-- ann was in g from 5 to 8 and is in h from 6 on; at 9 g went
+pub after_g : Lists
+after_g = after (SubjectAdd (entity.Person (codes "uni/ann")) [] ∷ GroupAdd (codes "g") [] ∷ GroupAdd (codes "h") [] ∷ []) start
+
+abbrev was_in : ℕ → ℕ → ℕ → Bool
+was_in t g s = if (g == 1) && (s == 1) then nat_le 5 t && nat_lt t 8 else (g == 2) && (s == 1) && nat_le 6 t
+
+abbrev was_when : ℕ → ℕ → List (ℕ × Option ℕ)
+was_when g s = if s == 1 then (if g == 1 then (5, Some 8) ∷ [] else (6, None) ∷ []) else []
+
+abbrev names_last : Object → List ℕ
+names_last (object.Group g) = if g == 1 then codes "g" else codes "h"
+names_last (object.Subject s) = codes "uni/ann"
+names_last _ = []
+
+-- the facts after g went, and what was before
+pub without_g : Lists
+without_g = after (GroupDelete (codes "g") ∷ ConsumerAdd (codes "c1") ∷ []) after_g
+
+abbrev with_past : Past
+with_past = record {
+  was = was_in;
+  spans = was_when;
+  lines = (record { at = 5; kind = kinds.RowAdd; object = Some (object.Group 1); entity = Some (holder.Person 1); number = 0 }) ∷ (record { at = 9; kind = kinds.GroupDelete; object = Some (object.Group 1); entity = None; number = 0 }) ∷ [];
+  gone = (1, codes "g") ∷ [];
+  last_name = names_last;
+}
+
+-- what a caller is answered at 10
+abbrev asks_then : List ℕ → Option ℕ → Query → Result Answer Refusal
+asks_then by at q = show (view_of with_past (live_of 10 without_g.rows without_g.composites) without_g 10 (moment_of 10 at) by) q
+
+abbrev root : List ℕ
+root = codes "g:isa/GrouperSystem"
+
+pub gone_members : asks_then root (Some 7) (query.Members (codes "g") (Some 7)) ≡ Ok (answer.Members (codes "uni/ann" ∷ []))
+unfolding after_g without_g events_of entity_of resolve placed lies_in path extensions name_of rows_of member extension_of folder_of
+gone_members = refl
+
+pub gone_at_its_end : asks_then root (Some 8) (query.Members (codes "g") (Some 8)) ≡ Ok (answer.Members [])
+unfolding after_g without_g events_of entity_of resolve placed lies_in path extensions name_of rows_of member extension_of folder_of
+gone_at_its_end = refl
+
+pub gone_for_others : asks_then (codes "uni/ann") (Some 7) (query.Members (codes "g") (Some 7)) ≡ Err (NotFound (codes "g"))
+unfolding after_g without_g events_of entity_of resolve placed lies_in path extensions name_of rows_of member extension_of folder_of
+gone_for_others = refl
+
+pub later_than_now : asks_then root (Some 11) (query.Members (codes "g") (Some 11)) ≡ Err (Future 11 10)
+unfolding after_g without_g events_of entity_of resolve placed lies_in path extensions name_of rows_of member extension_of folder_of
+later_than_now = refl
+
+pub groups_before : asks_then root (Some 6) (query.Groups (entity.Person (codes "uni/ann")) (Some 6)) ≡ Ok (answer.Groups (codes "h" ∷ []))
+unfolding after_g without_g events_of entity_of resolve placed lies_in path extensions name_of rows_of member extension_of folder_of
+groups_before = refl
+
+pub history_of_gone : asks_then root None (query.History (codes "g")) ≡ Ok (answer.History ((record { from = 5; subject = codes "uni/ann"; to = Some 8 }) ∷ []))
+unfolding after_g without_g events_of entity_of resolve placed lies_in path extensions name_of rows_of member extension_of folder_of
+history_of_gone = refl
+
+pub log_of_one : asks_then root None (query.Log (codes "c1") 1) ≡ Ok (answer.Log ((record { at = 5; entity = codes "uni/ann"; kind = kinds.RowAdd; number = 0; object = codes "g"; seq = 1 }) ∷ []) 2 0)
+unfolding after_g without_g events_of entity_of resolve placed lies_in path extensions name_of rows_of member extension_of folder_of
+log_of_one = refl
+
+pub log_for_others : asks_then (codes "uni/ann") None (query.Log (codes "c1") 1) ≡ Err (NotFound (codes "c1"))
+unfolding after_g without_g events_of entity_of resolve placed lies_in path extensions name_of rows_of member extension_of folder_of
+log_for_others = refl

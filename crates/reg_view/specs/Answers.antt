@@ -1,10 +1,12 @@
 -- The answers over the facts, as they are computed: each is what `show` tells of the view.
-use Rattle.std.specs.Prelude.{ℕ, ◌==◌, ◌&&◌, List, [], ◌∷◌, Bool, true, false, Option, None, Some, Result, Ok, Err, map, filter, codes, if◌then◌else◌}
+use Rattle.std.specs.Prelude.{ℕ, ◌==◌, ◌&&◌, List, [], Bool, false, Option, None, Some, Result, Ok, Err, map, filter, codes, length, if◌then◌else◌}
 use Rattle.std.specs.List.{list_any}
 use Rattle.reg_base.specs.Entities.{entity_of}
 use Rattle.reg_base.specs.declared.entity.Entity.{Entity}
 use Rattle.reg_base.specs.declared.entity.Entity.TheVariants as entity
 use Rattle.reg_base.specs.declared.privilege.Privilege.TheVariants as privilege
+use Rattle.reg_terms.specs.declared.changes_shown.SpanShown.{SpanShown}
+use Rattle.reg_terms.specs.declared.kinds.Member.TheVariants.{Person}
 use Rattle.reg_terms.specs.declared.kinds.Object.{Object}
 use Rattle.reg_terms.specs.declared.kinds.Object.TheVariants as object
 use Rattle.reg_terms.specs.declared.refusal.Refusal.{Refusal}
@@ -14,7 +16,9 @@ use Rattle.reg_terms.specs.declared.query.Query.{Query}
 use Rattle.reg_terms.specs.declared.query.Query.TheVariants as query
 use Rattle.reg_terms.specs.declared.query.Answer.{Answer}
 use Rattle.reg_terms.specs.declared.query.Answer.TheVariants as answer
+use Rattle.reg_log.specs.Numbering.{entries_after}
 use Rattle.reg_facts.specs.Children.{child_names}
+use Rattle.reg_facts.specs.Consumers.{consumer_place}
 use Rattle.reg_facts.specs.Edits.{subject_id}
 use Rattle.reg_facts.specs.Lists.{Lists}
 use Rattle.reg_facts.specs.Members.{texts_where}
@@ -26,9 +30,10 @@ use Rattle.reg_effect.specs.declared.live.Live.{Live}
 use Rattle.reg_effect.specs.Member.{member}
 use Rattle.reg_priv.specs.declared.who.Who.{Who}
 use Rattle.reg_priv.specs.Holders.{holders}
-use Rattle.reg_priv.specs.May.{privileges_of, visible, who_of}
-use Rattle.reg_view.specs.Show.{◌>>=◌, denied, root_denied, is_caller}
-use Rattle.reg_view.specs.Texts.{row_shown, composite_shown, grant_shown, definition_name}
+use Rattle.reg_priv.specs.May.{is_root, privileges_of, visible, who_of}
+use Rattle.reg_view.specs.Past.{Past, entry_shown, gone_id, history_of, span_shown}
+use Rattle.reg_view.specs.Show.{◌>>=◌, denied, found_or, in_time, root_denied, is_caller}
+use Rattle.reg_view.specs.Texts.{row_shown, composite_shown, grant_shown, definition_name, member_text}
 use Rattle.reg_view.specs.View.{is_admin, is_readable}
 
 -- ---- groups and folders
@@ -53,11 +58,41 @@ group_of L f c group = do
   id ← group_seen L f c group
   Ok (answer.GroupGet (display_of id f.groups) group)
 
--- the members of the group of this name
-abbrev pub members_of : Live → Lists → Who → List ℕ → Result Answer Refusal
-members_of L f c group = do
-  id ← group_read L f c group
-  Ok (answer.Members (texts_where (member L id) f.subjects))
+-- the group that is gone and had this name last, which root alone finds
+abbrev pub gone_found : Past → Live → Lists → Who → List ℕ → Option ℕ
+gone_found p L f c group = if is_root L f c then gone_id p group else None
+
+-- the group of this name, if one stands, and else the one that is gone
+abbrev pub past_group : Past → Live → Lists → Who → List ℕ → Option ℕ → Result ℕ Refusal
+past_group p L f c group (Some _) = group_read L f c group
+past_group p L f c group None = found_or (gone_found p L f c group) (NotFound group)
+
+-- the group of this name whose past the caller may read
+abbrev pub group_past : Past → Live → Lists → Who → List ℕ → Result ℕ Refusal
+group_past p L f c group = past_group p L f c group (group_id group f)
+
+-- the members of a group, now or at a moment
+abbrev pub members_at : Past → Live → Lists → ℕ → ℕ → Option ℕ → Result Answer Refusal
+members_at p L f now id None = Ok (answer.Members (texts_where (member L id) f.subjects))
+members_at p L f now id (Some at) = do
+  _ ← in_time now (Some at)
+  Ok (answer.Members (texts_where (p.was at id) f.subjects))
+
+-- the members of the group of this name, now or at a moment
+abbrev pub members_of : Past → Live → Lists → ℕ → Who → List ℕ → Option ℕ → Result Answer Refusal
+members_of p L f now c group at = do
+  id ← group_past p L f c group
+  members_at p L f now id at
+
+-- an interval of a person of this id, from one moment to another
+abbrev pub row_span : Lists → ℕ × ℕ × Option ℕ → SpanShown
+row_span f row = span_shown (member_text (Person row.0) f) (row.1, row.2)
+
+-- when each person was a member of the group of this name
+abbrev pub history_told : Past → Live → Lists → Who → List ℕ → Result Answer Refusal
+history_told p L f c group = do
+  id ← group_past p L f c group
+  Ok (answer.History (history_of p id f.subjects))
 
 -- the immediate memberships and the factors of the group of this name
 abbrev pub rows_of_group : Live → Lists → Who → List ℕ → Result Answer Refusal
@@ -101,22 +136,35 @@ entity_found L f c entity.Everyone = Ok None
 abbrev pub readable_names : Live → Lists → Who → List ℕ → List (List ℕ)
 readable_names L f c ids = map (λ (g : ℕ). name_of (object.Group g) f) (filter (λ (g : ℕ). has_group g f.groups && is_readable L f c (object.Group g)) ids)
 
--- of the groups of which a person is a member those that the caller may read
-abbrev pub groups_with : Live → Lists → Who → ℕ → Answer
-groups_with L f c s = answer.Groups (map (λ (row : GroupRow). name_of (object.Group row.id) f) (filter (λ (row : GroupRow). member L row.id s && is_readable L f c (object.Group row.id)) f.groups))
+-- of the groups that have a person, by a test, those that stand and that the caller may read
+abbrev pub groups_where : (ℕ → Bool) → Live → Lists → Who → Answer
+groups_where has L f c = answer.Groups (map (λ (row : GroupRow). name_of (object.Group row.id) f) (filter (λ (row : GroupRow). has row.id && is_readable L f c (object.Group row.id)) f.groups))
 
--- the groups of which a person of this text is a member
-abbrev pub groups_of_person : Live → Lists → Who → List ℕ → Result Answer Refusal
-groups_of_person L f c text = elim (subject_id text f.subjects) [ None ↦ Err (NotFound text) | Some s ↦ Ok (groups_with L f c s) ]
+-- the groups of a person, now or at a moment
+abbrev pub groups_at : Past → Live → Lists → ℕ → Who → ℕ → Option ℕ → Result Answer Refusal
+groups_at p L f now c s None = Ok (groups_where (λ g. member L g s) L f c)
+groups_at p L f now c s (Some at) = do
+  _ ← in_time now (Some at)
+  Ok (groups_where (λ g. p.was at g s) L f c)
 
--- the groups of which this entity is a member
-abbrev pub groups_of : Live → Lists → Who → Entity → Result Answer Refusal
-groups_of L f c (entity.Person text) = groups_of_person L f c text
-groups_of L f c (entity.Group name) = do
-  _ ← group_seen L f c name
+-- the groups of which a person of this text is a member, now or at a moment
+abbrev pub groups_of_person : Past → Live → Lists → ℕ → Who → List ℕ → Option ℕ → Result Answer Refusal
+groups_of_person p L f now c text at = elim (subject_id text f.subjects) [ None ↦ Err (NotFound text) | Some s ↦ groups_at p L f now c s at ]
+
+-- no person is asked of: a moment that is later than now is refused first
+abbrev pub no_person : ℕ → Option ℕ → Result Answer Refusal
+no_person now at = do
+  _ ← in_time now at
   Err (WrongKind (codes "subject"))
-groups_of L f c entity.System = Err (WrongKind (codes "subject"))
-groups_of L f c entity.Everyone = Err (WrongKind (codes "subject"))
+
+-- the groups of which this entity is a member, now or at a moment
+abbrev pub groups_of : Past → Live → Lists → ℕ → Who → Entity → Option ℕ → Result Answer Refusal
+groups_of p L f now c (entity.Person text) at = groups_of_person p L f now c text at
+groups_of p L f now c (entity.Group name) at = do
+  _ ← group_seen L f c name
+  no_person now at
+groups_of p L f now c entity.System at = no_person now at
+groups_of p L f now c entity.Everyone at = no_person now at
 
 -- ---- objects
 
@@ -193,14 +241,32 @@ may_of L f by c object entity = do
   _ ← entity_found L f c entity
   if is_caller by entity then own_told L f c o else other_told L f c o entity
 
+-- ---- the change log
+
+-- the entries after a place, at most some, as they are shown
+abbrev pub entries_told : Past → ℕ → ℕ → Answer
+entries_told p place max = answer.Log (map (entry_shown p) (entries_after place max p.lines)) (length p.lines) place
+
+-- the place of the consumer of this name, which root alone sees
+abbrev pub place_seen : Live → Lists → Who → List ℕ → Option ℕ
+place_seen L f c consumer = if is_root L f c then consumer_place consumer f.consumers else None
+
+-- the entries after the place of the consumer of this name
+abbrev pub log_of : Past → Live → Lists → Who → List ℕ → ℕ → Result Answer Refusal
+log_of p L f c consumer max = do
+  place ← found_or (place_seen L f c consumer) (NotFound consumer)
+  Ok (entries_told p place max)
+
 -- ---- queries
 
--- what is answered to a caller of this text that stands
-abbrev pub answer_of : Live → Lists → List ℕ → Who → Query → Result Answer Refusal
-answer_of L f by c (query.GroupGet group) = group_of L f c group
-answer_of L f by c (query.FolderList folder) = listing_of L f c folder
-answer_of L f by c (query.Members group) = members_of L f c group
-answer_of L f by c (query.Rows group) = rows_of_group L f c group
-answer_of L f by c (query.Groups subject) = groups_of L f c subject
-answer_of L f by c (query.Grants object) = grants_of L f c object
-answer_of L f by c (query.May object entity) = may_of L f by c object entity
+-- what is answered now to a caller of this text that stands
+abbrev pub answer_of : Past → Live → Lists → ℕ → List ℕ → Who → Query → Result Answer Refusal
+answer_of p L f now by c (query.GroupGet group) = group_of L f c group
+answer_of p L f now by c (query.FolderList folder) = listing_of L f c folder
+answer_of p L f now by c (query.Members group at) = members_of p L f now c group at
+answer_of p L f now by c (query.Rows group) = rows_of_group L f c group
+answer_of p L f now by c (query.Groups subject at) = groups_of p L f now c subject at
+answer_of p L f now by c (query.Grants object) = grants_of L f c object
+answer_of p L f now by c (query.May object entity) = may_of L f by c object entity
+answer_of p L f now by c (query.History group) = history_told p L f c group
+answer_of p L f now by c (query.Log consumer max) = log_of p L f c consumer max

@@ -1,4 +1,5 @@
 pub mod Texts
+pub mod Past
 pub mod View
 pub mod Show
 pub mod Answers

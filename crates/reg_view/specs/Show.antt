@@ -1,5 +1,5 @@
 -- What is answered to a query: from what the caller may see, and from that alone.
-use Rattle.std.specs.Prelude.{ℕ, ◌==◌, ◌&&◌, ◌++◌, List, [], ◌∷◌, Bool, true, false, not, Option, Some, None, Result, Ok, Err, map, filter, codes, if◌then◌else◌}
+use Rattle.std.specs.Prelude.{⊤, ℕ, ◌==◌, ◌&&◌, List, [], Bool, false, not, Option, Some, None, Result, Ok, Err, map, filter, codes, length, take, drop, nat_lt, option_map, if◌then◌else◌}
 use Rattle.std.specs.List.{find, list_any}
 use Rattle.std.specs.Str.{bytes_eq}
 use Rattle.reg_base.specs.Entities.{entity_of}
@@ -9,14 +9,15 @@ use Rattle.reg_base.specs.declared.privilege.Privilege.{Privilege}
 use Rattle.reg_base.specs.declared.privilege.Privilege.TheVariants as privilege
 use Rattle.reg_terms.specs.Privileges.{line_of}
 use Rattle.reg_terms.specs.declared.refusal.Refusal.{Refusal}
-use Rattle.reg_terms.specs.declared.refusal.Refusal.TheVariants.{NoCaller, NotFound, Denied, WrongKind}
+use Rattle.reg_terms.specs.declared.refusal.Refusal.TheVariants.{NoCaller, NotFound, Denied, Future, WrongKind}
 use Rattle.reg_terms.specs.declared.query.Query.{Query}
 use Rattle.reg_terms.specs.declared.query.Query.TheVariants as query
 use Rattle.reg_terms.specs.declared.query.Answer.{Answer}
 use Rattle.reg_terms.specs.declared.query.Answer.TheVariants as answer
 use Rattle.reg_facts.specs.Children.{by_bytes, is_among}
 use Rattle.reg_facts.specs.Naming.{home_of}
-use Rattle.reg_view.specs.View.{View, AttributeSeen, GroupSeen, GroupRead, Administered, Powers}
+use Rattle.reg_view.specs.Past.{GroupPast, last_where}
+use Rattle.reg_view.specs.View.{View, AttributeSeen, ConsumerSeen, GroupGone, GroupSeen, GroupRead, Administered, Powers}
 
 -- ---- finding
 
@@ -67,6 +68,26 @@ seen v group = found_or (group_named v group) (NotFound group)
 abbrev pub read : View → List ℕ → Result GroupRead Refusal
 read v group = found_or (named (λ (g : GroupRead). g.name) v.readable group) (denied group privilege.Read)
 
+-- of the groups that are gone the one that had this name last, and went last
+abbrev pub gone_named : View → List ℕ → Option GroupGone
+gone_named v text = last_where (λ (g : GroupGone). bytes_eq g.name text) v.gone
+
+-- the past of a group: of one that stands as it is read, and else of one that is gone
+abbrev pub past_told : View → List ℕ → Option GroupSeen → Result GroupPast Refusal
+past_told v group (Some _) = do
+  g ← read v group
+  Ok g.past
+past_told v group None = found_or (option_map (λ (g : GroupGone). g.past) (gone_named v group)) (NotFound group)
+
+-- the past of the group of this name
+abbrev pub past_of : View → List ℕ → Result GroupPast Refusal
+past_of v group = past_told v group (group_named v group)
+
+-- a moment that is asked of isn't later than now
+abbrev pub in_time : ℕ → Option ℕ → Result ⊤ Refusal
+in_time now None = Ok tt
+in_time now (Some at) = if nat_lt now at then Err (Future at now) else Ok tt
+
 -- ---- groups and folders
 
 -- the names of what stands directly in a folder, in the order of their bytes; the root stands nowhere
@@ -85,12 +106,18 @@ shown_listing v folder = do
   d ← found_or (folder_named v folder) (NotFound folder)
   Ok (answer.FolderList (inside d (map (λ (a : AttributeSeen). a.name) v.attributes)) (inside d v.definitions) (inside d v.folders) (inside d (map (λ (g : GroupSeen). g.name) v.groups)))
 
--- the members of a group
-abbrev pub shown_members : View → List ℕ → Result Answer Refusal
-shown_members v group = do
-  _ ← seen v group
-  g ← read v group
+-- the members of a group, now or at a moment
+abbrev pub shown_members : View → List ℕ → Option ℕ → Result Answer Refusal
+shown_members v group at = do
+  g ← past_of v group
+  _ ← in_time v.now at
   Ok (answer.Members g.members)
+
+-- when each person was a member of a group
+abbrev pub shown_history : View → List ℕ → Result Answer Refusal
+shown_history v group = do
+  g ← past_of v group
+  Ok (answer.History g.history)
 
 -- the immediate memberships and the factors of a group
 abbrev pub shown_rows : View → List ℕ → Result Answer Refusal
@@ -110,17 +137,18 @@ entity_seen v (entity.Group name) = do
 entity_seen v entity.System = Ok entity.System
 entity_seen v entity.Everyone = Ok entity.Everyone
 
--- of the groups that the caller may read, those of which the person is a member
+-- of the groups that the caller may read, those of which the person is a member at the moment asked
 abbrev pub groups_with : View → Entity → Result Answer Refusal
-groups_with v (entity.Person text) = Ok (answer.Groups (map (λ (g : GroupRead). g.name) (filter (λ (g : GroupRead). is_among text g.members) v.readable)))
+groups_with v (entity.Person text) = Ok (answer.Groups (map (λ (g : GroupRead). g.name) (filter (λ (g : GroupRead). is_among text g.past.members) v.readable)))
 groups_with v (entity.Group name) = Err (WrongKind (codes "subject"))
 groups_with v entity.System = Err (WrongKind (codes "subject"))
 groups_with v entity.Everyone = Err (WrongKind (codes "subject"))
 
--- the groups of which a person is a member
-abbrev pub shown_groups : View → Entity → Result Answer Refusal
-shown_groups v subject = do
+-- the groups of which a person is a member, now or at a moment
+abbrev pub shown_groups : View → Entity → Option ℕ → Result Answer Refusal
+shown_groups v subject at = do
   e ← entity_seen v subject
+  _ ← in_time v.now at
   groups_with v e
 
 -- ---- objects
@@ -257,17 +285,27 @@ shown_may v object entity = do
   e ← entity_seen v entity
   if is_caller v.caller e then own_told v o else other_told v o e
 
+-- ---- the change log
+
+-- the entries after the place of a consumer, at most some; the number of the last; the place
+abbrev pub shown_log : View → List ℕ → ℕ → Result Answer Refusal
+shown_log v consumer max = do
+  c ← found_or (named (λ (c : ConsumerSeen). c.name) v.consumers consumer) (NotFound consumer)
+  Ok (answer.Log (take max (drop c.place v.log)) (length v.log) c.place)
+
 -- ---- queries
 
 -- what is answered to a caller that stands
 abbrev pub shown : View → Query → Result Answer Refusal
 shown v (query.GroupGet group) = shown_group v group
 shown v (query.FolderList folder) = shown_listing v folder
-shown v (query.Members group) = shown_members v group
+shown v (query.Members group at) = shown_members v group at
 shown v (query.Rows group) = shown_rows v group
-shown v (query.Groups subject) = shown_groups v subject
+shown v (query.Groups subject at) = shown_groups v subject at
 shown v (query.Grants object) = shown_grants v object
 shown v (query.May object entity) = shown_may v object entity
+shown v (query.History group) = shown_history v group
+shown v (query.Log consumer max) = shown_log v consumer max
 
 -- what is answered to a query
 abbrev pub show : View → Query → Result Answer Refusal

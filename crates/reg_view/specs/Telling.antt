@@ -1,5 +1,5 @@
 -- What a refusal may name: what the query names, the root folder, and the definition of an attribute that the caller sees.
-use Rattle.std.specs.Prelude.{◌≡◌, ⊤, ◌||◌, ◌++◌, ℕ, List, [], ◌∷◌, Bool, true, Option, Some, None, Result, Ok, Err, codes}
+use Rattle.std.specs.Prelude.{◌≡◌, ⊤, ◌||◌, ◌++◌, ℕ, List, [], ◌∷◌, Bool, true, Some, None, Result, Ok, Err, codes}
 use Rattle.std.specs.List.{list_any}
 use Rattle.std.specs.Str.{bytes_eq}
 use Rattle.reg_base.specs.Entities.{entity_of}
@@ -27,11 +27,13 @@ object_names text = text ∷ (elim (entity_of text) [ None ↦ [] | Some e ↦ e
 abbrev pub names_of : Query → List (List ℕ)
 names_of (query.GroupGet group) = group ∷ []
 names_of (query.FolderList folder) = folder ∷ []
-names_of (query.Members group) = group ∷ []
+names_of (query.Members group at) = group ∷ []
 names_of (query.Rows group) = group ∷ []
-names_of (query.Groups subject) = entity_names subject
+names_of (query.Groups subject at) = entity_names subject
 names_of (query.Grants object) = object_names object
 names_of (query.May object e) = object_names object ++ entity_names e
+names_of (query.History group) = group ∷ []
+names_of (query.Log consumer max) = consumer ∷ []
 
 -- an attribute that the caller sees is of this definition
 abbrev pub is_definition : View → List ℕ → Bool

@@ -1,5 +1,5 @@
 -- Groups that a caller doesn't see.
-use Rattle.std.specs.Prelude.{◌≡◌, ⊤, ℕ, List, false, Option, Some, None}
+use Rattle.std.specs.Prelude.{◌≡◌, ⊤, ℕ, List, Bool, false, is_some, Option, Some, None}
 use Rattle.reg_base.specs.declared.entity.Entity.{Entity}
 use Rattle.reg_base.specs.declared.entity.Entity.TheVariants as entity
 use Rattle.reg_terms.specs.declared.kinds.Object.TheVariants as object
@@ -10,6 +10,8 @@ use Rattle.reg_facts.specs.Naming.{group_id}
 use Rattle.reg_effect.specs.declared.live.Live.{Live}
 use Rattle.reg_priv.specs.declared.who.Who.{Who}
 use Rattle.reg_priv.specs.May.{visible}
+use Rattle.reg_view.specs.Answers.{gone_found}
+use Rattle.reg_view.specs.Past.{Past}
 use Rattle.reg_view.specs.View.{caller_of}
 
 -- an entity is the group of this name
@@ -23,11 +25,13 @@ IsGroup name entity.Everyone = ⊥
 abbrev pub AsksOf : List ℕ → Query → Type 0
 AsksOf name (query.GroupGet group) = group ≡ name
 AsksOf name (query.FolderList folder) = ⊥
-AsksOf name (query.Members group) = group ≡ name
+AsksOf name (query.Members group at) = group ≡ name
 AsksOf name (query.Rows group) = group ≡ name
-AsksOf name (query.Groups subject) = IsGroup name subject
+AsksOf name (query.Groups subject at) = IsGroup name subject
 AsksOf name (query.Grants text) = ⊥
 AsksOf name (query.May text e) = ⊥
+AsksOf name (query.History group) = group ≡ name
+AsksOf name (query.Log consumer max) = ⊥
 
 -- no group has this name, or the caller hasn't VIEW on it
 abbrev pub IsHidden : Live → Lists → Who → Option ℕ → Type 0
@@ -42,3 +46,14 @@ IsHiddenFrom L f (Some c) group = IsHidden L f c (group_id group f)
 -- a caller that stands doesn't see a group of this name, or there is none
 abbrev pub IsUnseen : Live → Lists → List ℕ → List ℕ → Type 0
 IsUnseen L f by group = IsHiddenFrom L f (caller_of by f) group
+
+-- whether a caller, if it stands, finds a group that is gone by the name that it had last
+abbrev pub finds_gone : Past → Live → Lists → Option Who → List ℕ → Bool
+finds_gone p L f None group = false
+finds_gone p L f (Some c) group = is_some (gone_found p L f c group)
+
+-- a query of the past isn't of a group that is gone, for the caller: so it is for all but root
+abbrev pub IsOfNoneGone : Past → Live → Lists → List ℕ → Query → Type 0
+IsOfNoneGone p L f by (query.Members group at) = finds_gone p L f (caller_of by f) group ≡ false
+IsOfNoneGone p L f by (query.History group) = finds_gone p L f (caller_of by f) group ≡ false
+IsOfNoneGone p L f by _ = ⊤

@@ -1,7 +1,6 @@
 -- What a caller may see of the registry: all that an answer may tell. There are names in it and no ids, so that it is the same whatever else stands in the registry.
-use Rattle.std.specs.Prelude.{ℕ, ◌++◌, List, [], ◌∷◌, Bool, true, false, Option, Some, None, map, filter}
+use Rattle.std.specs.Prelude.{ℕ, ◌++◌, List, [], Bool, true, false, Option, Some, None, map, filter}
 use Rattle.reg_base.specs.Entities.{entity_of}
-use Rattle.reg_base.specs.declared.entity.Entity.{Entity}
 use Rattle.reg_base.specs.declared.privilege.Privilege.{Privilege}
 use Rattle.reg_base.specs.declared.privilege.Privilege.TheVariants as privilege
 use Rattle.reg_terms.specs.declared.kinds.Object.{Object}
@@ -14,16 +13,17 @@ use Rattle.reg_terms.specs.declared.rows.AttributeRow.{AttributeRow}
 use Rattle.reg_terms.specs.declared.shown.FactorsShown.{FactorsShown}
 use Rattle.reg_terms.specs.declared.shown.GrantShown.{GrantShown}
 use Rattle.reg_terms.specs.declared.shown.RowShown.{RowShown}
+use Rattle.reg_terms.specs.declared.changes_shown.EntryShown.{EntryShown}
+use Rattle.reg_terms.specs.declared.rows.ConsumerRow.{ConsumerRow}
 use Rattle.reg_facts.specs.Lists.{Lists}
-use Rattle.reg_facts.specs.Members.{texts_where}
 use Rattle.reg_facts.specs.Naming.{name_of}
 use Rattle.reg_facts.specs.RowOrder.{rows_of}
 use Rattle.reg_effect.specs.declared.live.Live.{Live}
-use Rattle.reg_effect.specs.Member.{member}
 use Rattle.reg_priv.specs.declared.who.Who.{Who}
 use Rattle.reg_priv.specs.declared.who.Who.TheVariants as who
 use Rattle.reg_priv.specs.Holders.{holders}
 use Rattle.reg_priv.specs.May.{is_root, may, privileges_of, visible, who_of}
+use Rattle.reg_view.specs.Past.{Past, GroupPast, group_past, log_shown}
 use Rattle.reg_view.specs.Texts.{row_shown, composite_shown, grant_shown, definition_name}
 
 -- ---- the record
@@ -38,12 +38,22 @@ pub record AttributeSeen : Type 0 where
   pub name : List ℕ
   pub definition : List ℕ
 
--- a group that the caller may read: its immediate memberships, its factors and its members
+-- a group that the caller may read: its immediate memberships, its factors, and its past
 pub record GroupRead : Type 0 where
   pub name : List ℕ
   pub rows : List RowShown
   pub composite : Option FactorsShown
-  pub members : List (List ℕ)
+  pub past : GroupPast
+
+-- a group that is gone: the name that it had last, and its past
+pub record GroupGone : Type 0 where
+  pub name : List ℕ
+  pub past : GroupPast
+
+-- a consumer of the log, and the number of the last entry that it has acknowledged
+pub record ConsumerSeen : Type 0 where
+  pub name : List ℕ
+  pub place : ℕ
 
 -- privileges, under the name or text of what has them
 pub record Powers : Type 0 where
@@ -57,7 +67,7 @@ pub record Administered : Type 0 where
   pub system : List Privilege
   pub persons : List Powers
 
--- what a caller may see. A subject has no grants and no privileges are on it, so it is among the objects of neither list of privileges
+-- what a caller may see; consumers, the log and the groups that are gone are root's alone. A subject has no grants and no privileges are on it, so it is among the objects of neither list of privileges
 pub record View : Type 0 where
   pub now : ℕ
   pub caller : List ℕ
@@ -71,10 +81,13 @@ pub record View : Type 0 where
   pub readable : List GroupRead
   pub administered : List Administered
   pub own : List Powers
+  pub consumers : List ConsumerSeen
+  pub log : List EntryShown
+  pub gone : List GroupGone
 
 -- who doesn't stand sees nothing
 abbrev pub blank : ℕ → List ℕ → View
-blank now by = record { now = now; caller = by; stands = false; is_root = false; folders = []; subjects = []; groups = []; definitions = []; attributes = []; readable = []; administered = []; own = [] }
+blank now by = record { now = now; caller = by; stands = false; is_root = false; folders = []; subjects = []; groups = []; definitions = []; attributes = []; readable = []; administered = []; own = []; consumers = []; log = []; gone = [] }
 
 -- ---- what it holds
 
@@ -118,14 +131,27 @@ group_seen f row = record { name = name_of (object.Group row.id) f; display = ro
 abbrev pub attribute_seen : Lists → AttributeRow → AttributeSeen
 attribute_seen f row = record { name = name_of (object.Attr row.id) f; definition = definition_name f row }
 
--- a group, as it is read
-abbrev pub group_read : Live → Lists → GroupRow → GroupRead
-group_read L f row = record {
+-- a group, as it is read: its past at a moment
+abbrev pub group_read : Past → Lists → ℕ → GroupRow → GroupRead
+group_read p f at row = record {
   name = name_of (object.Group row.id) f;
   rows = map (row_shown f) (rows_of row.id f.rows);
   composite = composite_shown row.id f;
-  members = texts_where (member L row.id) f.subjects;
+  past = group_past p f at row.id;
 }
+
+-- a group that is gone: its past at a moment
+abbrev pub group_gone : Past → Lists → ℕ → ℕ × List ℕ → GroupGone
+group_gone p f at g = record { name = g.1; past = group_past p f at g.0 }
+
+-- a consumer
+abbrev pub consumer_seen : ConsumerRow → ConsumerSeen
+consumer_seen row = record { name = row.name; place = row.place }
+
+-- what root alone sees
+abbrev pub for_root : {A : Type 0} → Bool → List A → List A
+for_root true list = list
+for_root false list = []
 
 -- what a person may do with an object
 abbrev pub person_powers : Live → Lists → Object → SubjectRow → Powers
@@ -144,9 +170,9 @@ administered L f o = record {
 abbrev pub own_powers : Live → Lists → Who → Object → Powers
 own_powers L f c o = record { name = name_of o f; privileges = privileges_of L f c o }
 
--- what a caller that stands may see
-abbrev pub seen_by : Live → Lists → ℕ → List ℕ → Who → View
-seen_by L f now by c = record {
+-- what a caller that stands may see, of the past what was at a moment: all is judged now
+abbrev pub seen_by : Past → Live → Lists → ℕ → ℕ → List ℕ → Who → View
+seen_by p L f now at by c = record {
   now = now;
   caller = by;
   stands = true;
@@ -156,15 +182,18 @@ seen_by L f now by c = record {
   groups = shown_where group_object (visible L f c) (group_seen f) f.groups;
   definitions = shown_where definition_object (visible L f c) (λ (row : DefinitionRow). name_of (object.Def row.id) f) f.definitions;
   attributes = shown_where attribute_object (visible L f c) (attribute_seen f) f.attributes;
-  readable = shown_where group_object (is_readable L f c) (group_read L f) f.groups;
+  readable = shown_where group_object (is_readable L f c) (group_read p f at) f.groups;
   administered = shown_where (λ (o : Object). o) (is_admin L f c) (administered L f) (objects f);
   own = shown_where (λ (o : Object). o) (visible L f c) (own_powers L f c) (objects f);
+  consumers = for_root (is_root L f c) (map consumer_seen f.consumers);
+  log = for_root (is_root L f c) (log_shown p);
+  gone = for_root (is_root L f c) (map (group_gone p f at) p.gone);
 }
 
 -- who has this text as a caller, if someone who stands has it
 abbrev pub caller_of : List ℕ → Lists → Option Who
 caller_of by f = elim (entity_of by) [ None ↦ None | Some e ↦ who_of e f ]
 
--- what is seen by a caller of this text where these are the facts
-abbrev pub view_of : Live → Lists → ℕ → List ℕ → View
-view_of L f now by = elim (caller_of by f) [ None ↦ blank now by | Some c ↦ seen_by L f now by c ]
+-- what is seen by a caller of this text where these are the facts and this was the past, which is asked at a moment
+abbrev pub view_of : Past → Live → Lists → ℕ → ℕ → List ℕ → View
+view_of p L f now at by = elim (caller_of by f) [ None ↦ blank now by | Some c ↦ seen_by p L f now at by c ]

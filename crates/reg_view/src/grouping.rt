@@ -1,16 +1,19 @@
 // What is answered of a group.
-ghost use Rattle.std.specs.Prelude.{◌≡◌, IfOk};
+ghost use Rattle.std.specs.Prelude.{◌≡◌, ◌≤◌, IfOk};
 ghost use Rattle.reg_facts.specs.Members.{texts_where};
 ghost use Rattle.reg_effect.specs.Member.{member};
 ghost use Rattle.reg_terms.specs.declared.query.Answer.TheVariants as answer;
-ghost use Rattle.reg_view.specs.Answers.{display_of, group_of, members_of, rows_of_group};
+ghost use Rattle.reg_view.specs.Answers.{display_of, group_of, members_at, members_of, rows_of_group};
+ghost use Rattle.reg_view.specs.Past.{past_at};
 
 use crate::Answer;
 use crate::rows::rows_answer;
-use crate::seeing::{group_read, group_seen};
-use reg_base::{GroupId, Name, Text};
+use crate::seeing::{group_past, group_read, group_seen};
+use crate::timing::not_later;
+use reg_base::{GroupId, Moment, Name, Text};
 use reg_effect::Kept;
 use reg_facts::{Facts, Refusal};
+use reg_machine::Machine;
 use reg_priv::Who;
 use std::alloc::{AllocError, Global};
 
@@ -58,22 +61,61 @@ fn members_answer<K: Kept>(
     Ok(Answer::Members { members })
 }
 
-/// The members of the group of this name, if the caller may read it.
+/// Those who were members of a group at a moment. They cost what the past has of the group.
+fn members_then<K: Kept>(
+    alloc: Global,
+    machine: &Machine<K>,
+    facts: &Facts,
+    id: GroupId,
+    at: Moment,
+) -> Result<Answer, AllocError>
+    requires { at ≤ machine.now.clock }
+    ensures { IfOk result (λ r. r ≡ answer.Members (texts_where ((past_at machine.now).was at id) facts.now.subjects)) }
+{
+    let earlier = machine.members_at(id, at)?;
+    let members = facts.texts_of(alloc, &earlier)?;
+    Ok(Answer::Members { members })
+}
+
+/// The members of a group, now or at a moment.
+fn members_at<K: Kept>(
+    alloc: Global,
+    machine: &Machine<K>,
+    facts: &Facts,
+    kept: &K,
+    id: GroupId,
+    at: Option<Moment>,
+) -> Result<Result<Answer, Refusal>, AllocError>
+    ensures { IfOk result (λ r. r ≡ members_at (past_at machine.now) (K.held kept.now) facts.now machine.now.clock id at) }
+{
+    let Some(asked) = at else {
+        let answer = members_answer(alloc, facts, kept, id)?;
+        return Ok(Ok(answer));
+    };
+    if let Err(refusal) = not_later(machine.clock(), asked) {
+        return Ok(Err(refusal));
+    }
+    let answer = members_then(alloc, machine, facts, id, asked)?;
+    Ok(Ok(answer))
+}
+
+/// The members of the group of this name, now or at a moment, if the caller may read it now.
 pub fn members_of<K: Kept>(
     alloc: Global,
+    machine: &Machine<K>,
     facts: &Facts,
     kept: &K,
     who: &Who,
     group: &Name,
+    at: Option<Moment>,
 ) -> Result<Result<Answer, Refusal>, AllocError>
-    ensures { IfOk result (λ r. r ≡ members_of (K.held kept.now) facts.now who.now group.now) }
+    ensures { IfOk result (λ r. r ≡ members_of (past_at machine.now) (K.held kept.now) facts.now machine.now.clock who.now group.now at) }
 {
-    let id = match group_read(alloc, facts, kept, who, group)? {
+    let id = match group_past(alloc, machine, facts, kept, who, group)? {
         Ok(id) => id,
         Err(refusal) => return Ok(Err(refusal)),
     };
-    let answer = members_answer(alloc, facts, kept, id)?;
-    Ok(Ok(answer))
+    members_at(alloc, machine, facts, kept, id, at)
 }
 
 /// The immediate memberships and the factors of the group of this name, if the caller may read it.

@@ -7,12 +7,15 @@ mod answering;
 mod asking;
 mod finding;
 mod grouping;
+mod history;
 mod listing;
+mod logging;
 mod memberships;
 mod refusing;
 mod rows;
 mod seeing;
 mod texts;
+mod timing;
 
 pub use asking::ask;
 pub use reg_terms::{Answer, FactorsShown, Op, Query, Reply, Request, RowShown, RowsShown};

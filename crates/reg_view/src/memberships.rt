@@ -1,15 +1,19 @@
 // The groups of a person.
-ghost use Rattle.std.specs.Prelude.{◌≡◌, IfOk};
+ghost use Rattle.std.specs.Prelude.{◌≡◌, ◌≤◌, IfOk};
+ghost use Rattle.reg_effect.specs.Member.{member};
 ghost use Rattle.reg_facts.specs.Sound.{has_group};
-ghost use Rattle.reg_view.specs.Answers.{groups_of, groups_of_person, groups_with, readable_names};
+ghost use Rattle.reg_view.specs.Answers.{groups_at, groups_of, groups_of_person, groups_where, no_person, readable_names};
+ghost use Rattle.reg_view.specs.Past.{past_at};
 
 use crate::Answer;
 use crate::refusing::{not_found, wrong_kind};
 use crate::seeing::group_seen;
 use crate::texts::object_name;
-use reg_base::{Entity, GroupId, Privilege, SubjectId, Text};
+use crate::timing::{in_time, not_later};
+use reg_base::{Entity, GroupId, Moment, Privilege, SubjectId, Text};
 use reg_effect::Kept;
 use reg_facts::{Facts, Object, Refusal, Texts};
+use reg_machine::Machine;
 use reg_priv::{Who, may};
 use std::alloc::{AllocError, Global};
 
@@ -45,14 +49,14 @@ fn readable_names<K: Kept>(
 /// Of the groups of which a person is a member those that the caller may read. They cost what the
 /// person's groups are, and not what all groups are.
 #[tactic(auto, using(crate::proofs::Grouped::names_of_ids))]
-fn groups_with<K: Kept>(
+fn groups_now<K: Kept>(
     alloc: Global,
     facts: &Facts,
     kept: &K,
     who: &Who,
     subject: SubjectId,
 ) -> Result<Answer, AllocError>
-    ensures { IfOk result (λ answer. answer ≡ groups_with (K.held kept.now) facts.now who.now subject) }
+    ensures { IfOk result (λ answer. answer ≡ groups_where (λ g. member (K.held kept.now) g subject) (K.held kept.now) facts.now who.now) }
 {
     facts.law_sound();
     let ids = kept.groups_of(subject)?;
@@ -60,38 +64,99 @@ fn groups_with<K: Kept>(
     Ok(Answer::Groups { groups })
 }
 
+/// Of the groups of which a person was a member at a moment those that stand and that the caller may
+/// read now. They cost what the past has of the person.
+fn groups_then<K: Kept>(
+    alloc: Global,
+    machine: &Machine<K>,
+    facts: &Facts,
+    kept: &K,
+    who: &Who,
+    subject: SubjectId,
+    at: Moment,
+) -> Result<Answer, AllocError>
+    requires { at ≤ machine.now.clock }
+    ensures { IfOk result (λ answer. answer ≡ groups_where (λ g. (past_at machine.now).was at g subject) (K.held kept.now) facts.now who.now) }
+{
+    facts.law_sound();
+    let earlier = machine.groups_at(subject, at)?;
+    let groups = readable_names(alloc, facts, kept, who, &earlier)?;
+    Ok(Answer::Groups { groups })
+}
+
+/// The groups of a person, now or at a moment.
+fn groups_at<K: Kept>(
+    alloc: Global,
+    machine: &Machine<K>,
+    facts: &Facts,
+    kept: &K,
+    who: &Who,
+    subject: SubjectId,
+    at: Option<Moment>,
+) -> Result<Result<Answer, Refusal>, AllocError>
+    ensures { IfOk result (λ r. r ≡ groups_at (past_at machine.now) (K.held kept.now) facts.now machine.now.clock who.now subject at) }
+{
+    let Some(asked) = at else {
+        let answer = groups_now(alloc, facts, kept, who, subject)?;
+        return Ok(Ok(answer));
+    };
+    if let Err(refusal) = not_later(machine.clock(), asked) {
+        return Ok(Err(refusal));
+    }
+    let answer = groups_then(alloc, machine, facts, kept, who, subject, asked)?;
+    Ok(Ok(answer))
+}
+
 fn groups_of_person<K: Kept>(
     alloc: Global,
+    machine: &Machine<K>,
     facts: &Facts,
     kept: &K,
     who: &Who,
     text: &Text,
+    at: Option<Moment>,
 ) -> Result<Result<Answer, Refusal>, AllocError>
-    ensures { IfOk result (λ r. r ≡ groups_of_person (K.held kept.now) facts.now who.now text.now) }
+    ensures { IfOk result (λ r. r ≡ groups_of_person (past_at machine.now) (K.held kept.now) facts.now machine.now.clock who.now text.now at) }
 {
     let Some(id) = facts.subject_id(text.as_str()) else {
         return Ok(Err(not_found(alloc, text.as_str())?));
     };
-    let answer = groups_with(alloc, facts, kept, who, id)?;
-    Ok(Ok(answer))
+    groups_at(alloc, machine, facts, kept, who, id, at)
 }
 
-/// The groups of which this entity is a member, of those that the caller may read.
+/// No person is asked of: a moment that is later than now is refused first.
+fn no_person(
+    alloc: Global,
+    now: Moment,
+    at: Option<Moment>,
+) -> Result<Result<Answer, Refusal>, AllocError>
+    ensures { IfOk result (λ r. r ≡ no_person now at) }
+{
+    match in_time(now, at) {
+        Ok(()) => Ok(Err(wrong_kind(alloc, "subject")?)),
+        Err(refusal) => Ok(Err(refusal)),
+    }
+}
+
+/// The groups of which this entity is a member, now or at a moment, of those that the caller may
+/// read now.
 pub fn groups_of<K: Kept>(
     alloc: Global,
+    machine: &Machine<K>,
     facts: &Facts,
     kept: &K,
     who: &Who,
     subject: &Entity,
+    at: Option<Moment>,
 ) -> Result<Result<Answer, Refusal>, AllocError>
-    ensures { IfOk result (λ r. r ≡ groups_of (K.held kept.now) facts.now who.now subject.now) }
+    ensures { IfOk result (λ r. r ≡ groups_of (past_at machine.now) (K.held kept.now) facts.now machine.now.clock who.now subject.now at) }
 {
     match subject {
-        Entity::Person(text) => groups_of_person(alloc, facts, kept, who, text),
+        Entity::Person(text) => groups_of_person(alloc, machine, facts, kept, who, text, at),
         Entity::Group(name) => match group_seen(alloc, facts, kept, who, name)? {
-            Ok(_) => Ok(Err(wrong_kind(alloc, "subject")?)),
+            Ok(_) => no_person(alloc, machine.clock(), at),
             Err(refusal) => Ok(Err(refusal)),
         },
-        Entity::System | Entity::Everyone => Ok(Err(wrong_kind(alloc, "subject")?)),
+        Entity::System | Entity::Everyone => no_person(alloc, machine.clock(), at),
     }
 }

@@ -1,12 +1,14 @@
 // What the caller sees, and what it may read.
 ghost use Rattle.std.specs.Prelude.{◌≡◌, IfOk};
-ghost use Rattle.reg_view.specs.Answers.{group_read, group_seen};
+ghost use Rattle.reg_view.specs.Answers.{gone_found, group_past, group_read, group_seen};
+ghost use Rattle.reg_view.specs.Past.{past_at};
 
 use crate::refusing::{denied, not_found};
 use reg_base::{GroupId, Name, Privilege};
 use reg_effect::Kept;
 use reg_facts::{Facts, Object, Refusal};
-use reg_priv::{Who, is_visible, may};
+use reg_machine::Machine;
+use reg_priv::{Who, is_root, is_visible, may};
 use std::alloc::{AllocError, Global};
 
 /// The group of this name, if the caller sees it.
@@ -46,4 +48,41 @@ pub fn group_read<K: Kept>(
         return Ok(Err(denied(alloc, group.as_str(), Privilege::Read)?));
     }
     Ok(Ok(id))
+}
+
+/// The group that is gone and had this name last, which root alone finds.
+fn gone_found<K: Kept>(
+    machine: &Machine<K>,
+    facts: &Facts,
+    kept: &K,
+    who: &Who,
+    group: &Name,
+) -> Option<GroupId>
+    ensures { result ≡ gone_found (past_at machine.now) (K.held kept.now) facts.now who.now group.now }
+{
+    if !is_root(facts, kept, who) {
+        return None;
+    }
+    machine.gone_named(group.as_str())
+}
+
+/// The group of this name whose past the caller may read: one that stands, and else, for root, the
+/// one that is gone.
+pub fn group_past<K: Kept>(
+    alloc: Global,
+    machine: &Machine<K>,
+    facts: &Facts,
+    kept: &K,
+    who: &Who,
+    group: &Name,
+) -> Result<Result<GroupId, Refusal>, AllocError>
+    ensures { IfOk result (λ r. r ≡ group_past (past_at machine.now) (K.held kept.now) facts.now who.now group.now) }
+{
+    if facts.group_id(group.as_str()).is_some() {
+        return group_read(alloc, facts, kept, who, group);
+    }
+    match gone_found(machine, facts, kept, who, group) {
+        Some(id) => Ok(Ok(id)),
+        None => Ok(Err(not_found(alloc, group.as_str())?)),
+    }
 }

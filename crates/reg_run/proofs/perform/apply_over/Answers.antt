@@ -2,13 +2,13 @@ use Rattle.std.proofs.Common.{refl, inl, inr, arith, ◌-◌, length}
 use Rattle.reg_keep.specs.JournalWords.{disk_of}
 use Rattle.reg_run.proofs.Crashing.{untouched_same, survives_kept, stops_whole, stops_halted, no_shorter, answered_front}
 use Rattle.reg_run.specs.Ends.{end_of_stop}
-use Rattle.reg_run.specs.declared.task.End.TheVariants as the_end
+use Rattle.reg_run.specs.declared.status.End.TheVariants as the_end
 use Rattle.reg_run.proofs.Ending.{whole_stop, apply_stopped, did_apply}
 use Rattle.reg_run.proofs.perform.apply_over.Goals as goal
 
 -- the journal didn't open, so the disk was only read
 pub returns-in-Err-clause-did : goal.returns-in-Err-clause-did
-returns-in-Err-clause-did g c name = inl (record {
+returns-in-Err-clause-did g c = inl (record {
   cause = c.in-Err.ensures.cause;
   input = (refl, refl);
   output = (refl, refl, refl);
@@ -18,7 +18,7 @@ returns-in-Err-clause-did g c name = inl (record {
 
 -- all lines were answered
 pub returns-in-Ok-answer_input-clause-did : goal.returns-in-Ok-answer_input-clause-did
-returns-in-Ok-answer_input-clause-did g c name =
+returns-in-Ok-answer_input-clause-did g c =
     let from = c.in-Ok.service.state in
     let to = c.in-Ok-answer_input.service.state in
     let mid = disk_of c.in-Ok.service.keeper in
@@ -37,7 +37,7 @@ returns-in-Ok-answer_input-clause-did g c name =
 
 -- the session stopped
 pub returns-in-Err-answer_input-clause-did : goal.returns-in-Err-answer_input-clause-did
-returns-in-Err-answer_input-clause-did g c name =
+returns-in-Err-answer_input-clause-did g c =
     let from = c.in-Ok.service.state in
     let mid = disk_of c.in-Ok.service.keeper in
     let new = disk_of c.in-Err-answer_input.keeper in

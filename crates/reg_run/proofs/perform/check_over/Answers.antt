@@ -5,7 +5,7 @@ use Rattle.reg_run.proofs.perform.check_over.Goals as goal
 
 -- the journal didn't open, so the disk was only read
 pub returns-in-Err-clause-did : goal.returns-in-Err-clause-did
-returns-in-Err-clause-did g c name w = inl (record {
+returns-in-Err-clause-did g c w = inl (record {
   cause = c.in-Err.ensures.cause;
   input = (refl, refl);
   output = (refl, refl, refl);
@@ -15,7 +15,7 @@ returns-in-Err-clause-did g c name w = inl (record {
 
 -- it did, and nothing was added
 pub returns-in-Ok-clause-did : goal.returns-in-Ok-clause-did
-returns-in-Ok-clause-did g c name w =
+returns-in-Ok-clause-did g c w =
     let from = c.in-Ok.service.state in
     let new = disk_of c.in-Ok.service.keeper in
     let same = sym (append-nil from.history) in

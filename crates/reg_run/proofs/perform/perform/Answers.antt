@@ -6,10 +6,10 @@ pub returns-in-Init-clause-did : goal.returns-in-Init-clause-did
 returns-in-Init-clause-did g c = rw c.in-Init.is (c.init.ensures.did (world g.S.Source g.K.Sink g.D.Disk g.C.Clock c.args.input.now c.args.out.now c.args.disk c.args.clock.now))
 
 pub returns-in-Apply-clause-did : goal.returns-in-Apply-clause-did
-returns-in-Apply-clause-did g c = rw c.in-Apply.is (c.apply_over.ensures.did c.args.name.now)
+returns-in-Apply-clause-did g c = rw c.in-Apply.is c.apply_over.ensures.did
 
 pub returns-in-Check-clause-did : goal.returns-in-Check-clause-did
-returns-in-Check-clause-did g c = rw c.in-Check.is (c.check_over.ensures.did c.args.name.now (world g.S.Source g.K.Sink g.D.Disk g.C.Clock c.args.input.now c.args.out.now c.args.disk c.args.clock.now))
+returns-in-Check-clause-did g c = rw c.in-Check.is (c.check_over.ensures.did (world g.S.Source g.K.Sink g.D.Disk g.C.Clock c.args.input.now c.args.out.now c.args.disk c.args.clock.now))
 
-pub returns-in-Members-clause-did : goal.returns-in-Members-clause-did
-returns-in-Members-clause-did g c = rw c.in-Members.is (c.members_over.ensures.did (world g.S.Source g.K.Sink g.D.Disk g.C.Clock c.args.input.now c.args.out.now c.args.disk c.args.clock.now))
+pub returns-in-Ask-clause-did : goal.returns-in-Ask-clause-did
+returns-in-Ask-clause-did g c = rw c.in-Ask.is (c.ask_over.ensures.did (world g.S.Source g.K.Sink g.D.Disk g.C.Clock c.args.input.now c.args.out.now c.args.disk c.args.clock.now))

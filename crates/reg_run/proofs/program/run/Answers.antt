@@ -1,9 +1,9 @@
-use Rattle.std.proofs.Common.{rules, sym, ◌∙◌, ◌≡◌, Some, map, string_bytes}
-use Rattle.reg_run.specs.Status.{task_of}
+use Rattle.reg_run.proofs.Usage.{is_usage}
 use Rattle.reg_run.proofs.program.run.Goals as goal
 
--- the task's end tells all
+-- the end tells all
 pub returns-clause-ends : goal.returns-clause-ends
-returns-clause-ends g c =
-    let is : task_of (map string_bytes c.args.words.now) ≡ Some c.in-Some.task = sym c.task_of.ensures ∙ c.in-Some.is in
-    (c.perform-end.result.0, c.status_of.ensures, rw (is, ← c.name_of.ensures) (search rules), c.write_note-2.ensures)
+returns-clause-ends g c = (c.follow-end.result, c.status_of.ensures, c.follow-end.ensures.did, c.write_note.ensures)
+
+pub returns-clause-usage : goal.returns-clause-usage
+returns-clause-usage g c = rw c.status_of.ensures (is_usage g.D.Disk _ c.follow-end.result _ _ _ _ c.follow-end.ensures.did)

@@ -1,9 +1,10 @@
-use Rattle.std.proofs.Common.{◌≡◌, ◌∙◌, Result, sym, ap}
+use Rattle.std.proofs.Common.{◌∙◌, Result, sym, ap}
 use Rattle.reg_terms.specs.declared.refusal.Refusal.{Refusal}
 use Rattle.reg_terms.specs.declared.query.Answer.{Answer}
-use Rattle.reg_view.specs.AtClock.{view}
+use Rattle.reg_view.specs.AtClock.{asked_at, view}
+use Rattle.reg_view.specs.Past.{past_at}
 use Rattle.reg_view.specs.Show.{show}
-use Rattle.reg_view.proofs.Moved.{at_clock, unseen_at, tells_at, if_ok}
+use Rattle.reg_view.proofs.Moved.{at_clock, none_gone_at, unseen_at, tells_at, if_ok}
 use Rattle.reg_view.proofs.asking.ask.Goals as goal
 
 -- the facts and the memberships are those at the clock
@@ -14,7 +15,9 @@ pub returns-clause-alike : goal.returns-clause-alike
 returns-clause-alike g c = if_ok c.answer.result _ _ (λ r h history now e. h ∙ ap (λ v. show v c.args.query.now) (sym e)) (returns-clause-shown g c)
 
 pub returns-clause-unseen : goal.returns-clause-unseen
-returns-clause-unseen g c = if_ok c.answer.result _ _ (λ r h group asks unseen. h group asks (unseen_at c.args.machine.now.history c.args.machine.now.clock c.args.by.now group (g.K.Kept.held c.kept-kept.result.now) c.facts-facts.result.now c.kept-kept.ensures c.facts-facts.ensures unseen)) c.answer.ensures.unseen
+returns-clause-unseen g c = if_ok c.answer.result _ _ (λ r h group asks unseen gone. h group asks
+    (unseen_at c.args.machine.now.history c.args.machine.now.clock c.args.by.now group (g.K.Kept.held c.kept-kept.result.now) c.facts-facts.result.now c.kept-kept.ensures c.facts-facts.ensures unseen)
+    (none_gone_at (past_at c.args.machine.now) c.args.machine.now.history c.args.machine.now.clock c.args.by.now c.args.query.now (g.K.Kept.held c.kept-kept.result.now) c.facts-facts.result.now c.kept-kept.ensures c.facts-facts.ensures gone)) c.answer.ensures.unseen
 
 pub returns-clause-names : goal.returns-clause-names
-returns-clause-names g c = if_ok c.answer.result _ _ (λ (r : Result Answer Refusal) h. tells_at (view c.args.machine.now.history c.args.machine.now.clock c.args.by.now) c.args.query.now r h) (returns-clause-shown g c)
+returns-clause-names g c = if_ok c.answer.result _ _ (λ (r : Result Answer Refusal) h. tells_at (view c.args.machine.now.history c.args.machine.now.clock (asked_at c.args.machine.now.clock c.args.query.now) c.args.by.now) c.args.query.now r h) (returns-clause-shown g c)

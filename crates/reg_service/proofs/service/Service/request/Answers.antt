@@ -3,8 +3,7 @@ use Rattle.reg_machine.specs.History.{State}
 use Rattle.reg_service.specs.Kept.{KeepsNext, LeavesKeeper}
 use Rattle.reg_terms.specs.declared.request.Op.TheVariants as op
 use Rattle.reg_service.specs.Turn.{turn, requested, at_moment, GoesOn}
-use Rattle.reg_view.specs.AtClock.{view}
-use Rattle.reg_view.specs.Show.{show}
+use Rattle.reg_view.specs.AtClock.{told}
 use Rattle.reg_service.specs.Opening.{Served}
 use Rattle.reg_service.proofs.Forms.{command_form}
 use Rattle.reg_service.proofs.Keeping.{stopped_at, served_later, query_goes_on}
@@ -24,7 +23,7 @@ pub returns-in-Query-clause-history : goal.returns-in-Query-clause-history
 returns-in-Query-clause-history g c =
     let moved : c.in-Ok.machine ≡ at_moment c.self.inside.machine c.args.at = c.in-Ok.ensures ∙ ap (λ (n : ℕ). let s : State = record { history = c.self.inside.machine.history; clock = n } in s) (c.later_of-now.ensures.value ∙ ap (λ (n : ℕ). max n c.args.at) c.clock.ensures) in
     subst (λ (v : Served g.row.K.Denot). GoesOn v.state c.args.at c.asked.result) c.self.view_is
-    (query_goes_on c.self.inside.machine c.in-Ok.machine c.args.at (show (view c.in-Ok.machine.history c.in-Ok.machine.clock c.args.request.by) c.in-Query.query) c.asked.result.0 c.asked.result.1 moved c.asked.ensures.turn)
+    (query_goes_on c.self.inside.machine c.in-Ok.machine c.args.at (told c.in-Ok.machine.history c.in-Ok.machine.clock c.args.request.by c.in-Query.query) c.asked.result.0 c.asked.result.1 moved c.asked.ensures.turn)
 
 -- a query keeps nothing
 pub returns-in-Query-clause-kept : goal.returns-in-Query-clause-kept

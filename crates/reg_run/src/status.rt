@@ -1,24 +1,9 @@
-// What the words ask for, and how a run ends.
-ghost use Rattle.std.specs.Prelude.{◌≡◌, ◌≤◌, ◌++◌, List, ℕ, map, codes, string_bytes, IfOk, IsErr};
-ghost use Rattle.reg_outside.specs.Faults.{Rose};
-ghost use Rattle.reg_outside.specs.Streams.{WritesFront};
-ghost use Rattle.reg_run.specs.Status.{task_of_one, task_of, name_of, status_of, note_of, NotesOnce};
+// How a run ends.
+ghost use Rattle.std.specs.Prelude.{◌≡◌, string_bytes, IfOk};
+ghost use Rattle.reg_run.specs.Status.{status_of, note_of, NotesOnce};
 
 use reg_outside::{Sink, write_whole};
 use std::alloc::{AllocError, Global};
-
-/// What the words ask for.
-#[derive(Clone, Copy, Debug, PartialEq, Eq)]
-pub enum Task {
-    /// Begin a journal.
-    Init,
-    /// Answer the lines of the input.
-    Apply,
-    /// Open the journal.
-    Check,
-    /// List the members of the group that the second word names.
-    Members,
-}
 
 /// How a run ends.
 #[derive(Clone, Copy, Debug, PartialEq, Eq)]
@@ -42,44 +27,6 @@ pub enum End {
     Exists,
     /// The query was refused.
     Refused,
-}
-
-fn task_of_one(word: &str) -> Option<Task>
-    ensures { result ≡ task_of_one word.now }
-{
-    match word {
-        "init" => Some(Task::Init),
-        "apply" => Some(Task::Apply),
-        "check" => Some(Task::Check),
-        _ => None,
-    }
-}
-
-/// What the words ask for. None where they are none of the program's.
-pub fn task_of(words: &[String]) -> Option<Task>
-    ensures { result ≡ task_of (map string_bytes words.now) }
-{
-    match words {
-        [word] => task_of_one(word.as_str()),
-        [word, _name] => {
-            if word.as_str() == "members" {
-                Some(Task::Members)
-            } else {
-                None
-            }
-        }
-        _ => None,
-    }
-}
-
-/// The second word, if there is one.
-pub fn name_of(words: &[String]) -> &str
-    ensures { result.now ≡ name_of (map string_bytes words.now) }
-{
-    match words {
-        [_, name, ..] => name.as_str(),
-        _ => "",
-    }
 }
 
 /// The exit status of a run that ended so.

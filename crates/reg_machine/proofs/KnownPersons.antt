@@ -1,0 +1,191 @@
+-- Who was a member of a group at a moment up to the clock is a person that stands.
+use Rattle.std.proofs.Common.{◌≡◌, ◌≤◌, ◌<◌, ◌==◌, ◌&&◌, ◌||◌, ℕ, zero, suc, List, [], ◌∷◌, ◌++◌, Bool, true, false, not, Option, None, Some, nat_le, if◌then◌else◌, arith, refl, sym, ◌∙◌, ap, subst, inl, inr, eqb-true, eq-eqb}
+use Rattle.std.proofs.lemmas.Bool.{cases_Bool, and_parts, or_cases, or_from, or_left, or_right}
+use Rattle.std.proofs.lemmas.Bool.Decides.{nat_tests}
+use Rattle.std.specs.List.{list_any, AllByRecursion}
+use Rattle.reg_base.specs.declared.entity.Entity.{Entity}
+use Rattle.reg_terms.specs.declared.command.Stamped.{Stamped}
+use Rattle.reg_terms.specs.declared.command.Command.{Command}
+use Rattle.reg_terms.specs.declared.event.Event.{Event}
+use Rattle.reg_terms.specs.declared.event.Event.TheVariants.{FolderMade, FolderRenamed, FolderMoved, FolderGone, GroupMade, GroupRenamed, GroupMoved, GroupGone, RowAdded, RowRemoved, RowRedated, Composed, Decomposed, GrantAdded, GrantRemoved, InheritAdded, InheritRemoved, ConsumerAdded, ConsumerAcked, SubjectMade}
+use Rattle.reg_terms.specs.declared.kinds.Member.{Member}
+use Rattle.reg_terms.specs.declared.kinds.Member.TheVariants.{Person, Group}
+use Rattle.reg_terms.specs.declared.kinds.SetOp.{SetOp}
+use Rattle.reg_terms.specs.declared.kinds.SetOp.TheVariants.{Intersection, Complement}
+use Rattle.reg_terms.specs.declared.rows.CompositeRow.{CompositeRow}
+use Rattle.reg_terms.specs.declared.rows.MemberRow.{MemberRow}
+use Rattle.reg_terms.specs.declared.rows.SubjectRow.{SubjectRow}
+use Rattle.reg_terms.specs.Kinds.{same_member}
+use Rattle.reg_facts.specs.Edits.{is_composite, is_row}
+use Rattle.reg_facts.specs.Events.{all_happened, edit, events_of, happened}
+use Rattle.reg_facts.specs.Lists.{Lists}
+use Rattle.reg_facts.specs.Sound.{has_subject, IsKnown, IsSound}
+use Rattle.reg_effect.specs.declared.live.Live.{Live}
+use Rattle.reg_effect.specs.Member.{combine, gives, in_rows, in_factors, level, member_in, member, entries}
+use Rattle.reg_effect.specs.Order.{has_live_row}
+use Rattle.reg_machine.specs.Dates.{due, is_on, pass}
+use Rattle.reg_machine.specs.History.{facts}
+use Rattle.reg_machine.specs.Invariant.{IsBy, IsOpen}
+use Rattle.reg_machine.specs.Live.{live}
+use Rattle.reg_machine.specs.Past.{AreKnown, was_member}
+use Rattle.reg_machine.proofs.Due.{due_some}
+use Rattle.reg_machine.proofs.Lived.{facts_earlier, none_before, none_within, still}
+use Rattle.reg_machine.proofs.Moments.{date_comes, facts_push, none_comes}
+use Rattle.reg_machine.proofs.Windows.{on_later}
+
+-- ---- a member is named by a row
+
+-- whether a row names the person
+abbrev names_person : ℕ → List (ℕ × Member) → Bool
+names_person s rows = list_any (λ (row : ℕ × Member). same_member (Person s) row.1) rows
+
+person_named : (M : ℕ → Bool) (s : ℕ) (m : Member) (all : Bool) → ((h : ℕ) → M h ≡ true → all ≡ true) → (same_member (Person s) m ≡ true → all ≡ true) → gives M s m ≡ true → all ≡ true
+person_named M s (Person p) all below here h = here (let e = eqb-true p s h in rw e (same_person s))
+  where
+    same_person : (s : ℕ) → same_member (Person s) (Person s) ≡ true
+    same_person s = eq-eqb s s refl
+person_named M s (Group g) all below here h = below g h
+
+rows_named : (M : ℕ → Bool) (g s : ℕ) (rows : List (ℕ × Member)) (all : Bool) → ((h : ℕ) → M h ≡ true → all ≡ true) → (names_person s rows ≡ true → all ≡ true) → in_rows M rows g s ≡ true → all ≡ true
+rows_named M g s [] all below here h = cc
+rows_named M g s (row ∷ rows) all below here h = elim (or_cases ((row.0 == g) && gives M s row.1) (in_rows M rows g s) h) [
+  | inl one ↦ person_named M s row.1 all below (λ e. here (or_left (same_member (Person s) row.1) (names_person s rows) e)) (and_parts (row.0 == g) (gives M s row.1) one).1
+  | inr more ↦ rows_named M g s rows all below (λ e. here (or_right (same_member (Person s) row.1) (names_person s rows) e)) more
+]
+
+combined : (op : SetOp) (a b : Bool) → combine op a b ≡ true → a ≡ true
+combined Intersection true b h = refl
+combined Intersection false b h = cc
+combined Complement true b h = refl
+combined Complement false b h = cc
+
+factors_named : (M : ℕ → Bool) (g : ℕ) (cs : List CompositeRow) (all : Bool) → ((h : ℕ) → M h ≡ true → all ≡ true) → in_factors M cs g ≡ true → all ≡ true
+factors_named M g [] all below h = cc
+factors_named M g (c ∷ cs) all below h = elim (or_cases ((c.group == g) && combine c.op (M c.left) (M c.right)) (in_factors M cs g) h) [
+  | inl one ↦ below c.left (combined c.op (M c.left) (M c.right) (and_parts (c.group == g) (combine c.op (M c.left) (M c.right)) one).1)
+  | inr more ↦ factors_named M g cs all below more
+]
+
+level_named : (n : ℕ) (L : Live) (g s : ℕ) → member_in n L g s ≡ true → names_person s L.rows ≡ true
+level_named zero L g s h = cc
+level_named (suc n) L g s h = elim (cases_Bool (is_composite g L.composites)) [
+  | inl y ↦ factors_named (λ x. member_in n L x s) g L.composites (names_person s L.rows) (λ x e. level_named n L x s e) (rw y at h)
+  | inr other ↦ rows_named (λ x. member_in n L x s) g s L.rows (names_person s L.rows) (λ x e. level_named n L x s e) (λ e. e) (rw other at h)
+]
+
+pub member_named : (L : Live) (g s : ℕ) → member L g s ≡ true → names_person s L.rows ≡ true
+unfolding member
+member_named L g s h = level_named (suc (entries L)) L g s h
+
+-- ---- and that row is one of the facts, whose person stands
+
+turned_person : (s : ℕ) (m : Member) → same_member (Person s) m ≡ true → same_member m (Person s) ≡ true
+turned_person s (Person p) h = let e = eqb-true s p h in rw e (rw e at h)
+turned_person s (Group g) h = cc
+
+named_live : (s : ℕ) (rows : List (ℕ × Member)) → names_person s rows ≡ true → (g : ℕ) × (has_live_row g (Person s) rows ≡ true)
+named_live s [] h = cc
+named_live s (row ∷ rows) h = elim (or_cases (same_member (Person s) row.1) (names_person s rows) h) [
+  | inl one ↦ (row.0, or_left ((row.0 == row.0) && same_member row.1 (Person s)) (has_live_row row.0 (Person s) rows) (rw (turned_person s row.1 one) (same row.0)))
+  | inr more ↦ let found = named_live s rows more in (found.0, or_right ((row.0 == found.0) && same_member row.1 (Person s)) (has_live_row found.0 (Person s) rows) found.1)
+]
+  where
+    same : (g : ℕ) → ((g == g) && true) ≡ true
+    same g = rw (eq-eqb g g refl) refl
+
+person_known : (s : ℕ) (m : Member) (ss : List SubjectRow) → same_member m (Person s) ≡ true → IsKnown ss m → has_subject s ss ≡ true
+person_known s (Person p) ss e h = let same = eqb-true p s e in rw same at h
+person_known s (Group g) ss e h = cc
+
+row_known : (u g s : ℕ) (rows : List MemberRow) (ss : List SubjectRow) → list_any (λ (row : MemberRow). is_row g (Person s) row && is_on u row) rows ≡ true → AllByRecursion (λ (row : MemberRow). IsKnown ss row.member) rows → has_subject s ss ≡ true
+row_known u g s [] ss h known = cc
+row_known u g s (row ∷ rows) ss h known = elim (or_cases (is_row g (Person s) row && is_on u row) (list_any (λ (row : MemberRow). is_row g (Person s) row && is_on u row) rows) h) [
+  | inl one ↦ person_known s row.member ss (and_parts (row.group == g) (same_member row.member (Person s)) (and_parts (is_row g (Person s) row) (is_on u row) one).0).1 known.0
+  | inr more ↦ row_known u g s rows ss more known.1
+]
+
+-- at the moment itself
+pub known_at : (history : List Stamped) (t g s : ℕ) → AllByRecursion (IsBy t) history → AllByRecursion (IsOpen t) (facts history t).rows → IsSound (facts history t) → was_member history t g s ≡ true → has_subject s (facts history t).subjects ≡ true
+known_at history t g s by opens sound h =
+    let found = named_live s (live t (facts history t)).rows (member_named (live t (facts history t)) g s h) in
+    row_known t found.0 s (facts history t).rows (facts history t).subjects (sym (on_later t t found.0 (Person s) history by opens (omega arith)) ∙ found.1) sound.known
+
+-- ---- persons stay
+
+subject_pushed : (s : ℕ) (ss : List SubjectRow) (row : SubjectRow) → has_subject s ss ≡ true → has_subject s (ss ++ row ∷ []) ≡ true
+subject_pushed s [] row h = cc
+subject_pushed s (r ∷ ss) row h = elim (or_cases (r.id == s) (has_subject s ss) h) [
+  | inl one ↦ or_left (r.id == s) (has_subject s (ss ++ row ∷ [])) one
+  | inr more ↦ or_right (r.id == s) (has_subject s (ss ++ row ∷ [])) (subject_pushed s ss row more)
+]
+
+stays : (e : Event) (f : Lists) (s : ℕ) → has_subject s f.subjects ≡ true → has_subject s (happened e f).subjects ≡ true
+stays (SubjectMade row) f s h = subject_pushed s f.subjects row h
+stays (FolderMade row) f s h = h
+stays (FolderRenamed d x) f s h = h
+stays (FolderMoved d to) f s h = h
+stays (FolderGone d) f s h = h
+stays (GroupMade row) f s h = h
+stays (GroupRenamed g x) f s h = h
+stays (GroupMoved g to) f s h = h
+stays (GroupGone g) f s h = h
+stays (RowAdded row) f s h = h
+stays (RowRemoved g m) f s h = h
+stays (RowRedated g m from until) f s h = h
+stays (Composed row) f s h = h
+stays (Decomposed g) f s h = h
+stays (GrantAdded row) f s h = h
+stays (GrantRemoved row) f s h = h
+stays (InheritAdded row) f s h = h
+stays (InheritRemoved row) f s h = h
+stays (ConsumerAdded row) f s h = h
+stays (ConsumerAcked name seq) f s h = h
+
+all_stay : (es : List Event) (f : Lists) (s : ℕ) → has_subject s f.subjects ≡ true → has_subject s (all_happened es f).subjects ≡ true
+all_stay [] f s h = h
+all_stay (e ∷ es) f s h = all_stay es (happened e f) s (stays e f s h)
+
+-- ---- who was a member stands
+
+-- a clock up to which no date comes
+pub known_later : (history : List Stamped) (t u : ℕ) → AllByRecursion (IsBy t) history → AreKnown history t → t ≤ u → due t u (facts history t).rows ≡ None → AreKnown history u
+known_later history t u by h w none v g s x was = rw (none_comes t u history by w none) (elim (cases_Bool (nat_le v t)) [
+  | inl y ↦ h v g s (grind (arith, nat_tests, y)) was
+  | inr n ↦
+      let later : t ≤ v = grind (arith, nat_tests, n) in
+      h t g s (omega arith) (subst (λ (L : Live). member L g s ≡ true) (still history t v by later (none_within t u v (facts history t) none x)) was)
+])
+
+-- the next date
+pub known_next : (history : List Stamped) (t d : ℕ) → AllByRecursion (IsBy t) history → AllByRecursion (IsBy d) history → AreKnown history t → due t d (facts history t).rows ≡ Some d → AllByRecursion (IsOpen d) (facts history d).rows → IsSound (facts history d) → AreKnown history d
+known_next history t d by by_then h first opens sound v g s x was = elim (cases_Bool (nat_le d v)) [
+  | inl y ↦
+      let same : v ≡ d = grind (arith, nat_tests, y, x) in
+      known_at history d g s by_then opens sound (rw same at was)
+  | inr n ↦
+      let less : v < d = grind (arith, nat_tests, n) in
+      rw (date_comes t d d history by first) (elim (cases_Bool (nat_le v t)) [
+        | inl y ↦ h v g s (grind (arith, nat_tests, y)) was
+        | inr m ↦
+            let later : t ≤ v = grind (arith, nat_tests, m) in
+            h t g s (omega arith) (subst (λ (L : Live). member L g s ≡ true) (still history t v by later (none_before t d v (facts history t) first less)) was)
+      ])
+]
+
+-- a command more
+pub known_push : (history : List Stamped) (at : ℕ) (by : Entity) (command : Command) → AllByRecursion (IsBy at) history → AllByRecursion (IsBy at) (history ++ (record { at = at; by = by; command = command }) ∷ []) → AreKnown history at
+    → AllByRecursion (IsOpen at) (facts (history ++ (record { at = at; by = by; command = command }) ∷ []) at).rows → IsSound (facts (history ++ (record { at = at; by = by; command = command }) ∷ []) at) → AreKnown (history ++ (record { at = at; by = by; command = command }) ∷ []) at
+known_push history at by command are more h opens sound v g s x was = elim (cases_Bool (nat_le at v)) [
+  | inl y ↦
+      let same : v ≡ at = grind (arith, nat_tests, y, x) in
+      known_at (history ++ (record { at = at; by = by; command = command }) ∷ []) at g s more opens sound (rw same at was)
+  | inr n ↦
+      let less : v < at = grind (arith, nat_tests, n) in
+      rw (facts_push at by command history are) (all_stay (events_of at by command (facts history at)) (facts history at) s (h v g s (omega (arith, less)) (subst (λ (f : Lists). member (live v f) g s ≡ true) (facts_earlier history at v by command less) was)))
+]
+
+pub known_start : AreKnown [] 0
+unfolding facts pass
+known_start v g s x was =
+    let named : names_person s [] ≡ true = member_named (live v (facts [] v)) g s was in
+    cc

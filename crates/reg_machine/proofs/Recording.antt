@@ -1,0 +1,123 @@
+-- The machine stays in step and records its steps: with a date that comes, with a later clock, and with a command.
+use Rattle.std.specs.List.{AllByRecursion}
+use Rattle.std.proofs.Common.{◌≡◌, ◌≤◌, ◌++◌, ◌∷◌, [], ℕ, List, map, None, Some, arith, refl, sym, ◌∙◌, ap, subst}
+use Rattle.reg_base.specs.declared.entity.Entity.{Entity}
+use Rattle.reg_terms.specs.declared.command.Stamped.{Stamped}
+use Rattle.reg_terms.specs.declared.command.Command.{Command}
+use Rattle.reg_terms.specs.declared.event.Event.{Event}
+use Rattle.reg_terms.specs.declared.kinds.Member.{Member}
+use Rattle.reg_facts.specs.Events.{all_happened, events_of, happened}
+use Rattle.reg_facts.specs.Lists as the_facts
+use Rattle.reg_facts.specs.Lists.{Lists}
+use Rattle.reg_facts.specs.Sound.{IsSound}
+use Rattle.reg_effect.specs.declared.live.Live.{Live}
+use Rattle.reg_effect.specs.Member.{member}
+use Rattle.reg_audit.specs.Audit.{IsAudit}
+use Rattle.reg_audit.specs.Steps.{Step, FollowsOn, last_moment, left_by}
+use Rattle.reg_audit.specs.declared.audit.Audit.{Audit}
+use Rattle.reg_machine.specs.Dates.{due, ending, pair_gone, without_ended}
+use Rattle.reg_machine.specs.History.{facts}
+use Rattle.reg_machine.specs.Invariant.{IsInStep, IsOpen, Now}
+use Rattle.reg_machine.specs.Live.{live}
+use Rattle.reg_machine.specs.Past.{AreKnown, AreLived, command_step, date_step, steps}
+use Rattle.reg_machine.specs.Recording.{IsRecorded, Recording, Records, carried_step}
+use Rattle.reg_machine.specs.Refusals.{refusal}
+use Rattle.reg_machine.proofs.Due.{due_some}
+use Rattle.reg_machine.proofs.InStep.{command_in_step, later_in_step, next_in_step}
+use Rattle.reg_machine.proofs.KnownPersons.{known_later, known_next, known_push, known_start}
+use Rattle.reg_machine.proofs.Lived.{last_is, last_moment_by, lived_later, lived_next, lived_push, lived_start}
+use Rattle.reg_machine.proofs.StepByStep.{no_steps, steps_next, steps_none, steps_push}
+use Rattle.reg_machine.proofs.Starting.{start_in_step}
+
+-- rows that go change no consumer
+rows_keep : (rows : List (ℕ × Member)) (f : Lists) → (all_happened (map pair_gone rows) f).consumers ≡ f.consumers
+rows_keep [] f = refl
+rows_keep (row ∷ rows) f = rows_keep rows (happened (pair_gone row) f)
+
+-- a step from the live data at the clock on comes after those of the history
+follows : (history : List Stamped) (clock : ℕ) (step : Step) → AreLived history clock → clock ≤ step.at → step.live ≡ live clock (facts history clock) → step.before ≡ facts history clock → step.after.consumers ≡ (all_happened step.events step.before).consumers → FollowsOn (steps history clock) step
+follows history clock step h later is from after =
+    let moment = last_moment_by clock (steps history clock) h.by in
+    record {
+      later = omega (arith, moment, later);
+      members = λ g s. ap (λ (L : Live). member L g s) is ∙ (sym (h.lived clock g s (omega arith)) ∙ ap (λ o. member (left_by o) g s) (last_is clock (steps history clock) h.by));
+      consumers = ap (λ (f : Lists). f.consumers) from ∙ sym h.consumers;
+      consumers_after = after;
+    }
+
+-- the next date comes after the steps so far, and so does what events make at the clock
+pub next_follows : (history : List Stamped) (d : ℕ) (r : Recording) → IsRecorded history r → due r.now.clock d r.now.facts.rows ≡ Some d → FollowsOn (steps history r.now.clock) (date_step r.now.clock d r.now.facts)
+next_follows history d r h first =
+    let later = (due_some r.now.clock d d r.now.facts.rows first).later in
+    follows history r.now.clock (date_step r.now.clock d r.now.facts) h.lived (omega (arith, later)) (ap (λ (f : Lists). live r.now.clock f) h.in_step.facts) h.in_step.facts (sym (rows_keep (ending d r.now.facts.rows) r.now.facts))
+
+pub carried_follows : (history : List Stamped) (r : Recording) (es : List Event) → IsRecorded history r → FollowsOn (steps history r.now.clock) (carried_step r.now es)
+carried_follows history r es h = follows history r.now.clock (carried_step r.now es) h.lived (omega arith) (ap (λ (f : Lists). live r.now.clock f) h.in_step.facts) h.in_step.facts refl
+
+known_then : (history : List Stamped) (d : ℕ) (r new : Recording) → IsRecorded history r → new.now ≡ record { clock = d; facts = without_ended d r.now.facts } → due r.now.clock d (facts history r.now.clock).rows ≡ Some d → IsInStep history new.now
+    → AllByRecursion (IsOpen new.now.clock) new.now.facts.rows → IsSound new.now.facts → AreKnown history new.now.clock
+known_then history d r new h is there stands opens sound =
+    let clock : new.now.clock ≡ d = ap (λ (n : Now). n.clock) is in
+    let here : new.now.facts ≡ facts history d = stands.facts ∙ ap (facts history) clock in
+    rw clock (known_next history r.now.clock d h.in_step.by (rw clock at stands.by) h.known there (rw (clock, here) at opens) (rw here at sound))
+
+known_more : (history : List Stamped) (by : Entity) (c : Command) (r new : Recording) → IsRecorded history r → new.now.clock ≡ r.now.clock → IsInStep (history ++ (record { at = r.now.clock; by = by; command = c }) ∷ []) new.now
+    → AllByRecursion (IsOpen new.now.clock) new.now.facts.rows → IsSound new.now.facts → AreKnown (history ++ (record { at = r.now.clock; by = by; command = c }) ∷ []) new.now.clock
+known_more history by c r new h clock stands opens sound =
+    let here : new.now.facts ≡ facts (history ++ (record { at = r.now.clock; by = by; command = c }) ∷ []) r.now.clock = stands.facts ∙ ap (facts (history ++ (record { at = r.now.clock; by = by; command = c }) ∷ [])) clock in
+    rw clock (known_push history r.now.clock by c h.in_step.by (rw clock at stands.by) h.known (rw (clock, here) at opens) (rw here at sound))
+
+-- a date that comes next
+pub next_recorded : (history : List Stamped) (d : ℕ) (r new : Recording) → IsRecorded history r → due r.now.clock d r.now.facts.rows ≡ Some d → new.now ≡ record { clock = d; facts = without_ended d r.now.facts } → Records r.audit new.audit (date_step r.now.clock d r.now.facts)
+    → AllByRecursion (IsOpen new.now.clock) new.now.facts.rows → IsSound new.now.facts → IsRecorded history new
+next_recorded history d r new h first is records opens sound =
+    let stands : IsInStep history new.now = rw is (next_in_step history d r.now h.in_step first) in
+    let there : due r.now.clock d (facts history r.now.clock).rows ≡ Some d = rw (← h.in_step.facts) first in
+    let step = date_step r.now.clock d r.now.facts in
+    let more = records (steps history r.now.clock) h.audit (next_follows history d r h first) in
+    let are : steps history r.now.clock ++ step ∷ [] ≡ steps history d = ap (λ (f : Lists). steps history r.now.clock ++ date_step r.now.clock d f ∷ []) h.in_step.facts ∙ sym (steps_next r.now.clock d d history h.in_step.by there) in
+    record {
+      in_step = stands;
+      audit = rw is (subst (λ ss. IsAudit ss new.audit) are more);
+      lived = rw is (lived_next history r.now.clock d h.in_step.by h.lived there);
+      known = known_then history d r new h is there stands opens sound;
+    }
+
+-- a clock up to which no date comes
+pub later_recorded : (history : List Stamped) (u : ℕ) (r new : Recording) → IsRecorded history r → r.now.clock ≤ u → due r.now.clock u r.now.facts.rows ≡ None → new.now ≡ record { clock = u; facts = r.now.facts } → new.audit ≡ r.audit → IsRecorded history new
+later_recorded history u r new h later none is same =
+    let there : due r.now.clock u (facts history r.now.clock).rows ≡ None = rw (← h.in_step.facts) none in
+    record {
+      in_step = rw is (later_in_step history u r.now h.in_step later none);
+      audit = rw (is, same) (subst (λ ss. IsAudit ss r.audit) (sym (steps_none r.now.clock u history h.in_step.by later there)) h.audit);
+      lived = rw is (lived_later history r.now.clock u h.in_step.by h.lived later there);
+      known = rw is (known_later history r.now.clock u h.in_step.by h.known later there);
+    }
+
+-- a command more
+pub command_recorded : (history : List Stamped) (by : Entity) (c : Command) (r new : Recording) (es : List Event) → IsRecorded history r → refusal history r.now.clock by c ≡ None → es ≡ events_of r.now.clock by c r.now.facts → new.now ≡ record { clock = r.now.clock; facts = all_happened es r.now.facts } → Records r.audit new.audit (carried_step r.now es)
+    → AllByRecursion (IsOpen new.now.clock) new.now.facts.rows → IsSound new.now.facts → IsRecorded (history ++ (record { at = r.now.clock; by = by; command = c }) ∷ []) new
+command_recorded history by c r new es h allowed are is records opens sound =
+    let stands = command_in_step history by c r.now new.now es h.in_step allowed are is in
+    let step = carried_step r.now es in
+    let more = records (steps history r.now.clock) h.audit (carried_follows history r es h) in
+    let same : step ≡ command_step r.now.clock by c r.now.facts = ap (carried_step r.now) are in
+    let led : steps history r.now.clock ++ step ∷ [] ≡ steps (history ++ (record { at = r.now.clock; by = by; command = c }) ∷ []) r.now.clock =
+    ap (λ (x : Step). steps history r.now.clock ++ x ∷ []) same
+    ∙ (ap (λ (f : Lists). steps history r.now.clock ++ command_step r.now.clock by c f ∷ []) h.in_step.facts
+    ∙ sym (steps_push r.now.clock by c history h.in_step.by)) in
+    record {
+      in_step = stands;
+      audit = rw is (subst (λ ss. IsAudit ss new.audit) led more);
+      lived = rw is (lived_push history r.now.clock by c h.in_step.by h.lived);
+      known = known_more history by c r new h (ap (λ (n : Now). n.clock) is) stands opens sound;
+    }
+
+-- nothing stands in an empty history
+pub start_recorded : (r : Recording) → r.now ≡ record { clock = 0; facts = the_facts.start } → IsAudit [] r.audit → IsRecorded [] r
+start_recorded r is none = record {
+  in_step = rw is start_in_step;
+  audit = rw (is, no_steps) none;
+  lived = rw is lived_start;
+  known = rw is known_start;
+}

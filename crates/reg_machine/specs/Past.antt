@@ -1,0 +1,127 @@
+-- The past that a history gives: its steps one after another, and by them who was a member when, the change log, and what is gone.
+use Rattle.std.specs.Prelude.{◌≡◌, ◌≤◌, ℕ, zero, suc, ◌*◌, List, [], ◌∷◌, ◌++◌, Bool, true, Option, None, Some, length, map, if◌then◌else◌}
+use Rattle.reg_base.specs.declared.entity.Entity.{Entity}
+use Rattle.reg_terms.specs.declared.command.Stamped.{Stamped}
+use Rattle.reg_terms.specs.declared.command.Command.{Command}
+use Rattle.reg_terms.specs.Kinds.{as_group}
+use Rattle.reg_terms.specs.declared.kinds.Object.{Object}
+use Rattle.reg_terms.specs.declared.kinds.Object.TheVariants.{Subject}
+use Rattle.reg_facts.specs.Events.{events_of}
+use Rattle.reg_facts.specs.Lists as the_facts
+use Rattle.reg_facts.specs.Lists.{Lists}
+use Rattle.reg_facts.specs.Naming.{name_of}
+use Rattle.reg_facts.specs.Rows.{subject_row}
+use Rattle.reg_facts.specs.Sound.{has_subject, is_named}
+use Rattle.reg_effect.specs.Member.{member}
+use Rattle.std.specs.List.{AllByRecursion}
+use Rattle.std.specs.Option.{option_or}
+use Rattle.std.specs.Str.{bytes_eq}
+use Rattle.reg_audit.specs.Lines.{log_of}
+use Rattle.reg_audit.specs.Lives.{life_of, gone_of, gone_name, all_gone}
+use Rattle.reg_audit.specs.declared.gone.Gone.{Gone}
+use Rattle.reg_audit.specs.Steps.{Step, consumers_by, live_by}
+use Rattle.reg_log.specs.declared.entries.Line.{Line}
+use Rattle.reg_pit.specs.Spans.{spans_until}
+use Rattle.reg_machine.specs.Dates.{date_passed, due, ending, pair_gone, pass}
+use Rattle.reg_machine.specs.History.{acted, facts, up_to}
+use Rattle.reg_machine.specs.Live.{live}
+
+-- ---- steps
+
+-- a date that comes, the first one after a moment: the rows that end there go
+abbrev pub date_step : ℕ → ℕ → Lists → Step
+date_step a d f = record { at = d; before = f; events = map pair_gone (ending d f.rows); after = date_passed a d f; live = live a f; live_after = live d (date_passed a d f) }
+
+-- a command of a caller at a moment, up to which all dates have come
+abbrev pub command_step : ℕ → Entity → Command → Lists → Step
+command_step at by command f = record { at = at; before = f; events = events_of at by command f; after = acted at by command f; live = live at f; live_after = live at (acted at by command f) }
+
+-- at most n dates, each the least after the one before
+abbrev pub dates_passed_in : ℕ → ℕ → ℕ → Lists → List Step
+dates_passed_in zero a b f = []
+dates_passed_in (suc n) a b f = elim (due a b f.rows) [ None ↦ [] | Some d ↦ date_step a d f ∷ dates_passed_in n d b (date_passed a d f) ]
+
+-- the dates that come after one moment and up to another
+unfoldable pub dates_passed : ℕ → ℕ → Lists → List Step
+dates_passed a b f = dates_passed_in (2 * length f.rows) a b f
+
+-- these commands from a moment on, and the dates up to each and up to a last moment
+abbrev pub steps_after : ℕ → List Stamped → ℕ → Lists → List Step
+steps_after a [] t f = dates_passed a t f
+steps_after a (s ∷ ss) t f = dates_passed a s.at f ++ command_step s.at s.by s.command (pass a s.at f) ∷ steps_after s.at ss t (acted s.at s.by s.command (pass a s.at f))
+
+-- the steps of a history up to a moment
+unfoldable pub steps : List Stamped → ℕ → List Step
+steps history t = steps_after 0 (up_to t history) t the_facts.start
+
+-- ---- memberships
+
+-- whether a person was an effective member of a group at a moment
+abbrev pub was_member : List Stamped → ℕ → ℕ → ℕ → Bool
+was_member history t g s = member (live t (facts history t)) g s
+
+-- a step is no later than a moment
+abbrev pub IsStepBy : ℕ → Step → Type 0
+IsStepBy t step = step.at ≤ t
+
+-- at each moment up to the clock the memberships are those after the last step up to it, and the consumers those after the last
+pub record AreLived (history : List Stamped) (clock : ℕ) : Type 0 where
+  pub by : AllByRecursion (IsStepBy clock) (steps history clock)
+  pub lived : (t g s : ℕ) → t ≤ clock → member (live_by t (steps history clock)) g s ≡ was_member history t g s
+  pub consumers : consumers_by (steps history clock) ≡ (facts history clock).consumers
+
+-- who was a member at a moment up to the clock stands
+abbrev pub AreKnown : List Stamped → ℕ → Type 0
+AreKnown history clock = (t g s : ℕ) → t ≤ clock → was_member history t g s ≡ true → has_subject s (facts history clock).subjects ≡ true
+
+-- the intervals up to now in which a person was an effective member of a group
+unfoldable pub spans : List Stamped → ℕ → ℕ → ℕ → List (ℕ × Option ℕ)
+spans history now g s = spans_until (λ t. was_member history t g s) now
+
+-- those of some persons, one person after another
+abbrev pub all_spans : List Stamped → ℕ → ℕ → List ℕ → List (ℕ × ℕ × Option ℕ)
+all_spans history now g [] = []
+all_spans history now g (s ∷ ss) = map (λ (span : ℕ × Option ℕ). (s, span.0, span.1)) (spans history now g s) ++ all_spans history now g ss
+
+-- ---- the change log
+
+-- the change log at a moment: an entry's number is its place, from 1
+unfoldable pub log : List Stamped → ℕ → List Line
+log history t = log_of (steps history t)
+
+-- ---- what was made, and what is gone
+
+-- when an object was made and when it went
+unfoldable pub life : List Stamped → ℕ → Object → Option (ℕ × Option ℕ)
+life history now o = life_of o (steps history now)
+
+-- the groups that are gone, in the order in which they went
+unfoldable pub gone : List Stamped → ℕ → List ℕ
+gone history now = gone_of (steps history now)
+
+-- the name of what stands, or a subject's text
+abbrev pub present_name : Object → Lists → List ℕ
+present_name (Subject s) f = elim (subject_row s f.subjects) [ None ↦ [] | Some row ↦ row.text ]
+present_name o f = if is_named o f then name_of o f else []
+
+-- an object's present name, or the one that it had when it went
+unfoldable pub last_name : List Stamped → ℕ → Object → List ℕ
+last_name history now o = elim (gone_name o (steps history now)) [ None ↦ present_name o (facts history now) | Some name ↦ name ]
+
+-- the groups among what is gone, each with its name
+abbrev pub named_groups : List Gone → List (ℕ × List ℕ)
+named_groups [] = []
+named_groups (g ∷ gs) = elim (as_group (Some g.object)) [ None ↦ named_groups gs | Some id ↦ (id, g.name) ∷ named_groups gs ]
+
+-- the groups that are gone, in the order in which they went, each with the name that it had then
+unfoldable pub gone_names : List Stamped → ℕ → List (ℕ × List ℕ)
+gone_names history now = named_groups (all_gone (steps history now))
+
+-- the last group of this name
+abbrev pub last_named : List ℕ → List (ℕ × List ℕ) → Option ℕ
+last_named name [] = None
+last_named name (g ∷ gs) = option_or (last_named name gs) (if bytes_eq g.1 name then Some g.0 else None)
+
+-- the group that went last of those that are gone and had this name then
+abbrev pub gone_named : List ℕ → List Stamped → ℕ → Option ℕ
+gone_named name history now = last_named name (gone_names history now)

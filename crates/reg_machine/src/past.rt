@@ -1,0 +1,211 @@
+// What a machine tells of the past.
+ghost use Rattle.std.specs.Prelude.{◌≡◌, ◌≤◌, ◌<◌, ◌+◌, ◌++◌, ◌==◌, ℕ, List, true, None, Some, IfOk};
+ghost use Rattle.std.specs.List.{list_any, AllByRecursion};
+ghost use Rattle.std.specs.List.Sorted.{IsStrictlySortedBy};
+ghost use Rattle.std.specs.Option.{option_copied};
+ghost use Rattle.std.specs.Ordering.{nat_cmp};
+ghost use Rattle.reg_terms.specs.declared.command.Stamped.{Stamped};
+ghost use Rattle.reg_terms.specs.Kinds.{same_object};
+ghost use Rattle.reg_terms.specs.declared.kinds.Object.TheVariants.{Folder};
+ghost use Rattle.reg_facts.specs.Consumers.{consumer_place};
+ghost use Rattle.reg_facts.specs.Lists.{root};
+ghost use Rattle.reg_facts.specs.Sound.{has_subject, is_named};
+ghost use Rattle.reg_log.specs.Places.{place_of};
+ghost use Rattle.reg_pit.specs.Members.{Lists};
+ghost use Rattle.reg_audit.specs.Lives.{gone_name};
+ghost use Rattle.reg_machine.specs.History.{facts};
+ghost use Rattle.reg_machine.specs.Invariant.{IsFrom};
+ghost use Rattle.reg_machine.specs.Past.{all_spans, gone, gone_named, last_name, life, log, present_name, spans, steps, was_member};
+
+use crate::Machine;
+use reg_base::{GroupId, Moment, Steps, SubjectId, Text};
+use reg_effect::Kept;
+use reg_facts::Facts;
+use reg_log::{ChangeLog, Places};
+use reg_names::name_of;
+use reg_terms::Object;
+use std::alloc::{AllocError, Global};
+use std::sync::ledger::Ledger;
+
+/// Whether an object is the root folder.
+fn is_root(object: &Object) -> bool
+    ensures { result ≡ same_object object.now (Folder root) }
+{
+    match object {
+        Object::Folder(id) => id.number() == 0,
+        Object::Group(_) | Object::Def(_) | Object::Attr(_) | Object::Subject(_) => false,
+    }
+}
+
+/// Whether an object has a name: the root, and what is placed.
+#[tactic(auto, using(crate::proofs::Placing::named_some, crate::proofs::Placing::named_none))]
+fn is_named(facts: &Facts, object: &Object) -> bool
+    ensures { result ≡ is_named object.now facts.now }
+{
+    match facts.place_of(object) {
+        Some(_) => true,
+        None => is_root(object),
+    }
+}
+
+/// The name of what stands, or a subject's text; empty where it doesn't stand.
+fn present_name(alloc: Global, facts: &Facts, object: &Object) -> Result<Text, AllocError>
+    ensures { IfOk result (λ name. name ≡ present_name object.now facts.now) }
+{
+    if let Object::Subject(id) = object {
+        return match facts.subject(*id) {
+            Some(subject) => subject.text.copy(alloc),
+            None => Text::new(alloc, ""),
+        };
+    }
+    if is_named(facts, object) {
+        return name_of(alloc, facts, object);
+    }
+    Text::new(alloc, "")
+}
+
+/// The name that an object had when it went, if it is gone, and else its present one.
+fn told_name(
+    alloc: Global,
+    gone: Option<&Text>,
+    facts: &Facts,
+    object: &Object,
+) -> Result<Text, AllocError>
+    ensures { IfOk result (λ name. name ≡ elim (option_copied gone.entry) [ None ↦ present_name object.now facts.now | Some x ↦ x ]) }
+{
+    match gone {
+        Some(name) => name.copy(alloc),
+        None => present_name(alloc, facts, object),
+    }
+}
+
+impl<K: Kept> Machine<K> {
+    /// The change log up to the clock: what each accepted command and each date changed, in order.
+    /// An entry's number is its place, from 1. Takes no memory.
+    pub fn log(&self) -> &ChangeLog
+        ensures { result.now ≡ log self.now.history self.now.clock }
+    {
+        self.recorded.audit().log()
+    }
+
+    /// How far each consumer of the change log has read. Takes no memory.
+    pub fn places(&self) -> &Places
+        ensures { (name : List ℕ) → place_of result.now name ≡ consumer_place name (facts self.now.history self.now.clock).consumers }
+    {
+        self.recorded.audit().places()
+    }
+
+    /// Whether a person was an effective member of a group at a moment up to the clock. A step is one
+    /// interval looked at. Takes no memory.
+    pub fn was_member<L: Ledger>(
+        &self,
+        group: GroupId,
+        subject: SubjectId,
+        t: Moment,
+        steps: &mut Steps<L>,
+    ) -> bool
+        requires { t ≤ self.now.clock }
+        ensures value { result ≡ was_member self.now.history t group subject }
+        ensures looks { steps.new ≤ steps.old + 1 }
+    {
+        self.recorded
+            .audit()
+            .past()
+            .was_member(group, subject, t, steps)
+    }
+
+    /// Who was an effective member of a group at a moment up to the clock, by id. Costs what was ever
+    /// noted of the group.
+    pub fn members_at(&self, group: GroupId, t: Moment) -> Result<Vec<SubjectId>, AllocError>
+        requires { t ≤ self.now.clock }
+        ensures { IfOk result (λ persons. Lists (λ s. was_member self.now.history t group s) persons.items) }
+    {
+        self.recorded.audit().past().members_at(group, t)
+    }
+
+    /// The groups of which a person was an effective member at a moment up to the clock, by id. Costs
+    /// what was ever noted of the person.
+    pub fn groups_at(&self, subject: SubjectId, t: Moment) -> Result<Vec<GroupId>, AllocError>
+        requires { t ≤ self.now.clock }
+        ensures { IfOk result (λ groups. Lists (λ g. was_member self.now.history t g subject) groups.items) }
+    {
+        self.recorded.audit().past().groups_at(subject, t)
+    }
+
+    /// The intervals up to the clock in which a person was an effective member of a group: each from
+    /// the moment at which it began until just before the one at which it ended, none empty, no two
+    /// touching, in order.
+    pub fn spans(
+        &self,
+        group: GroupId,
+        subject: SubjectId,
+    ) -> Result<Vec<(Moment, Option<Moment>)>, AllocError>
+        ensures { IfOk result (λ rows. rows.items ≡ spans self.now.history self.now.clock group subject) }
+    {
+        let past = self.recorded.audit().past();
+        past.law_noted_later();
+        past.spans(group, subject)
+    }
+
+    /// All those intervals of a group, by person and then by their start. Costs what was ever noted of
+    /// the group.
+    pub fn history_of(
+        &self,
+        group: GroupId,
+    ) -> Result<Vec<(SubjectId, Moment, Option<Moment>)>, AllocError>
+        ensures { IfOk result (λ rows. (ids : List ℕ) → IsStrictlySortedBy nat_cmp ids → ((t s : ℕ) → t ≤ self.now.clock → was_member self.now.history t group s ≡ true → list_any (λ x. x == s) ids ≡ true) → rows.items ≡ all_spans self.now.history self.now.clock group ids) }
+    {
+        let past = self.recorded.audit().past();
+        past.law_noted_later();
+        past.law_stays();
+        past.law_spans();
+        past.history_of(group)
+    }
+
+    /// Who was a member of a group at a moment up to the clock stands; and what stood before a moment,
+    /// no command changes from that moment on. It does nothing.
+    pub fn law_past(&self)
+        ensures stays { (before after : List Stamped) (c t : ℕ) → self.now.history ≡ before ++ after → AllByRecursion (IsFrom c) after → t < c → facts self.now.history t ≡ facts before t }
+        ensures known { (t g s : ℕ) → t ≤ self.now.clock → was_member self.now.history t g s ≡ true → has_subject s (facts self.now.history self.now.clock).subjects ≡ true }
+    {
+        let _ = &self.recorded;
+    }
+
+    /// When an object was made, and when it went, if it is gone. None exactly where it was never
+    /// made; the root folder was made at 0. Takes no memory.
+    pub fn life(&self, object: Object) -> Option<(Moment, Option<Moment>)>
+        ensures { result ≡ life self.now.history self.now.clock object }
+    {
+        self.recorded.audit().life(object)
+    }
+
+    /// The groups that are gone, in the order in which they went. Takes no memory.
+    pub fn gone(&self) -> &[GroupId]
+        ensures { result.now ≡ gone self.now.history self.now.clock }
+    {
+        self.recorded.audit().gone()
+    }
+
+    /// The group that went last of those that are gone and had this name last. Takes no memory.
+    pub fn gone_named(&self, name: &str) -> Option<GroupId>
+        ensures { result ≡ gone_named name.now self.now.history self.now.clock }
+    {
+        self.recorded.audit().gone_named(name)
+    }
+
+    /// An object's present name, or the one that it had when it went; a subject's text; empty for what
+    /// was never made. The only error is out of memory.
+    #[tactic(auto, unfolding(crate::specs::Past::last_name))]
+    pub fn last_name(&self, alloc: Global, object: Object) -> Result<Text, AllocError>
+        ensures { IfOk result (λ name. name ≡ last_name self.now.history self.now.clock object) }
+    {
+        told_name(alloc, self.gone_name(object), self.facts(), &object)
+    }
+
+    /// The name that an object had when it went, if it is gone.
+    fn gone_name(&self, object: Object) -> Option<&Text>
+        ensures { option_copied result ≡ gone_name object (steps self.now.history self.now.clock) }
+    {
+        self.recorded.audit().gone_name(object)
+    }
+}

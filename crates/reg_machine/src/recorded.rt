@@ -1,0 +1,202 @@
+// What stands at a moment, and the record of the steps up to it. Both stand on the heap, since a
+// machine goes by value from function to function, and these are several hundred bytes.
+ghost use Rattle.std.specs.Prelude.{◌≡◌, ◌≤◌, ◌+◌, [], Some, None, IfOk, OnOk, map};
+ghost use Rattle.reg_facts.specs.Events.{all_happened};
+ghost use Rattle.std.specs.List.{AllByRecursion};
+ghost use Rattle.reg_facts.specs.Lists.{start};
+ghost use Rattle.reg_facts.specs.Sound.{IsSound};
+ghost use Rattle.reg_machine.specs.Invariant.{IsOpen};
+ghost use Rattle.reg_effect.specs.Bound.{most_steps_of};
+ghost use Rattle.reg_effect.specs.Turned.{turns};
+ghost use Rattle.reg_audit.specs.Audit.{IsAudit};
+ghost use Rattle.reg_audit.specs.Notes.{notes_of};
+ghost use Rattle.reg_pit.specs.Past.{NotedBy};
+ghost use Rattle.reg_machine.specs.Dates.{date_changes, due, ending, pair_gone, without_ended};
+ghost use Rattle.reg_machine.specs.Holding.{AllHold};
+ghost use Rattle.reg_machine.specs.Live.{live};
+ghost use Rattle.reg_machine.specs.Recording.{carried_step, Records};
+ghost use Rattle.reg_machine.specs.Past.{date_step};
+ghost use Rattle.reg_machine.specs.Steps.{events_steps};
+
+use crate::current::Current;
+use reg_audit::{Audit, Notes, notes_of};
+use reg_base::{GroupId, Moment, Steps, SubjectId};
+use reg_effect::{Kept, Turned};
+use reg_facts::Event;
+use std::alloc::{AllocError, Global};
+use std::sync::ledger::Ledger;
+
+/// What stands at a moment, and the record of the steps up to it.
+#[derive(Drop)]
+pub struct Recorded<K: Kept> {
+    current: Current<K>,
+    audit: Audit,
+}
+
+/// What stands after some events, what they change themselves, and the memberships that they turn. It
+/// takes at most the steps of these.
+fn carried<K: Kept, L: Ledger>(
+    alloc: Global,
+    current: Current<K>,
+    events: Vec<Event>,
+    steps: &mut Steps<L>,
+) -> Result<(Current<K>, Notes, Vec<(GroupId, SubjectId, bool)>), AllocError>
+    requires { AllHold current.clock events.items current.facts }
+    ensures happened { IfOk result (λ r. r.0 ≡ record { clock = current.clock; facts = all_happened events.items current.facts }) }
+    ensures notes { IfOk result (λ r. r.1 ≡ notes_of current.clock current.facts events.items) }
+    ensures turned { IfOk result (λ r. r.2.items ≡ turns (live current.clock current.facts) (live current.clock (all_happened events.items current.facts))) }
+    ensures cost { OnOk result (steps.new ≤ steps.old + events_steps current.clock events.items current.facts) }
+{
+    let mut turned = Turned::new(alloc);
+    let notes = notes_of(alloc, current.clock(), current.facts(), &events)?;
+    let current = current.carry_all(alloc, events, &mut turned, steps)?;
+    let turned = turned.list(current.kept())?;
+    Ok((current, notes, turned))
+}
+
+/// What stands at the next date, what it changes itself, and the memberships that it turns. It takes
+/// at most the steps of the memberships that end and begin there.
+fn passed<K: Kept, L: Ledger>(
+    alloc: Global,
+    current: Current<K>,
+    date: Moment,
+    steps: &mut Steps<L>,
+) -> Result<(Current<K>, Notes, Vec<(GroupId, SubjectId, bool)>), AllocError>
+    requires { due current.clock date current.facts.rows ≡ Some date }
+    ensures moved { IfOk result (λ r. r.0 ≡ record { clock = date; facts = without_ended date current.facts }) }
+    ensures notes { IfOk result (λ r. r.1 ≡ notes_of date current.facts (map pair_gone (ending date current.facts.rows))) }
+    ensures turned { IfOk result (λ r. r.2.items ≡ turns (live current.clock current.facts) (live date (without_ended date current.facts))) }
+    ensures cost { OnOk result (steps.new ≤ steps.old + most_steps_of (date_changes date current.facts) (live current.clock current.facts)) }
+{
+    let mut turned = Turned::new(alloc);
+    let events = current.ending(alloc, date)?;
+    let notes = notes_of(alloc, date, current.facts(), &events)?;
+    let current = current.pass_date(alloc, date, events, &mut turned, steps)?;
+    let turned = turned.list(current.kept())?;
+    Ok((current, notes, turned))
+}
+
+impl<K: Kept> Recorded<K> {
+    /// The root folder alone, at the moment 0, and no step.
+    pub fn start(alloc: Global) -> Result<Box<Recorded<K>>, AllocError>
+        ensures now { IfOk result (λ b. b.value.current ≡ record { clock = 0; facts = start }) }
+        ensures audit { IfOk result (λ b. IsAudit [] b.value.audit) }
+    {
+        let current = Current::start(alloc)?;
+        let audit = Audit::start(alloc);
+        let recorded = Box::new(alloc, Recorded { current, audit })?;
+        Ok(recorded)
+    }
+
+    /// What stands.
+    pub fn current(&self) -> &Current<K>
+        ensures { result.now ≡ self.now.current }
+    {
+        &self.current
+    }
+
+    /// The record of the steps.
+    pub fn audit(&self) -> &Audit
+        ensures { result.now ≡ self.now.audit }
+    {
+        &self.audit
+    }
+
+    /// What stands after some events, one after another, which are recorded as one step. It takes at
+    /// most the steps of these.
+    pub fn carry<L: Ledger>(
+        self,
+        alloc: Global,
+        events: Vec<Event>,
+        steps: &mut Steps<L>,
+    ) -> Result<Recorded<K>, AllocError>
+        requires hold { AllHold self.current.clock events.items self.current.facts }
+        requires noted { NotedBy self.current.clock self.audit.past }
+        ensures happened { IfOk result (λ r. r.current ≡ record { clock = self.current.clock; facts = all_happened events.items self.current.facts }) }
+        ensures recorded { IfOk result (λ r. Records self.audit r.audit (carried_step self.current events.items)) }
+        ensures opens { IfOk result (λ r. AllByRecursion (IsOpen r.current.clock) r.current.facts.rows) }
+        ensures sound { IfOk result (λ r. IsSound r.current.facts) }
+        ensures cost { OnOk result (steps.new ≤ steps.old + events_steps self.current.clock events.items self.current.facts) }
+    {
+        let Recorded { current, audit } = self;
+        let (current, notes, turned) = carried(alloc, current, events, steps)?;
+        let audit = audit.note(alloc, notes, &turned)?;
+        current.law_rows_open();
+        current.facts().law_sound();
+        Ok(Recorded { current, audit })
+    }
+
+    /// What stands at the next date, which is recorded as a step. It takes at most the steps of the
+    /// memberships that end and begin there.
+    pub fn pass_date<L: Ledger>(
+        self,
+        alloc: Global,
+        date: Moment,
+        steps: &mut Steps<L>,
+    ) -> Result<Recorded<K>, AllocError>
+        requires due { due self.current.clock date self.current.facts.rows ≡ Some date }
+        requires noted { NotedBy date self.audit.past }
+        ensures moved { IfOk result (λ r. r.current ≡ record { clock = date; facts = without_ended date self.current.facts }) }
+        ensures recorded { IfOk result (λ r. Records self.audit r.audit (date_step self.current.clock date self.current.facts)) }
+        ensures opens { IfOk result (λ r. AllByRecursion (IsOpen r.current.clock) r.current.facts.rows) }
+        ensures sound { IfOk result (λ r. IsSound r.current.facts) }
+        ensures cost { OnOk result (steps.new ≤ steps.old + most_steps_of (date_changes date self.current.facts) (live self.current.clock self.current.facts)) }
+    {
+        let Recorded { current, audit } = self;
+        let (current, notes, turned) = passed(alloc, current, date, steps)?;
+        let audit = audit.note(alloc, notes, &turned)?;
+        current.law_rows_open();
+        current.facts().law_sound();
+        Ok(Recorded { current, audit })
+    }
+
+    /// Goes on to a moment up to which no date comes. Nothing else changes.
+    pub fn wait(&mut self, to: Moment)
+        requires later { self.old.current.clock ≤ to }
+        requires none { due self.old.current.clock to self.old.current.facts.rows ≡ None }
+        ensures now { self.new.current ≡ record { clock = to; facts = self.old.current.facts } }
+        ensures audit { self.new.audit ≡ self.old.audit }
+    {
+        self.current.wait(to);
+    }
+}
+
+/// The same on the heap: what stands after some events.
+pub fn carried_on<K: Kept, L: Ledger>(
+    alloc: Global,
+    recorded: Box<Recorded<K>>,
+    events: Vec<Event>,
+    steps: &mut Steps<L>,
+) -> Result<Box<Recorded<K>>, AllocError>
+    requires hold { AllHold recorded.value.current.clock events.items recorded.value.current.facts }
+    requires noted { NotedBy recorded.value.current.clock recorded.value.audit.past }
+    ensures happened { IfOk result (λ b. b.value.current ≡ record { clock = recorded.value.current.clock; facts = all_happened events.items recorded.value.current.facts }) }
+    ensures recorded { IfOk result (λ b. Records recorded.value.audit b.value.audit (carried_step recorded.value.current events.items)) }
+    ensures opens { IfOk result (λ b. AllByRecursion (IsOpen b.value.current.clock) b.value.current.facts.rows) }
+    ensures sound { IfOk result (λ b. IsSound b.value.current.facts) }
+    ensures cost { OnOk result (steps.new ≤ steps.old + events_steps recorded.value.current.clock events.items recorded.value.current.facts) }
+{
+    let recorded = Box::into_inner(recorded).carry(alloc, events, steps)?;
+    let recorded = Box::new(alloc, recorded)?;
+    Ok(recorded)
+}
+
+/// The same on the heap: what stands at the next date.
+pub fn passed_on<K: Kept, L: Ledger>(
+    alloc: Global,
+    recorded: Box<Recorded<K>>,
+    date: Moment,
+    steps: &mut Steps<L>,
+) -> Result<Box<Recorded<K>>, AllocError>
+    requires due { due recorded.value.current.clock date recorded.value.current.facts.rows ≡ Some date }
+    requires noted { NotedBy date recorded.value.audit.past }
+    ensures moved { IfOk result (λ b. b.value.current ≡ record { clock = date; facts = without_ended date recorded.value.current.facts }) }
+    ensures recorded { IfOk result (λ b. Records recorded.value.audit b.value.audit (date_step recorded.value.current.clock date recorded.value.current.facts)) }
+    ensures opens { IfOk result (λ b. AllByRecursion (IsOpen b.value.current.clock) b.value.current.facts.rows) }
+    ensures sound { IfOk result (λ b. IsSound b.value.current.facts) }
+    ensures cost { OnOk result (steps.new ≤ steps.old + most_steps_of (date_changes date recorded.value.current.facts) (live recorded.value.current.clock recorded.value.current.facts)) }
+{
+    let recorded = Box::into_inner(recorded).pass_date(alloc, date, steps)?;
+    let recorded = Box::new(alloc, recorded)?;
+    Ok(recorded)
+}

@@ -1,0 +1,56 @@
+-- Where the words ask for nothing.
+use Rattle.std.proofs.Common.{◌≡◌, ◌∙◌, ◌⊎◌, List, ℕ, Option, Some, None, refl, ap, sym, subst, inl, inr, arith}
+use Rattle.reg_outside.specs.declared.disk.Disk.{Ghosts}
+use Rattle.reg_words.specs.declared.task.Task.{Task}
+use Rattle.reg_words.specs.declared.task.Task.TheVariants as task
+use Rattle.reg_run.specs.declared.status.End.{End}
+use Rattle.reg_run.specs.declared.status.End.TheVariants as the_end
+use Rattle.reg_run.specs.Crash.{Seen, seen}
+use Rattle.reg_run.specs.Ends.{Did, IsIdle, IsUsage, Printed, RunDid}
+use Rattle.reg_run.specs.Status.{status_of}
+use Rattle.reg_run.specs.World.{Out, World}
+
+status_two : (end : End) → status_of end ≡ 2 → end ≡ the_end.Usage
+status_two the_end.Done e = absurd (omega arith)
+status_two the_end.Usage e = refl
+status_two the_end.Memory e = absurd (omega arith)
+status_two the_end.Disk e = absurd (omega arith)
+status_two the_end.Input e = absurd (omega arith)
+status_two the_end.Output e = absurd (omega arith)
+status_two (the_end.Damaged at) e = absurd (omega arith)
+status_two the_end.TooMuch e = absurd (omega arith)
+status_two the_end.Exists e = absurd (omega arith)
+status_two the_end.Refused e = absurd (omega arith)
+
+print_is_use : (bytes : List ℕ) (old new : Out) → Printed the_end.Done bytes the_end.Usage old new → ⊥
+print_is_use bytes old new (inl p) = let is : the_end.Usage ≡ the_end.Done = p.0 in absurd (cc)
+print_is_use bytes old new (inr (inl p)) = let is : the_end.Usage ≡ the_end.Output = p.0 in absurd (cc)
+print_is_use bytes old new (inr (inr p)) = let is : the_end.Usage ≡ the_end.Memory = p.0 in absurd (cc)
+
+-- no task ends so
+task_is_use : (d : Seen) (t : Task) (before after : World) → Did d t the_end.Usage before after → ⊥
+task_is_use d task.Init before after did = did.ends
+task_is_use d task.Apply before after (inl not) = not.cause
+task_is_use d task.Apply before after (inr p) = p.2.ends
+task_is_use d task.Check before after (inl not) = not.cause
+task_is_use d task.Check before after (inr p) = print_is_use _ _ _ p.2.printed
+task_is_use d (task.Ask question) before after (inl not) = not.cause
+task_is_use d (task.Ask question) before after (inr p) = p.2.ends
+
+words_are_use : {D : Type 0} (g : Ghosts D) (t : Task) (end : End) (before after : World) (old new : D) → end ≡ the_end.Usage
+    → Did (seen g old new) t end before after ⊎ ((end ≡ the_end.Memory) × IsIdle before after old new) → ⊥
+words_are_use g t end before after old new is (inl did) = task_is_use (seen g old new) t before after (subst (λ (x : End). Did (seen g old new) t x before after) is did)
+words_are_use g t end before after old new is (inr none) = let both : the_end.Usage ≡ the_end.Memory = sym is ∙ none.0 in absurd (cc)
+
+idle_status : (end : End) → (end ≡ the_end.Usage) ⊎ (end ≡ the_end.Memory) → (status_of end ≡ 2) ⊎ (status_of end ≡ 3)
+idle_status end (inl is) = inl (ap status_of is)
+idle_status end (inr is) = inr (ap status_of is)
+
+pub is_usage : {D : Type 0} (g : Ghosts D) (asked : Option Task) (end : End) (before after : World) (old new : D) → RunDid g asked end before after old new → IsUsage asked (status_of end)
+is_usage g None end before after old new did = (λ two. refl, λ none. idle_status end did.0)
+is_usage g (Some t) end before after old new did = (λ two. absurd (words_are_use g t end before after old new (status_two end two) did), λ none. absurd (cc))
+
+-- where there was no memory to read the words
+pub idle_did : {D : Type 0} (g : Ghosts D) (asked : Option Task) (w : World) (d : D) → RunDid g asked the_end.Memory w w d d
+idle_did g None w d = (inr refl, (refl, refl))
+idle_did g (Some t) w d = inr (refl, (refl, refl))

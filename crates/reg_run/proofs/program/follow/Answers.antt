@@ -1,0 +1,20 @@
+use Rattle.std.proofs.Common.{rules, refl, inl, inr, sym, ◌∙◌, ◌≡◌, Some, None, map, string_bytes}
+use Rattle.reg_words.specs.Words.{task_of}
+use Rattle.reg_run.proofs.Usage.{idle_did}
+use Rattle.reg_run.proofs.program.follow.Goals as goal
+
+-- the task's end
+pub returns-in-Ok-Some-clause-did : goal.returns-in-Ok-Some-clause-did
+returns-in-Ok-Some-clause-did g c =
+    let is : task_of (map string_bytes c.args.words.now) ≡ Some c.in-Ok-Some.task = sym c.in-Ok-Some.ensures ∙ c.in-Ok-Some.field-0-is in
+    rw is (inl (search rules))
+
+-- the words ask for nothing
+pub returns-in-Ok-None-clause-did : goal.returns-in-Ok-None-clause-did
+returns-in-Ok-None-clause-did g c =
+    let is : task_of (map string_bytes c.args.words.now) ≡ None = sym c.in-Ok-None.ensures ∙ c.in-Ok-None.field-0-is in
+    rw is (inl refl, (refl, refl))
+
+-- there was no memory to read them
+pub returns-in-Err-clause-did : goal.returns-in-Err-clause-did
+returns-in-Err-clause-did g c = idle_did g.D.Disk _ _ _
