@@ -1,0 +1,253 @@
+-- From message to message of a connection.
+use Rattle.std.proofs.Common.{◌≡◌, ◌++◌, ◌∷◌, [], List, ℕ, Bool, Option, Some, None, true, false, refl, ap, sym, append_assoc, append-nil, option_map, Result, Ok, Err, ◌∙◌, inl, inr, arith, length}
+use Rattle.std.specs.Prelude.{IfSome, IfOk, IfErr}
+use Rattle.std.specs.Io.KnownBytes.{append_known}
+use Rattle.std.proofs.lemmas.List.{map-append, take_all}
+use Rattle.reg_outside.specs.Streams.{first_moment, later_moments, WritesFront}
+use Rattle.reg_terms.specs.declared.refusal.Refusal.{Refusal}
+use Rattle.reg_base.specs.declared.entity.Entity.{Entity}
+use Rattle.reg_terms.specs.declared.command.Command.{Command}
+use Rattle.reg_machine.specs.History.{State}
+use Rattle.reg_terms.specs.declared.request.Request.{Request}
+use Rattle.reg_terms.specs.declared.request.Op.{Op}
+use Rattle.reg_terms.specs.declared.request.Op.TheVariants as op
+use Rattle.reg_terms.specs.declared.reply.Reply.{Reply}
+use Rattle.reg_terms.specs.declared.reply.Reply.TheVariants as reply
+use Rattle.reg_base.specs.Entities.{entity_of}
+use Rattle.reg_service.specs.Turn.{at_moment, decided, requested, turn, Turns, Follows, last_reply, ordered}
+use Rattle.reg_service.specs.Opening.{Served}
+use Rattle.reg_service.specs.declared.service.Cause.{Cause}
+use Rattle.reg_service.specs.declared.service.Next.{Next}
+use Rattle.reg_service.specs.declared.service.Next.TheVariants as next
+use Rattle.reg_session.specs.Replies.{is_accepted, IsShown}
+use Rattle.reg_session.specs.Answered.{Point, AreNext, coming_after, Gives}
+use Rattle.reg_http.specs.declared.call.Call.{Call}
+use Rattle.reg_calls.specs.Asked.{asked_of, closes, closes_by}
+use Rattle.reg_serve.specs.Answered.{Question, refuses, reads, question_of, MayReply, Answer, MayAnswer, calls_of, times_of, responses_of, Answered, Answers, Breaks, StopsAt, CallEnds}
+use Rattle.reg_calls.specs.Responses.{response_to}
+use Rattle.reg_serve.specs.Sent.{SendsReply, SentFront, Finishes}
+use Rattle.reg_calls.specs.declared.asked.Asked.{Asked}
+use Rattle.reg_serve.specs.declared.ended.Ended.{Ended}
+use Rattle.reg_serve.specs.declared.ended.Ended.TheVariants as ended
+
+-- ---- what is shown of a reply may be given
+
+decided_keeps : (s : State) (by : Entity) (command : Command) (r : Option Refusal) → is_accepted (decided s by command r).0 ≡ false → (decided s by command r).1 ≡ s
+decided_keeps s by command None h = cc
+decided_keeps s by command (Some r) h = refl
+
+ordered_keeps : (s : State) (by : Option Entity) (command : Command) → is_accepted (ordered s by command).0 ≡ false → (ordered s by command).1 ≡ s
+ordered_keeps s None command h = refl
+ordered_keeps s (Some by) command h = decided_keeps s by command _ h
+
+answered_keeps : (s : State) (by : List ℕ) (o : Op) → is_accepted (requested s by o).0 ≡ false → (requested s by o).1 ≡ s
+answered_keeps s by (op.Command command) h = ordered_keeps s (entity_of by) command h
+answered_keeps s by (op.Query query) h = refl
+
+turn_keeps : (s : State) (m : ℕ) (reading : Result Request Refusal) → is_accepted (turn s m reading).0 ≡ false → (turn s m reading).1 ≡ at_moment s m
+turn_keeps s m (Err r) h = refl
+turn_keeps s m (Ok request) h = answered_keeps (at_moment s m) request.by request.op h
+
+turns_no_memory : (s after : State) (m : ℕ) (reading : Result Request Refusal) (given : Reply) → Turns s m reading given after → is_accepted given ≡ false → Turns s m reading reply.NoMemory after
+turns_no_memory s after m reading given (inl e) h =
+    let told : given ≡ (turn s m reading).0 = ap (λ (p : Reply × State). p.0) e in
+    let kept : after ≡ at_moment s m = ap (λ (p : Reply × State). p.1) e ∙ turn_keeps s m reading (rw (← told) h) in
+    inr (record { fault = refl; history = ap (λ (t : State). t.history) kept; clock = inr (ap (λ (t : State). t.clock) kept) })
+turns_no_memory s after m reading given (inr wants) h = inr (record { fault = refl; history = wants.history; clock = wants.clock })
+
+turns_told : (s after : State) (m : ℕ) (reading : Result Request Refusal) (given told : Reply) → Turns s m reading given after → IsShown given told → Turns s m reading told after
+turns_told s after m reading given told t (inl e) = rw e t
+turns_told s after m reading given told t (inr e) = rw e.0 (turns_no_memory s after m reading given t e.1)
+
+shown_twice : (due told shown : Reply) → IsShown due told → IsShown told shown → IsShown due shown
+shown_twice due told shown one (inl e) = rw e one
+shown_twice due told shown (inl e) (inr f) = inr (f.0, rw e at f.1)
+shown_twice due told shown (inr e) (inr f) = inr (f.0, e.1)
+
+pub may_shown : (s after : State) (q : Question) (at : List ℕ) (due shown : Reply) → MayReply s q at due after → IsShown due shown → MayReply s q at shown after
+may_shown s after (refuses r) at due shown m t = (m.0, m.1, shown_twice (reply.Refused r) due shown m.2 t)
+may_shown s after (reads reading) at due shown m t = (m.0, m.1, turns_told s after m.0 reading due shown m.2 t)
+
+-- ---- moments and bytes
+
+next_more : (xs ys coming : List ℕ) → AreNext xs coming → AreNext ys (coming_after xs coming) → AreNext (xs ++ ys) coming
+next_more [] ys coming one two = two
+next_more (x ∷ xs) ys coming one two = (one.0, next_more xs ys (later_moments coming) one.1 two)
+
+after_more : (xs ys coming : List ℕ) → coming_after (xs ++ ys) coming ≡ coming_after ys (coming_after xs coming)
+after_more [] ys coming = refl
+after_more (x ∷ xs) ys coming = after_more xs ys (later_moments coming)
+
+pub gives_more : (o p q : Option (List ℕ)) (xs ys : List ℕ) → Gives o xs p → Gives p ys q → Gives o (xs ++ ys) q
+gives_more None p q xs ys one two = (tt, rw one.1 at two.1)
+gives_more (Some coming) p q xs ys one two = joined p one.1 two
+  where
+    joined : (p : Option (List ℕ)) → p ≡ Some (coming_after xs coming) → Gives p ys q → Gives (Some coming) (xs ++ ys) q
+    joined None e t = absurd (cc)
+    joined (Some c) e t =
+        let same : c ≡ coming_after xs coming = cc in
+        let next : AreNext ys (coming_after xs coming) = rw same at t.0 in
+        let last : coming_after ys c ≡ coming_after (xs ++ ys) coming = ap (coming_after ys) same ∙ sym (after_more xs ys coming) in
+        (next_more xs ys coming one.0 next, t.1 ∙ ap (λ (l : List ℕ). Some l) last)
+
+pub gives_none : (o : Option (List ℕ)) → Gives o [] o
+gives_none None = (tt, refl)
+gives_none (Some coming) = (tt, refl)
+
+pub gives_one : (o p : Option (List ℕ)) (m : ℕ) → IfSome o (λ coming. m ≡ first_moment coming) → p ≡ option_map later_moments o → Gives o (m ∷ []) p
+gives_one None p m first later = (tt, later)
+gives_one (Some coming) p m first later = ((first, tt), later)
+
+pub append_none : (w : Option (List ℕ)) → w ≡ append_known w []
+append_none None = refl
+append_none (Some bytes) = ap Some (sym (append-nil bytes))
+
+append_more : (w : Option (List ℕ)) (xs ys : List ℕ) → append_known (append_known w xs) ys ≡ append_known w (xs ++ ys)
+append_more None xs ys = refl
+append_more (Some bytes) xs ys = ap Some (append_assoc bytes xs ys)
+
+-- a front of no bytes, and of all
+pub front_none : (old new : Option (List ℕ)) (text : List ℕ) → new ≡ old → WritesFront old new text
+front_none old new text e = (0, omega arith, e ∙ append_none old)
+
+pub front_all : (old new : Option (List ℕ)) (text : List ℕ) → new ≡ append_known old text → WritesFront old new text
+front_all old new text e = (length text, omega arith, e ∙ ap (append_known old) (sym (take_all (length text) text (omega arith))))
+
+-- ---- messages
+
+pub answered_none : (p : Point) → Answered p [] p
+answered_none p = record { answers = []; asked_by = refl; given = refl; times = gives_none p.moments; text = append_none p.written }
+
+may_more : (s mid last : State) (xs ys : List Answer) → MayAnswer s xs mid → MayAnswer mid ys last → MayAnswer s (xs ++ ys) last
+may_more s mid last [] ys one two = rw (← one) two
+may_more s mid last (x ∷ xs) ys one two = (one.0, one.1, may_more one.0 mid last xs ys one.2 two)
+
+times_more : (xs ys : List Answer) → times_of (xs ++ ys) ≡ times_of xs ++ times_of ys
+times_more [] ys = refl
+times_more (x ∷ xs) ys = ap (λ (l : List ℕ). x.at ++ l) (times_more xs ys) ∙ sym (append_assoc x.at (times_of xs) (times_of ys))
+
+responses_more : (xs ys : List Answer) → responses_of (xs ++ ys) ≡ responses_of xs ++ responses_of ys
+responses_more [] ys = refl
+responses_more (x ∷ xs) ys =
+    ap (λ (l : List ℕ). response_to (asked_of x.call) (closes x.call) x.told ++ l) (responses_more xs ys) ∙ sym (append_assoc (response_to (asked_of x.call) (closes x.call) x.told) (responses_of xs) (responses_of ys))
+
+pub answered_more : (p q r : Point) (xs ys : List Call) → Answered p xs q → Answered q ys r → Answered p (xs ++ ys) r
+answered_more p q r xs ys a b = record {
+  answers = a.answers ++ b.answers;
+  asked_by = map-append (λ (x : Answer). x.call) a.answers b.answers ∙ both a.asked_by b.asked_by;
+  given = may_more p.state q.state r.state a.answers b.answers a.given b.given;
+  times = rw (times_more a.answers b.answers) (gives_more p.moments q.moments r.moments (times_of a.answers) (times_of b.answers) a.times b.times);
+  text = b.text ∙ (ap (λ (w : Option (List ℕ)). append_known w (responses_of b.answers)) a.text ∙ (append_more p.written (responses_of a.answers) (responses_of b.answers) ∙ ap (append_known p.written) (sym (responses_more a.answers b.answers))));
+}
+  where
+    both : {us vs : List Call} → calls_of a.answers ≡ us → calls_of b.answers ≡ vs → calls_of a.answers ++ calls_of b.answers ≡ us ++ vs
+    both e f = rw (e, f) refl
+
+pub answered_one : (w ms w2 ms2 : Option (List ℕ)) (s after : State) (call : Call) (at : List ℕ) (due shown : Reply) → Gives ms at ms2
+    → MayReply s (question_of call) at due after → IsShown due shown → w2 ≡ append_known w (response_to (asked_of call) (closes call) shown)
+    → Answered (record { written = w; moments = ms; state = s }) (call ∷ []) (record { written = w2; moments = ms2; state = after })
+answered_one w ms w2 ms2 s after call at due shown gives may shows wrote = record {
+  answers = (record { call = call; at = at; told = shown }) ∷ [];
+  asked_by = refl;
+  given = (after, may_shown s after (question_of call) at due shown may shows, refl);
+  times = rw (append-nil at) gives;
+  text = wrote ∙ ap (append_known w) (sym (append-nil (response_to (asked_of call) (closes call) shown)));
+}
+
+-- ---- what follows a message
+
+pub answers_follows : {K : Type 0} (old new : Option (List ℕ)) (s : State) (m : ℕ) (reading : Result Request Refusal) (r : Reply × Next K) → IfSome old (λ coming. m ≡ first_moment coming)
+    → new ≡ option_map later_moments old → Follows s m reading r → Answers old new s (reads reading) r
+answers_follows old new s m reading (told, next.Go after) first later f = (m ∷ [], gives_one old new m first later, (m, refl, f))
+answers_follows old new s m reading (told, next.Stop why k) first later f = (f, (m ∷ [], gives_one old new m first later))
+
+-- a message that is refused at once
+pub answers_at_once : {K : Type 0} (o : Option (List ℕ)) (s : Served K) (r : Refusal) → Answers o o s.state (refuses r) (reply.Refused r, next.Go s)
+answers_at_once o s r = ([], gives_none o, (refl, refl, inl refl))
+
+pub answers_go : {K : Type 0} (old new : Option (List ℕ)) (s : State) (q : Question) (r : Reply × Next K) (after : Served K) → Answers old new s q r → r.1 ≡ next.Go after
+    → (at : List ℕ) × Gives old at new × MayReply s q at r.0 after.state
+answers_go old new s q (told, following) after f e = rw e at f
+
+pub answers_stop : {K : Type 0} (old new : Option (List ℕ)) (s : State) (q : Question) (r : Reply × Next K) (why : Cause) (k : K) → Answers old new s q r → r.1 ≡ next.Stop why k
+    → (r.0 ≡ last_reply why) × ((at : List ℕ) × Gives old at new)
+answers_stop old new s q (told, following) why k f e = rw e at f
+
+closes_is : (call : Call) → closes_by (asked_of call) call ≡ closes call
+unfolding closes
+closes_is call = refl
+
+-- a response, or a front of it, was sent
+pub sends_front : {T : Type 0} (a : Asked) (close : Bool) (due : Reply) (old new : Option (List ℕ)) (r : Result T Ended) → SendsReply a close due old new r → SentFront a close due old new
+sends_front a close due old new (Ok done) s = (s.0, s.1, front_all old new (response_to a close s.0) s.2)
+sends_front a close due old new (Err ended.Closed) s = absurd s
+sends_front a close due old new (Err ended.Bad) s = absurd s
+sends_front a close due old new (Err ended.Failed) s = s
+sends_front a close due old new (Err ended.TooMuch) s = absurd s
+sends_front a close due old new (Err ended.NoMemory) s = (due, inl refl, front_none old new (response_to a close due) s.1)
+sends_front a close due old new (Err ended.Stopped) s = absurd s
+
+-- bytes that are a response were sent, or a front of them
+pub sends_bytes : {T : Type 0} (a : Asked) (close : Bool) (due shown : Reply) (old new : Option (List ℕ)) (r : Result T Ended) → IsShown due shown → IfOk r (λ done. new ≡ append_known old (response_to a close shown))
+    → WritesFront old new (response_to a close shown) → IfErr r (λ e. e ≡ ended.Failed) → SendsReply a close due old new r
+sends_bytes a close due shown old new (Ok done) t whole front failed = (shown, t, whole)
+sends_bytes a close due shown old new (Err e) t whole front failed = rw failed (shown, t, front)
+
+-- after a response the service goes on, or the connection closes, or the response wasn't sent whole
+pub finish_open : {K T : Type 0} (a : Asked) (call : Call) (due : Reply) (old new : Option (List ℕ)) (s : Served K) (close : Bool) (done : T) → close ≡ closes_by a call → close ≡ false
+    → SendsReply a close due old new (Ok done) → Finishes a call due old new s (Ok s)
+finish_open a call due old new s close done is shut sent = (refl, sym is ∙ shut, rw shut at sent)
+
+pub finish_closed : {K T : Type 0} (a : Asked) (call : Call) (due : Reply) (old new : Option (List ℕ)) (s : Served K) (close : Bool) (done : T) → close ≡ closes_by a call → close ≡ true
+    → SendsReply a close due old new (Ok done) → Finishes a call due old new s (Err (ended.Closed, next.Go s))
+finish_closed a call due old new s close done is shut sent = (refl, sym is ∙ shut, rw shut at sent)
+
+pub finish_cut : {K : Type 0} (T : Type 0) (a : Asked) (call : Call) (due : Reply) (old new : Option (List ℕ)) (s : Served K) (close : Bool) (e : Ended) → close ≡ closes_by a call
+    → SendsReply {T = T} a close due old new (Err e) → Finishes a call due old new s (Err (e, next.Go s))
+finish_cut T a call due old new s close ended.Closed is sent = absurd sent
+finish_cut T a call due old new s close ended.Bad is sent = absurd sent
+finish_cut T a call due old new s close ended.Failed is sent = (refl, rw is at sent)
+finish_cut T a call due old new s close ended.TooMuch is sent = absurd sent
+finish_cut T a call due old new s close ended.NoMemory is sent = (refl, (due, inl refl, front_none old new (response_to a (closes_by a call) due) sent.1))
+finish_cut T a call due old new s close ended.Stopped is sent = absurd sent
+
+-- how a message ends that was answered
+pub finishes_open : {K : Type 0} (w w2 : Option (List ℕ)) (s : Served K) (call : Call) (due : Reply) (r : Result (Served K) (Ended × Next K)) → Finishes (asked_of call) call due w w2 s r → IfOk r (λ after. closes call ≡ false)
+unfolding closes
+finishes_open w w2 s call due (Ok after) f = f.1
+finishes_open w w2 s call due (Err e) f = tt
+
+pub finishes_served : {K : Type 0} (w ms w2 ms2 : Option (List ℕ)) (p : State) (s : Served K) (call : Call) (at : List ℕ) (due : Reply) (r : Result (Served K) (Ended × Next K)) → Gives ms at ms2
+    → MayReply p (question_of call) at due s.state → Finishes (asked_of call) call due w w2 s r
+    → IfOk r (λ after. Answered (record { written = w; moments = ms; state = p }) (call ∷ []) (record { written = w2; moments = ms2; state = after.state }))
+finishes_served w ms w2 ms2 p s call at due (Ok after) gives may f =
+    let shut : closes call ≡ false = sym (closes_is call) ∙ f.1 in
+    rw f.0 (answered_one w ms w2 ms2 p s.state call at due f.2.0 gives may f.2.1 (rw shut f.2.2))
+finishes_served w ms w2 ms2 p s call at due (Err e) gives may f = tt
+
+breaks : (w ms w2 ms2 : Option (List ℕ)) (p after : State) (call : Call) (at : List ℕ) (due : Reply) → Gives ms at ms2 → MayReply p (question_of call) at due after
+    → SentFront (asked_of call) (closes_by (asked_of call) call) due w w2 → Breaks (record { written = w; moments = ms; state = p }) call w2 ms2 after
+breaks w ms w2 ms2 p after call at due gives may f = record {
+  at = at;
+  told = f.0;
+  times = gives;
+  given = may_shown p after (question_of call) at due f.0 may f.1;
+  front = rw (← closes_is call) f.2;
+}
+
+pub finishes_ended : {K : Type 0} (w ms w2 ms2 : Option (List ℕ)) (p : State) (s : Served K) (call : Call) (at : List ℕ) (due : Reply) (r : Result (Served K) (Ended × Next K)) → Gives ms at ms2
+    → MayReply p (question_of call) at due s.state → Finishes (asked_of call) call due w w2 s r → IfErr r (CallEnds (record { written = w; moments = ms; state = p }) call w2 ms2)
+finishes_ended w ms w2 ms2 p s call at due (Ok after) gives may f = tt
+finishes_ended w ms w2 ms2 p s call at due (Err (ended.Closed, n)) gives may f =
+    let shut : closes call ≡ true = sym (closes_is call) ∙ f.1 in
+    rw f.0 (shut, answered_one w ms w2 ms2 p s.state call at due f.2.0 gives may f.2.1 (rw shut f.2.2))
+finishes_ended w ms w2 ms2 p s call at due (Err (ended.Failed, n)) gives may f = rw f.0 (breaks w ms w2 ms2 p s.state call at due gives may f.1)
+finishes_ended w ms w2 ms2 p s call at due (Err (ended.NoMemory, n)) gives may f = rw f.0 (breaks w ms w2 ms2 p s.state call at due gives may f.1)
+finishes_ended w ms w2 ms2 p s call at due (Err (ended.Bad, n)) gives may f = absurd f
+finishes_ended w ms w2 ms2 p s call at due (Err (ended.TooMuch, n)) gives may f = absurd f
+finishes_ended w ms w2 ms2 p s call at due (Err (ended.Stopped, n)) gives may f = absurd f
+
+-- how it ends where the service stopped
+pub stops_at : (w ms w2 ms2 : Option (List ℕ)) (p : State) (call : Call) (at : List ℕ) (due : Reply) (why : Cause) → Gives ms at ms2 → due ≡ last_reply why → SentFront (asked_of call) true due w w2
+    → StopsAt (record { written = w; moments = ms; state = p }) call w2 ms2 why
+stops_at w ms w2 ms2 p call at due why gives is f = record { at = at; told = f.0; times = gives; shows = rw is at f.1; front = f.2 }

@@ -1,0 +1,23 @@
+use Rattle.std.proofs.Common.{◌≡◌, ◌≤◌, ◌-◌, ◌^◌, None}
+use Rattle.reg_http.specs.Messages.{IsUnfinished}
+use Rattle.reg_serve.specs.Sessions.{HasServed}
+use Rattle.reg_serve.proofs.connection.serve_bytes.Given as goal
+
+-- so many bytes were taken, and their messages answered
+abbrev pub invariant-loop-taken : goal.invariant-loop-taken
+invariant-loop-taken g l =
+    let left = g.C.Source.left in
+    let written = g.C.Sink.written in
+    let moments = g.T.Clock.moments in
+    record {
+      done : HasServed (left l.fn.conn) (left l.conn) (record { written = written l.fn.conn; moments = moments l.fn.clock; state = l.fn.service.state })
+          (record { written = written l.conn; moments = moments l.clock; state = l.service.state }) l.reader l.taken;
+      unfinished : IsUnfinished l.reader.rest;
+      fault : l.reader.fault ≡ None;
+      few : l.taken ≤ 2 ^ 32;
+      reads : g.C.Source.read_faults l.fn.conn ≤ g.C.Source.read_faults l.conn;
+      writes : g.C.Sink.write_faults l.fn.conn ≤ g.C.Sink.write_faults l.conn;
+    }
+
+abbrev pub decreases-loop-taken : goal.decreases-loop-taken
+decreases-loop-taken g l = 2 ^ 32 - l.taken

@@ -1,0 +1,14 @@
+use Rattle.std.proofs.Common.{refl}
+use Rattle.reg_serve.proofs.Turning.{ends_quiet}
+use Rattle.reg_serve.proofs.connection.serve_piece.Goals as goal
+
+-- there was no memory for the piece
+pub returns-in-Err-clause-ended : goal.returns-in-Err-clause-ended
+returns-in-Err-clause-ended g c = ends_quiet _ _ _ _ _ (refl, refl, refl)
+
+-- its messages were answered
+pub returns-in-Ok-clause-served : goal.returns-in-Ok-clause-served
+returns-in-Ok-clause-served g c = rw c.in-Ok.ensures.fed at c.serve_turns.ensures.served
+
+pub returns-in-Ok-clause-ended : goal.returns-in-Ok-clause-ended
+returns-in-Ok-clause-ended g c = rw c.in-Ok.ensures.fed at c.serve_turns.ensures.ended

@@ -1,0 +1,7 @@
+use Rattle.std.proofs.Common.{refl}
+use Rattle.reg_serve.proofs.Turning.{session_none}
+use Rattle.reg_serve.proofs.connection.serve_routed.Goals as goal
+
+-- there was no memory for a reader
+pub returns-in_default-clause-session : goal.returns-in_default-clause-session
+returns-in_default-clause-session g c = session_none _ _ _ _ _ c.turns_are_of_all_bytes.ensures.begun (refl, refl, refl)

@@ -1,0 +1,32 @@
+use Rattle.std.proofs.Common.{refl, arith, rules}
+use Rattle.reg_serve.proofs.Turning.{serves_none, serves_more, remains_fault, remains_none}
+use Rattle.reg_serve.proofs.serving.serve_turns.Goals as goal
+
+-- nothing was answered yet
+pub loop-more-init : goal.loop-more-init
+loop-more-init g c = record {
+  served = serves_none _ _;
+  fault = c.requires;
+  none = λ e. absurd (cc);
+  left = refl;
+  reads = omega arith;
+  writes = omega arith;
+}
+
+-- one message more was
+pub loop-more-preserved : goal.loop-more-preserved
+loop-more-preserved g c =
+    let inv = c.loop-more.invariant in
+    let one = c.in-Ok.ensures in
+    record {
+      served = serves_more _ _ _ _ _ _ inv.served one.served;
+      fault = remains_fault _ _ _ one.more;
+      none = λ e. remains_none _ _ _ one.more e;
+      left = search rules;
+      reads = search rules;
+      writes = search rules;
+    }
+
+-- a message ended the connection
+pub returns-in-Err-clause-ended : goal.returns-in-Err-clause-ended
+returns-in-Err-clause-ended g c = record { last = _; reading = c.loop-more.reader; served = c.loop-more.invariant.served; ends = c.in-Err.ensures.ended }

@@ -1,0 +1,112 @@
+-- Messages that were answered: from one point of a connection to a later one.
+use Rattle.std.specs.Prelude.{◌≡◌, ℕ, List, [], ◌∷◌, ◌++◌, Option, Result, map, unwrap_or, true}
+use Rattle.std.specs.Io.KnownBytes.{append_known}
+use Rattle.reg_outside.specs.Streams.{WritesFront}
+use Rattle.reg_terms.specs.declared.refusal.Refusal.{Refusal}
+use Rattle.reg_terms.specs.declared.request.Request.{Request}
+use Rattle.reg_terms.specs.declared.reply.Reply.{Reply}
+use Rattle.reg_terms.specs.declared.reply.Reply.TheVariants as reply
+use Rattle.reg_machine.specs.History.{State}
+use Rattle.reg_service.specs.Turn.{Turns, last_reply}
+use Rattle.reg_service.specs.declared.service.Cause.{Cause}
+use Rattle.reg_service.specs.declared.service.Next.{Next}
+use Rattle.reg_service.specs.declared.service.Next.TheVariants as next
+use Rattle.reg_session.specs.Answered.{Point, Gives}
+use Rattle.reg_session.specs.Replies.{IsShown}
+use Rattle.reg_http.specs.declared.call.Call.{Call}
+use Rattle.reg_calls.specs.Asked.{asked_of, closes}
+use Rattle.reg_calls.specs.Faults.{no_route, no_method, no_caller_header}
+use Rattle.reg_calls.specs.Reading.{reading_of}
+use Rattle.reg_calls.specs.Responses.{response_to}
+use Rattle.reg_calls.specs.declared.asked.Asked.{Asked}
+use Rattle.reg_calls.specs.declared.asked.Asked.TheVariants as asks
+use Rattle.reg_serve.specs.declared.ended.Ended.{Ended}
+use Rattle.reg_serve.specs.declared.ended.Ended.TheVariants as ended
+
+-- a message is refused at once, or it is read
+pub data Question : Type 0 where
+  refuses : Refusal → Question
+  reads : Result Request Refusal → Question
+
+abbrev pub question_by : Asked → Call → Question
+question_by asks.NoRoute call = refuses no_route
+question_by (asks.NoMethod r) call = refuses no_method
+question_by asks.NoCaller call = refuses no_caller_header
+question_by (asks.Routed r) call = reads (reading_of r (unwrap_or call.caller []) call)
+
+abbrev pub question_of : Call → Question
+question_of call = question_by (asked_of call) call
+
+-- a reply that may be given, the moments that were taken for it, and the state after it; a message that is refused at once
+-- takes no moment and changes nothing
+abbrev pub MayReply : State → Question → List ℕ → Reply → State → Type 0
+MayReply s (refuses r) at told after = (at ≡ []) × (after ≡ s) × IsShown (reply.Refused r) told
+MayReply s (reads reading) at told after = (m : ℕ) × (at ≡ m ∷ []) × Turns s m reading told after
+
+-- a message, the moments that were taken for it, and the reply
+pub record Answer : Type 0 where
+  pub call : Call
+  pub at : List ℕ
+  pub told : Reply
+
+-- these answers may be given one after another, and lead to this last state
+abbrev pub MayAnswer : State → List Answer → State → Type 0
+MayAnswer s [] last = last ≡ s
+MayAnswer s (a ∷ answers) last = (after : State) × MayReply s (question_of a.call) a.at a.told after × MayAnswer after answers last
+
+abbrev pub calls_of : List Answer → List Call
+calls_of answers = map (λ (a : Answer). a.call) answers
+
+-- the moments that were taken, in order
+abbrev pub times_of : List Answer → List ℕ
+times_of [] = []
+times_of (a ∷ answers) = a.at ++ times_of answers
+
+-- the responses, one behind the other
+abbrev pub responses_of : List Answer → List ℕ
+responses_of [] = []
+responses_of (a ∷ answers) = response_to (asked_of a.call) (closes a.call) a.told ++ responses_of answers
+
+-- From one point to a later one these messages were answered: each by one reply, at the clock's next moment where it takes
+-- one; and the responses were written.
+pub record Answered (before : Point) (calls : List Call) (after : Point) : Type 0 where
+  pub answers : List Answer
+  pub asked_by : calls_of answers ≡ calls
+  pub given : MayAnswer before.state answers after.state
+  pub times : Gives before.moments (times_of answers) after.moments
+  pub text : after.written ≡ append_known before.written (responses_of answers)
+
+-- what follows a question: the service goes on after a reply, or stops for a cause
+abbrev pub Answers : {K : Type 0} → (old new : Option (List ℕ)) → State → Question → Reply × Next K → Type 0
+Answers old new s q (told, next.Go after) = (at : List ℕ) × Gives old at new × MayReply s q at told after.state
+Answers old new s q (told, next.Stop why keeper) = (told ≡ last_reply why) × ((at : List ℕ) × Gives old at new)
+
+-- a message was answered, and a front of the response was written
+pub record Breaks (before : Point) (call : Call) (written moments : Option (List ℕ)) (after : State) : Type 0 where
+  pub at : List ℕ
+  pub told : Reply
+  pub times : Gives before.moments at moments
+  pub given : MayReply before.state (question_of call) at told after
+  pub front : WritesFront before.written written (response_to (asked_of call) (closes call) told)
+
+-- the service stopped at a message, and a front of the response was written, which says that the connection closes
+pub record StopsAt (before : Point) (call : Call) (written moments : Option (List ℕ)) (why : Cause) : Type 0 where
+  pub at : List ℕ
+  pub told : Reply
+  pub times : Gives before.moments at moments
+  pub shows : IsShown (last_reply why) told
+  pub front : WritesFront before.written written (response_to (asked_of call) true told)
+
+-- How a connection ends at a message: that was answered whole and closes it; or not whole, for a write that failed or for
+-- want of memory; or the service stopped.
+abbrev pub CallEnds : {K : Type 0} → Point → Call → (written moments : Option (List ℕ)) → Ended × Next K → Type 0
+CallEnds p call w ms (ended.Closed, next.Go s) = (closes call ≡ true) × Answered p (call ∷ []) (record { written = w; moments = ms; state = s.state })
+CallEnds p call w ms (ended.Failed, next.Go s) = Breaks p call w ms s.state
+CallEnds p call w ms (ended.NoMemory, next.Go s) = Breaks p call w ms s.state
+CallEnds p call w ms (ended.Stopped, next.Stop why k) = StopsAt p call w ms why
+CallEnds p call w ms (ended.Closed, next.Stop why k) = ⊥
+CallEnds p call w ms (ended.Failed, next.Stop why k) = ⊥
+CallEnds p call w ms (ended.NoMemory, next.Stop why k) = ⊥
+CallEnds p call w ms (ended.Stopped, next.Go s) = ⊥
+CallEnds p call w ms (ended.Bad, n) = ⊥
+CallEnds p call w ms (ended.TooMuch, n) = ⊥

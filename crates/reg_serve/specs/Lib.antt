@@ -1,0 +1,4 @@
+pub mod Answered
+pub mod Exact
+pub mod Sent
+pub mod Sessions

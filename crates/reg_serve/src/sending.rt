@@ -1,0 +1,82 @@
+// Responses, sent.
+ghost use Rattle.std.specs.Prelude.{◌≡◌, ◌≤◌, true, false, IfOk, IfErr};
+ghost use Rattle.std.specs.Io.KnownBytes.{append_known};
+ghost use Rattle.reg_outside.specs.Faults.{Rose};
+ghost use Rattle.reg_outside.specs.Streams.{WritesFront};
+ghost use Rattle.reg_session.specs.Replies.{is_accepted};
+ghost use Rattle.reg_serve.specs.Sent.{SendsReply, SentFault, SentFaultFront};
+
+use crate::ended::Ended;
+use reg_calls::{Asked, fault_response, no_memory, response_to};
+use reg_outside::{Connection, Failed, send_whole};
+use reg_terms::Reply;
+use std::alloc::{AllocError, Global};
+
+/// Whether a reply says that a command was accepted.
+fn is_accepted(reply: &Reply) -> bool
+    ensures { result ≡ is_accepted reply.now }
+{
+    matches!(reply, Reply::Number { .. })
+}
+
+fn send_bytes<C: Connection>(conn: &mut C, bytes: &[u8]) -> Result<(), Ended>
+    ensures sent { IfOk result (λ done. C.written conn.new ≡ append_known (C.written conn.old) bytes.now) }
+    ensures front { WritesFront (C.written conn.old) (C.written conn.new) bytes.now }
+    ensures why { IfErr result (λ e. e ≡ Ended.Failed) }
+    ensures failed { IfErr result (λ e. Rose (C.write_faults conn.old) (C.write_faults conn.new)) }
+    ensures left { C.left conn.new ≡ C.left conn.old }
+    ensures reads { C.read_faults conn.old ≤ C.read_faults conn.new }
+    ensures writes { C.write_faults conn.old ≤ C.write_faults conn.new }
+{
+    match send_whole(conn, bytes) {
+        Ok(()) => Ok(()),
+        Err(Failed) => Err(Ended::Failed),
+    }
+}
+
+/// Sends the response to a message that asked this. Where there is no memory to print the reply,
+/// that is the reply, unless a command was accepted: that can't be taken back, so nothing is sent.
+pub(crate) fn send_reply<C: Connection>(
+    alloc: Global,
+    conn: &mut C,
+    asked: &Asked,
+    close: bool,
+    reply: &Reply,
+) -> Result<(), Ended>
+    ensures sends { SendsReply asked.now close reply.now (C.written conn.old) (C.written conn.new) result }
+    ensures failed { IfErr result (λ e. e ≡ Ended.Failed → Rose (C.write_faults conn.old) (C.write_faults conn.new)) }
+    ensures left { C.left conn.new ≡ C.left conn.old }
+    ensures reads { C.read_faults conn.old ≤ C.read_faults conn.new }
+    ensures writes { C.write_faults conn.old ≤ C.write_faults conn.new }
+{
+    match response_to(alloc, asked, close, reply) {
+        Ok(text) => send_bytes(conn, &text),
+        Err(AllocError) => {
+            if is_accepted(reply) {
+                return Err(Ended::NoMemory);
+            }
+            send_bytes(conn, no_memory(close))
+        }
+    }
+}
+
+/// Sends the refusal of a head that isn't taken, or that there was no memory to print it.
+pub(crate) fn send_fault<C: Connection>(
+    alloc: Global,
+    conn: &mut C,
+    reply: &Reply,
+) -> Result<(), Ended>
+    requires { is_accepted reply.now ≡ false }
+    ensures sent { IfOk result (λ done. SentFault reply.now (C.written conn.old) (C.written conn.new)) }
+    ensures front { IfErr result (λ e. SentFaultFront reply.now (C.written conn.old) (C.written conn.new)) }
+    ensures why { IfErr result (λ e. e ≡ Ended.Failed) }
+    ensures failed { IfErr result (λ e. Rose (C.write_faults conn.old) (C.write_faults conn.new)) }
+    ensures left { C.left conn.new ≡ C.left conn.old }
+    ensures reads { C.read_faults conn.old ≤ C.read_faults conn.new }
+    ensures writes { C.write_faults conn.old ≤ C.write_faults conn.new }
+{
+    match fault_response(alloc, reply) {
+        Ok(text) => send_bytes(conn, &text),
+        Err(AllocError) => send_bytes(conn, no_memory(true)),
+    }
+}
