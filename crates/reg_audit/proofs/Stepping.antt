@@ -1,4 +1,4 @@
--- What one step more leaves.
+-- What one step more leaves of the lists: the log, lives, names, and who was a member.
 use Rattle.std.proofs.Common.{◌≡◌, ◌≤◌, ◌++◌, ℕ, List, [], ◌∷◌, Bool, true, Option, Some, None, map, flat_map, nat_le, if◌then◌else◌, arith, refl, sym, ap, ◌∙◌, inl, inr}
 use Rattle.std.proofs.lemmas.Bool.{cases_Bool}
 use Rattle.std.proofs.lemmas.Bool.Decides.{nat_tests}
@@ -6,23 +6,17 @@ use Rattle.std.proofs.lemmas.List.{append-nil, append_assoc}
 use Rattle.std.specs.List.{cons_option}
 use Rattle.reg_terms.specs.Kinds.{as_group, same_object}
 use Rattle.reg_terms.specs.declared.kinds.Object.{Object}
-use Rattle.reg_facts.specs.Consumers.{consumer_place}
 use Rattle.reg_facts.specs.Lists.{Lists}
 use Rattle.reg_effect.specs.declared.live.Live.{Live}
 use Rattle.reg_effect.specs.Member.{member}
 use Rattle.reg_effect.specs.Turned.{after_turns, turns}
-use Rattle.reg_log.specs.Places.{place_of}
-use Rattle.reg_pit.specs.Past.{was_member, NotedBy}
+use Rattle.reg_pit.specs.Past.{was_member}
 use Rattle.reg_audit.specs.Audit.{IsAudit}
-use Rattle.reg_audit.specs.Consumers.{places_after}
-use Rattle.reg_audit.specs.Kept.{life_in, name_in, named_in}
-use Rattle.reg_audit.specs.Lines.{lines_of, log_of, turn_line}
-use Rattle.reg_audit.specs.Lives.{begun, ended, life_after, life_from, first_life, life_of, gone_from, leaving, all_gone, groups_of, gone_of, last_name, gone_name, named_or, last_named, gone_named}
-use Rattle.reg_audit.specs.Notes.{StepNotes, notes_of}
-use Rattle.reg_audit.specs.Steps.{Step, FollowsOn, consumers_of, consumers_by, last_by, last_of, left_by, last_moment, live_by}
+use Rattle.reg_audit.specs.Lines.{lines_of, log_of}
+use Rattle.reg_audit.specs.Lives.{life_after, life_from, gone_from, leaving, all_gone, groups_of, last_name, named_or, last_named}
+use Rattle.reg_audit.specs.Steps.{Step, FollowsOn, last_by, last_of, left_by, last_moment, live_by}
 use Rattle.reg_audit.specs.declared.audit.Audit.{Audit}
 use Rattle.reg_audit.specs.declared.gone.Gone.{Gone}
-use Rattle.reg_audit.proofs.Consuming.{all_events}
 
 -- ---- lists over one more step
 
@@ -34,14 +28,14 @@ pub log_more : (steps : List Step) (step : Step) → log_of (steps ++ step ∷ [
 unfolding log_of
 log_more steps step = flat_more lines_of steps step
 
-gone_more : (steps : List Step) (step : Step) → all_gone (steps ++ step ∷ []) ≡ all_gone steps ++ leaving step.before step.events
+pub gone_more : (steps : List Step) (step : Step) → all_gone (steps ++ step ∷ []) ≡ all_gone steps ++ leaving step.before step.events
 gone_more steps step = flat_more (λ (s : Step). leaving s.before s.events) steps step
 
 cons_more : (o : Option ℕ) (a b c : List ℕ) → a ≡ b ++ c → cons_option o a ≡ cons_option o b ++ c
 cons_more None a b c e = e
 cons_more (Some g) a b c e = ap (λ rest. g ∷ rest) e
 
-groups_more : (xs ys : List Gone) → groups_of (xs ++ ys) ≡ groups_of xs ++ groups_of ys
+pub groups_more : (xs ys : List Gone) → groups_of (xs ++ ys) ≡ groups_of xs ++ groups_of ys
 groups_more [] ys = refl
 groups_more (x ∷ xs) ys = cons_more (as_group (Some x.object)) (groups_of (xs ++ ys)) (groups_of xs) (groups_of ys) (groups_more xs ys)
 
@@ -51,7 +45,7 @@ pub life_more : (o : Object) (steps : List Step) (step : Step) (life : Option (�
 life_more o [] step life = refl
 life_more o (s ∷ ss) step life = life_more o ss step (life_after s o life)
 
-objects_leaving : (before : Lists) (objects : List Object) → map (λ (g : Gone). g.object) (map (gone_from before) objects) ≡ objects
+pub objects_leaving : (before : Lists) (objects : List Object) → map (λ (g : Gone). g.object) (map (gone_from before) objects) ≡ objects
 objects_leaving before [] = refl
 objects_leaving before (o ∷ os) = ap (λ rest. o ∷ rest) (objects_leaving before os)
 
@@ -97,7 +91,7 @@ before_step steps step audit t g s h f w =
     let seen : last_by t steps ≡ last_of steps = all_seen t steps (omega (arith, f.later, w)) in
     h.members t g s ∙ ap (λ (o : Option Step). member (left_by o) g s) seen ∙ sym (f.members g s)
 
-member_more : (steps : List Step) (step : Step) (audit new : Audit) (turned : List (ℕ × ℕ × Bool)) (t g s : ℕ) → IsAudit steps audit → FollowsOn steps step → turned ≡ turns step.live step.live_after
+pub member_more : (steps : List Step) (step : Step) (audit new : Audit) (turned : List (ℕ × ℕ × Bool)) (t g s : ℕ) → IsAudit steps audit → FollowsOn steps step → turned ≡ turns step.live step.live_after
     → ((L N : Live) (x y : ℕ) → after_turns (turns L N) x y (member L x y) ≡ member N x y)
     → was_member new.past g s t ≡ (if nat_le step.at t then after_turns turned g s (was_member audit.past g s t) else was_member audit.past g s t)
     → was_member new.past g s t ≡ member (live_by t (steps ++ step ∷ [])) g s
@@ -110,37 +104,3 @@ member_more steps step audit new turned t g s h f e law noted = elim (cases_Bool
       let last : last_by t (steps ++ step ∷ []) ≡ last_by t steps = last_by_more t steps step ∙ rw n refl in
       noted ∙ (rw n (h.members t g s)) ∙ ap (λ (o : Option Step). member (left_by o) g s) (sym last)
 ]
-
--- ---- consumers
-
-places_more : (steps : List Step) (step : Step) (name : List ℕ) → FollowsOn steps step → places_after name (consumer_place name (consumers_by steps)) (notes_of step.at step.before step.events).consumers ≡ consumer_place name (consumers_by (steps ++ step ∷ []))
-places_more steps step name f =
-    let last : consumers_by (steps ++ step ∷ []) ≡ step.after.consumers = ap consumers_of (last_more steps step) in
-    sym (ap (consumer_place name) (last ∙ f.consumers_after) ∙ (all_events name step.events step.before ∙ ap (λ rows. places_after name (consumer_place name rows) (notes_of step.at step.before step.events).consumers) f.consumers))
-
--- ---- all of it
-
--- an audit after a step, by what was noted
-pub record Noted (notes : StepNotes) (turned : List (ℕ × ℕ × Bool)) (old new : Audit) : Type 0 where
-  pub log : new.records.log ≡ old.records.log ++ (notes.lines ++ map (turn_line notes.at) turned)
-  pub lives : (o : Object) → life_in new.records.lives o ≡ ended notes.at (map (λ (g : Gone). g.object) notes.gone) o (begun notes.at notes.made o (life_in old.records.lives o))
-  pub names : (o : Object) → name_in new.records.departed o ≡ last_name o (name_in old.records.departed o) notes.gone
-  pub named : (name : List ℕ) → named_in new.records.departed name ≡ last_named name (named_in old.records.departed name) notes.gone
-  pub groups : new.records.departed.groups.items ≡ old.records.departed.groups.items ++ groups_of notes.gone
-  pub places : (name : List ℕ) → place_of new.records.places name ≡ places_after name (place_of old.records.places name) notes.consumers
-  pub members : (g s t : ℕ) → was_member new.past g s t ≡ (if nat_le notes.at t then after_turns turned g s (was_member old.past g s t) else was_member old.past g s t)
-  pub last : NotedBy notes.at new.past
-
-pub audit_more : (old new : Audit) (turned : List (ℕ × ℕ × Bool)) (steps : List Step) (step : Step) → ((L N : Live) (x y : ℕ) → after_turns (turns L N) x y (member L x y) ≡ member N x y)
-    → IsAudit steps old → FollowsOn steps step → turned ≡ turns step.live step.live_after → Noted (notes_of step.at step.before step.events) turned old new → IsAudit (steps ++ step ∷ []) new
-unfolding life_of gone_of gone_name gone_named
-audit_more old new turned steps step law h f e n = record {
-  log = n.log ∙ rw (h.log, e) (sym (log_more steps step));
-  lives = λ o. n.lives o ∙ rw (h.lives o, objects_leaving step.before _) (sym (life_more o steps step (first_life o)));
-  gone = n.groups ∙ rw h.gone (sym (ap groups_of (gone_more steps step) ∙ groups_more (all_gone steps) (leaving step.before step.events)));
-  names = λ o. n.names o ∙ rw (h.names o) (sym (ap (λ xs. last_name o None xs) (gone_more steps step) ∙ name_more o (all_gone steps) (leaving step.before step.events) None));
-  named = λ name. n.named name ∙ rw (h.named name) (sym (ap (λ xs. last_named name None xs) (gone_more steps step) ∙ named_more name (all_gone steps) (leaving step.before step.events) None));
-  places = λ name. n.places name ∙ rw (h.places name) (places_more steps step name f);
-  members = λ t g s. member_more steps step old new turned t g s h f e law (n.members g s t);
-  noted = rw (last_more steps step) n.last;
-}

@@ -4,7 +4,7 @@ use Rattle.std.specs.Option.{option_or}
 use Rattle.reg_terms.specs.declared.event.Event.{Event}
 use Rattle.reg_terms.specs.declared.rows.ConsumerRow.{ConsumerRow}
 use Rattle.reg_facts.specs.Events.{all_happened}
-use Rattle.reg_facts.specs.Lists.{Lists}
+use Rattle.reg_facts.specs.Lists.{Lists, start}
 use Rattle.reg_effect.specs.declared.live.Live.{Live}
 use Rattle.reg_effect.specs.Changes.{nothing}
 use Rattle.reg_effect.specs.Member.{member}
@@ -38,10 +38,10 @@ abbrev pub left_by : Option Step → Live
 left_by None = nothing
 left_by (Some step) = step.live_after
 
--- the consumers that a step leaves
-abbrev pub consumers_of : Option Step → List ConsumerRow
-consumers_of None = []
-consumers_of (Some step) = step.after.consumers
+-- the facts that a step leaves: without a step there is the root folder alone
+abbrev pub facts_of : Option Step → Lists
+facts_of None = start
+facts_of (Some step) = step.after
 
 -- the moment of the last step
 abbrev pub last_moment : List Step → ℕ
@@ -55,14 +55,22 @@ last_live steps = left_by (last_of steps)
 abbrev pub live_by : ℕ → List Step → Live
 live_by t steps = left_by (last_by t steps)
 
+-- the facts after the last step
+abbrev pub last_facts : List Step → Lists
+last_facts steps = facts_of (last_of steps)
+
+-- the facts after the last step up to t
+abbrev pub facts_by : ℕ → List Step → Lists
+facts_by t steps = facts_of (last_by t steps)
+
 -- the consumers after the last step
 abbrev pub consumers_by : List Step → List ConsumerRow
-consumers_by steps = consumers_of (last_of steps)
+consumers_by steps = (last_facts steps).consumers
 
--- a step comes after others: it isn't earlier, it begins with the memberships and the consumers with which the last one ended,
--- and its events alone change the consumers
+-- a step comes after others: it isn't earlier, it begins with the memberships and the facts with which the last one ended, and
+-- its events alone change the consumers
 pub record FollowsOn (steps : List Step) (step : Step) : Type 0 where
   pub later : last_moment steps ≤ step.at
   pub members : (g s : ℕ) → member step.live g s ≡ member (last_live steps) g s
-  pub consumers : step.before.consumers ≡ consumers_by steps
+  pub before : step.before ≡ last_facts steps
   pub consumers_after : step.after.consumers ≡ (all_happened step.events step.before).consumers

@@ -2,26 +2,35 @@
 ghost use Rattle.std.specs.Prelude.{◌≡◌, ◌++◌, ◌∷◌, [], ℕ, List, IfOk};
 ghost use Rattle.std.specs.Option.{option_copied};
 ghost use Rattle.reg_effect.specs.Member.{member};
+ghost use Rattle.reg_base.specs.declared.privilege.Privilege.{Privilege};
 ghost use Rattle.reg_effect.specs.Turned.{turns};
 ghost use Rattle.reg_facts.specs.Consumers.{consumer_place};
 ghost use Rattle.reg_log.specs.Places.{place_of};
-ghost use Rattle.reg_pit.specs.Past.{was_member, NotedBy};
+ghost use Rattle.reg_pit.specs.Grants.{has_grant};
+ghost use Rattle.reg_pit.specs.Past.{was_member, was_granted, wheel_at, NotedBy};
+ghost use Rattle.reg_priv.specs.Grants.{grants};
+ghost use Rattle.reg_priv.specs.May.{wheel};
+ghost use Rattle.reg_terms.specs.declared.kinds.Holder.{Holder};
+ghost use Rattle.reg_terms.specs.declared.kinds.Object.{Object};
 ghost use Rattle.reg_audit.specs.Lines.{log_of};
 ghost use Rattle.reg_audit.specs.Lives.{life_of, gone_of, gone_name, gone_named};
 ghost use Rattle.reg_audit.specs.Notes.{notes_of};
-ghost use Rattle.reg_audit.specs.Steps.{Step, FollowsOn, consumers_by, live_by, last_moment};
+ghost use Rattle.reg_audit.specs.Steps.{Step, FollowsOn, consumers_by, facts_by, live_by, last_moment};
+ghost use Rattle.reg_audit.specs.Touched.{KnowsTouched};
 
 use crate::Notes;
-use crate::noting::note_turns;
+use crate::noting::note_past;
 use crate::records::Records;
 use reg_base::{GroupId, Moment, SubjectId, Text};
+use reg_facts::Facts;
 use reg_log::{ChangeLog, Places};
 use reg_pit::Past;
 use reg_terms::Object;
 use std::alloc::{AllocError, Global};
 
 /// What the steps of a registry leave for later: the change log, the past of effective memberships,
-/// when objects were made and went, the last names of what is gone, and the places of consumers.
+/// of grants and of the wheel group, when objects were made and went, the last names of what is
+/// gone, and the places of consumers.
 #[derive(Drop)]
 pub struct Audit {
     records: Records,
@@ -41,21 +50,24 @@ impl Audit {
         }
     }
 
-    /// One step more, by what it changes itself and the memberships that it turns. Out of memory all
-    /// is given up.
+    /// One step more, by what it changes itself, the memberships that it turns, the facts after it,
+    /// and the objects whose grants it may change. Of each of these it costs what was ever noted of
+    /// it and what holds on it. Out of memory all is given up.
     pub fn note(
         self,
         alloc: Global,
         notes: Notes,
         turned: &[(GroupId, SubjectId, bool)],
+        facts: &Facts,
+        touched: &[Object],
     ) -> Result<Audit, AllocError>
         requires { NotedBy notes.at self.past }
-        ensures { IfOk result (λ audit. (steps : List Step) (step : Step) → IsAudit steps self → FollowsOn steps step → notes ≡ notes_of step.at step.before step.events → turned.now ≡ turns step.live step.live_after → IsAudit (steps ++ step ∷ []) audit) }
+        ensures { IfOk result (λ audit. (steps : List Step) (step : Step) → IsAudit steps self → FollowsOn steps step → notes ≡ notes_of step.at step.before step.events → turned.now ≡ turns step.live step.live_after → facts.now ≡ step.after → KnowsTouched step.before step.after touched.now → IsAudit (steps ++ step ∷ []) audit) }
     {
         reg_effect::law_turns();
         let Audit { mut records, past } = self;
         records.note(alloc, &notes, turned)?;
-        let past = note_turns(past, turned, notes.at)?;
+        let past = note_past(alloc, past, turned, facts, touched, notes.at)?;
         Ok(Audit { records, past })
     }
 
@@ -80,9 +92,12 @@ impl Audit {
         &self.records.places
     }
 
-    /// Who was an effective member at each moment. Takes no memory.
+    /// Who was an effective member at each moment, who held which privilege on what, and which was
+    /// the wheel group. Takes no memory.
     pub fn past(&self) -> &Past
         ensures members { (steps : List Step) → IsAudit steps self.now → (t g s : ℕ) → was_member result.now g s t ≡ member (live_by t steps) g s }
+        ensures granted { (steps : List Step) → IsAudit steps self.now → (t : ℕ) (o : Object) (p : Privilege) (h : Holder) → was_granted result.now o p h t ≡ has_grant (grants o (facts_by t steps)) p h }
+        ensures wheel { (steps : List Step) → IsAudit steps self.now → (t : ℕ) → wheel_at result.now t ≡ wheel (facts_by t steps) }
         ensures noted { (steps : List Step) → IsAudit steps self.now → NotedBy (last_moment steps) result.now }
     {
         &self.past

@@ -1,17 +1,19 @@
 //! What the steps of a registry leave for later: the change log, the past of effective memberships,
-//! when objects were made and went, the last names of what is gone, and the places of consumers. An
-//! accepted command or a date that comes is a step.
+//! of grants and of the wheel group, when objects were made and went, the last names of what is
+//! gone, and the places of consumers. An accepted command or a date that comes is a step.
 #![tactic(auto)]
 
 mod audit;
 mod consumers;
 mod departed;
 mod gone;
+mod grants;
 mod lines;
 mod lives;
 mod notes;
 mod noting;
 mod records;
+mod wheel;
 
 pub use audit::Audit;
 pub use consumers::ConsumerNote;

@@ -69,13 +69,13 @@ pub log_formed : (consumer : List ℕ) (max : ℕ) → is_extension consumer ≡
 unfolding query_has_form
 log_formed consumer max h k = rw (h, k) refl
 
-pub grants_formed : (object : List ℕ) → is_object_text object ≡ true → query_has_form (Grants object) ≡ true
+pub grants_formed : (object : List ℕ) (at : Option ℕ) → is_object_text object ≡ true → is_optional_moment at ≡ true → query_has_form (Grants object at) ≡ true
 unfolding query_has_form
-grants_formed object h = rw h refl
+grants_formed object at h k = rw (h, k) refl
 
-pub may_formed : (object : List ℕ) (entity : Entity) → is_object_text object ≡ true → is_entity entity ≡ true → query_has_form (May object entity) ≡ true
+pub may_formed : (object : List ℕ) (entity : Entity) (at : Option ℕ) → is_object_text object ≡ true → is_entity entity ≡ true → is_optional_moment at ≡ true → query_has_form (May object entity at) ≡ true
 unfolding query_has_form
-may_formed object entity h k = rw (h, k) refl
+may_formed object entity at h k l = rw (h, k, l) refl
 
 -- a moment is at most the greatest
 pub moment_formed : (m : ℕ) → m ≤ 253402300799999999 → is_optional_moment (Some m) ≡ true

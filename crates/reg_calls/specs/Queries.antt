@@ -10,11 +10,6 @@ use Rattle.reg_http.specs.declared.route.Route.TheVariants as route
 use Rattle.reg_json.specs.Steps.{◌>>=◌}
 use Rattle.reg_json.specs.Fields.{name_from, folder_from, extension_from, object_from, entity_from, moment_from}
 
--- a moment, where the query takes none yet
-abbrev pub not_yet : Option (List ℕ) → Result Bool Refusal
-not_yet None = Ok true
-not_yet (Some at) = Err (BadRequest (codes "at"))
-
 -- a number that is in its range
 abbrev pub ensured_number : Bool → List ℕ → ℕ → Result ℕ Refusal
 ensured_number true field n = Ok n
@@ -52,14 +47,14 @@ query_by route.Groups p = do
   at ← moment_from (codes "at") p.at
   Ok (query.Groups subject at)
 query_by route.Grants p = do
-  none ← not_yet p.at
   object ← object_from (codes "object") p.path
-  Ok (query.Grants object)
+  at ← moment_from (codes "at") p.at
+  Ok (query.Grants object at)
 query_by route.Privileges p = do
-  none ← not_yet p.at
   object ← object_from (codes "object") p.path
   entity ← entity_from (codes "entity") (entity_text p)
-  Ok (query.May object entity)
+  at ← moment_from (codes "at") p.at
+  Ok (query.May object entity at)
 query_by route.Log p = do
   consumer ← extension_from (codes "consumer") p.path
   max ← number_from (codes "max") p.max

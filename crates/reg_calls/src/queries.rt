@@ -7,7 +7,7 @@ ghost use Rattle.reg_terms.specs.declared.refusal.Refusal.TheVariants as refusal
 ghost use Rattle.reg_terms.specs.Forms.{is_entity, is_folder_text, is_object_text, is_optional_moment, query_has_form};
 ghost use Rattle.reg_http.specs.declared.route.Route.TheVariants as route;
 ghost use Rattle.reg_calls.specs.Unread.{Gives};
-ghost use Rattle.reg_calls.specs.Queries.{query_by, entity_text, not_yet, number_from};
+ghost use Rattle.reg_calls.specs.Queries.{query_by, entity_text, number_from};
 
 use crate::unread::{Unread, bad, bad_moment, bad_name};
 use reg_base::{Entity, Moment, Name, Text, is_extension};
@@ -127,16 +127,6 @@ fn number_from(alloc: Global, field: &str, number: Option<u64>) -> Result<u64, U
     }
 }
 
-/// Refuses a moment, where the query takes none yet.
-fn not_yet(alloc: Global, at: &Option<Text>) -> Result<bool, Unread>
-    ensures { Gives result (not_yet at.now) }
-{
-    match at {
-        None => Ok(true),
-        Some(_) => Err(bad(alloc, "at")),
-    }
-}
-
 /// The bytes of the entity that is asked for; none where it is missing.
 fn entity_text(parameters: &Parameters) -> &[u8]
     ensures { result.now ≡ entity_text parameters.now }
@@ -218,9 +208,9 @@ fn grants(alloc: Global, parameters: &Parameters) -> Result<Query, Unread>
     ensures read { Gives result (query_by route.Grants parameters.now) }
     ensures form { IfOk result (λ query. query_has_form query ≡ true) }
 {
-    not_yet(alloc, &parameters.at)?;
     let object = object_from(alloc, "object", &parameters.path)?;
-    Ok(Query::Grants { object })
+    let at = moment_from(alloc, "at", &parameters.at)?;
+    Ok(Query::Grants { object, at })
 }
 
 #[tactic(auto, using(crate::proofs::Formed::may_formed))]
@@ -228,10 +218,10 @@ fn may(alloc: Global, parameters: &Parameters) -> Result<Query, Unread>
     ensures read { Gives result (query_by route.Privileges parameters.now) }
     ensures form { IfOk result (λ query. query_has_form query ≡ true) }
 {
-    not_yet(alloc, &parameters.at)?;
     let object = object_from(alloc, "object", &parameters.path)?;
     let entity = entity_from(alloc, "entity", entity_text(parameters))?;
-    Ok(Query::May { object, entity })
+    let at = moment_from(alloc, "at", &parameters.at)?;
+    Ok(Query::May { object, entity, at })
 }
 
 /// The query that a route asks. BadRequest comes before BadName.

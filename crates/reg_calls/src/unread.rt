@@ -7,7 +7,7 @@ use reg_terms::Refusal;
 use std::alloc::{AllocError, Global};
 
 /// Why what a message asks wasn't read.
-#[derive(Debug, Drop)]
+#[derive(Drop)]
 pub(crate) enum Unread {
     /// There was no memory.
     Memory,

@@ -6,7 +6,7 @@ use reg_terms::Refusal;
 use std::alloc::{AllocError, Global};
 
 /// Why a request wasn't read.
-#[derive(Debug, Drop)]
+#[derive(Drop)]
 pub enum ReadFault {
     /// There was no memory.
     Memory,

@@ -1,6 +1,6 @@
 -- Who was a member of a group at a moment up to the clock is a person that stands.
-use Rattle.std.proofs.Common.{◌≡◌, ◌≤◌, ◌<◌, ◌==◌, ◌&&◌, ◌||◌, ℕ, zero, suc, List, [], ◌∷◌, ◌++◌, Bool, true, false, not, Option, None, Some, nat_le, if◌then◌else◌, arith, refl, sym, ◌∙◌, ap, subst, inl, inr, eqb-true, eq-eqb}
-use Rattle.std.proofs.lemmas.Bool.{cases_Bool, and_parts, or_cases, or_from, or_left, or_right}
+use Rattle.std.proofs.Common.{◌≡◌, ◌≤◌, ◌<◌, ◌==◌, ◌&&◌, ℕ, zero, suc, List, [], ◌∷◌, ◌++◌, Bool, true, false, None, Some, nat_le, arith, refl, sym, ◌∙◌, subst, inl, inr, eqb-true, eq-eqb}
+use Rattle.std.proofs.lemmas.Bool.{cases_Bool, and_parts, or_cases, or_left, or_right}
 use Rattle.std.proofs.lemmas.Bool.Decides.{nat_tests}
 use Rattle.std.specs.List.{list_any, AllByRecursion}
 use Rattle.reg_base.specs.declared.entity.Entity.{Entity}
@@ -17,18 +17,17 @@ use Rattle.reg_terms.specs.declared.rows.MemberRow.{MemberRow}
 use Rattle.reg_terms.specs.declared.rows.SubjectRow.{SubjectRow}
 use Rattle.reg_terms.specs.Kinds.{same_member}
 use Rattle.reg_facts.specs.Edits.{is_composite, is_row}
-use Rattle.reg_facts.specs.Events.{all_happened, edit, events_of, happened}
+use Rattle.reg_facts.specs.Events.{all_happened, events_of, happened}
 use Rattle.reg_facts.specs.Lists.{Lists}
 use Rattle.reg_facts.specs.Sound.{has_subject, IsKnown, IsSound}
 use Rattle.reg_effect.specs.declared.live.Live.{Live}
-use Rattle.reg_effect.specs.Member.{combine, gives, in_rows, in_factors, level, member_in, member, entries}
+use Rattle.reg_effect.specs.Member.{combine, gives, in_rows, in_factors, member_in, member, entries}
 use Rattle.reg_effect.specs.Order.{has_live_row}
 use Rattle.reg_machine.specs.Dates.{due, is_on, pass}
 use Rattle.reg_machine.specs.History.{facts}
 use Rattle.reg_machine.specs.Invariant.{IsBy, IsOpen}
 use Rattle.reg_machine.specs.Live.{live}
 use Rattle.reg_machine.specs.Past.{AreKnown, was_member}
-use Rattle.reg_machine.proofs.Due.{due_some}
 use Rattle.reg_machine.proofs.Lived.{facts_earlier, none_before, none_within, still}
 use Rattle.reg_machine.proofs.Moments.{date_comes, facts_push, none_comes}
 use Rattle.reg_machine.proofs.Windows.{on_later}

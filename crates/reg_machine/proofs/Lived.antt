@@ -1,5 +1,5 @@
 -- At each moment up to the clock the memberships are those after the last step up to it.
-use Rattle.std.proofs.Common.{◌≡◌, ◌≤◌, ◌<◌, ℕ, List, [], ◌∷◌, ◌++◌, Bool, true, false, Option, None, Some, nat_le, filter, if◌then◌else◌, arith, refl, sym, ◌∙◌, ap, subst, inl, inr}
+use Rattle.std.proofs.Common.{◌≡◌, ◌≤◌, ◌<◌, ℕ, List, [], ◌∷◌, ◌++◌, Bool, true, false, Option, None, Some, nat_le, if◌then◌else◌, arith, refl, sym, ◌∙◌, ap, inl, inr}
 use Rattle.std.proofs.lemmas.Bool.{cases_Bool, le-leb}
 use Rattle.std.proofs.lemmas.Bool.Decides.{nat_tests}
 use Rattle.std.proofs.lemmas.List.{append-nil}
@@ -14,9 +14,9 @@ use Rattle.reg_facts.proofs.Places.{all_push, cases_option}
 use Rattle.reg_effect.specs.declared.live.Live.{Live}
 use Rattle.reg_effect.specs.Member.{member}
 use Rattle.std.specs.Option.{option_or}
-use Rattle.reg_audit.specs.Steps.{Step, last_by, last_of, last_moment, consumers_of, left_by, live_by}
-use Rattle.reg_machine.specs.Dates.{date_passed, due, pass}
-use Rattle.reg_machine.specs.History.{acted, facts, facts_after, up_to}
+use Rattle.reg_audit.specs.Steps.{Step, last_by, last_of, last_facts, last_moment, facts_of, facts_by, left_by, live_by}
+use Rattle.reg_machine.specs.Dates.{due, pass}
+use Rattle.reg_machine.specs.History.{facts, facts_after, up_to}
 use Rattle.reg_machine.specs.Invariant.{IsBy, IsFrom}
 use Rattle.reg_machine.specs.Live.{live}
 use Rattle.reg_machine.specs.Past.{IsStepBy, AreLived, command_step, date_step, steps, was_member}
@@ -42,6 +42,12 @@ live_push t ss x = ap left_by (last_push t ss x) ∙ elim (cases_Bool (nat_le x.
   | inr n ↦ rw n refl
 ]
 
+facts_more : (t : ℕ) (ss : List Step) (x : Step) → facts_by t (ss ++ x ∷ []) ≡ (if nat_le x.at t then x.after else facts_by t ss)
+facts_more t ss x = ap facts_of (last_push t ss x) ∙ elim (cases_Bool (nat_le x.at t)) [
+  | inl y ↦ rw y refl
+  | inr n ↦ rw n refl
+]
+
 -- from the last step on it stays
 last_late : (t u : ℕ) (ss : List Step) → t ≤ u → AllByRecursion (IsStepBy t) ss → last_by u ss ≡ last_by t ss
 last_late t u [] w h = refl
@@ -56,10 +62,6 @@ live_late t u ss w h = ap left_by (last_late t u ss w h)
 pub last_is : (t : ℕ) (ss : List Step) → AllByRecursion (IsStepBy t) ss → last_by t ss ≡ last_of ss
 last_is t [] h = refl
 last_is t (s ∷ ss) h = let first = h.0 in rw (le-leb s.at t first, last_is t ss h.1) refl
-
-last_more : (ss : List Step) (x : Step) → last_of (ss ++ x ∷ []) ≡ Some x
-last_more [] x = refl
-last_more (s ∷ ss) x = rw (last_more ss x) refl
 
 -- it is one of them
 pub last_moment_by : (t : ℕ) (ss : List Step) → AllByRecursion (IsStepBy t) ss → last_moment ss ≤ t
@@ -113,6 +115,14 @@ lived_on history t v g s by h later none =
     ap (λ (L : Live). member L g s) (live_late t v (steps history t) later h.by)
     ∙ (h.lived t g s (omega arith) ∙ ap (λ (L : Live). member L g s) (sym (still history t v by later none)))
 
+-- and so are the facts
+left_on : (history : List Stamped) (t v : ℕ) → AllByRecursion (IsBy t) history → AreLived history t → t ≤ v → due t v (facts history t).rows ≡ None → facts_by v (steps history t) ≡ facts history v
+left_on history t v by h later none = ap facts_of (last_late t v (steps history t) later h.by) ∙ (h.left t (omega arith) ∙ sym (none_comes t v history by later none))
+
+-- the facts after the last step are those at the clock
+pub last_left : (history : List Stamped) (clock : ℕ) → AreLived history clock → last_facts (steps history clock) ≡ facts history clock
+last_left history clock h = ap facts_of (sym (last_is clock (steps history clock) h.by)) ∙ h.left clock (omega arith)
+
 pub lived_later : (history : List Stamped) (t u : ℕ) → AllByRecursion (IsBy t) history → AreLived history t → t ≤ u → due t u (facts history t).rows ≡ None → AreLived history u
 lived_later history t u by h w none =
     let same = steps_none t u history by w none in
@@ -122,7 +132,10 @@ lived_later history t u by h w none =
         | inl y ↦ h.lived v g s (grind (arith, nat_tests, y))
         | inr n ↦ lived_on history t v g s by h (grind (arith, nat_tests, n)) (none_within t u v (facts history t) none x)
       ]);
-      consumers = rw (same, none_comes t u history by w none) h.consumers;
+      left = λ v x. rw same (elim (cases_Bool (nat_le v t)) [
+        | inl y ↦ h.left v (grind (arith, nat_tests, y))
+        | inr n ↦ left_on history t v by h (grind (arith, nat_tests, n)) (none_within t u v (facts history t) none x)
+      ]);
     }
 
 -- ---- the next date
@@ -145,7 +158,17 @@ lived_next history t d by h first =
               | inr m ↦ lived_on history t v g s by h (grind (arith, nat_tests, m)) (none_before t d v (facts history t) first less)
             ])
       ]);
-      consumers = rw more (ap consumers_of (last_more (steps history t) step)) ∙ ap (λ (f : Lists). f.consumers) (sym (next_comes t d d history by first));
+      left = λ v x. rw (more, facts_more v (steps history t) step) (elim (cases_Bool (nat_le d v)) [
+        | inl y ↦
+            let same : v ≡ d = grind (arith, nat_tests, y, x) in
+            rw (y, same) (sym (next_comes t d d history by first))
+        | inr n ↦
+            let less : v < d = grind (arith, nat_tests, n) in
+            rw n (elim (cases_Bool (nat_le v t)) [
+              | inl y ↦ h.left v (grind (arith, nat_tests, y))
+              | inr m ↦ left_on history t v by h (grind (arith, nat_tests, m)) (none_before t d v (facts history t) first less)
+            ])
+      ]);
     }
 
 -- ---- a command more
@@ -164,7 +187,14 @@ lived_push history at by command are h =
             let less : v < at = grind (arith, nat_tests, n) in
             rw n (h.lived v g s (omega (arith, less)) ∙ ap (λ (f : Lists). member (live v f) g s) (sym (facts_earlier history at v by command less)))
       ]);
-      consumers = rw more (ap consumers_of (last_more (steps history at) step)) ∙ ap (λ (f : Lists). f.consumers) (sym (facts_push at by command history are));
+      left = λ v x. rw (more, facts_more v (steps history at) step) (elim (cases_Bool (nat_le at v)) [
+        | inl y ↦
+            let same : v ≡ at = grind (arith, nat_tests, y, x) in
+            rw (y, same) (sym (facts_push at by command history are))
+        | inr n ↦
+            let less : v < at = grind (arith, nat_tests, n) in
+            rw n (h.left v (omega (arith, less)) ∙ sym (facts_earlier history at v by command less))
+      ]);
     }
 
 -- ---- nothing yet
@@ -174,5 +204,5 @@ unfolding facts pass
 lived_start = record {
   by = rw no_steps tt;
   lived = λ t g s w. rw no_steps refl;
-  consumers = rw no_steps refl;
+  left = λ t w. rw no_steps refl;
 }

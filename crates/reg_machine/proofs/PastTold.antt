@@ -29,7 +29,7 @@ use Rattle.reg_log.specs.declared.consumers.Places.{Places}
 use Rattle.reg_machine.specs.History.{State, facts}
 use Rattle.reg_machine.specs.Past.{all_spans, gone, gone_named, gone_names, last_named, life, log, named_groups, spans, steps, was_member}
 use Rattle.reg_machine.specs.Recording.{IsRecorded, Recording}
-use Rattle.reg_machine.proofs.Lived.{last_moment_by}
+use Rattle.reg_machine.proofs.Lived.{last_left, last_moment_by}
 
 -- ---- the last group of a name, found from the front and from the back
 
@@ -63,7 +63,7 @@ module _ (history : List Stamped) (r : Recording) (s : State) (h : IsRecorded hi
   log_told lines told = subst (λ (x : State). lines ≡ log x.history x.clock) is (told (steps history r.now.clock) h.audit)
 
   pub places_told : (places : Places) → ((ss : List Step) → IsAudit ss r.audit → (name : List ℕ) → place_of places name ≡ consumer_place name (consumers_by ss)) → (name : List ℕ) → place_of places name ≡ consumer_place name (facts s.history s.clock).consumers
-  places_told places told name = subst (λ (x : State). place_of places name ≡ consumer_place name (facts x.history x.clock).consumers) is (told (steps history r.now.clock) h.audit name ∙ ap (consumer_place name) h.lived.consumers)
+  places_told places told name = subst (λ (x : State). place_of places name ≡ consumer_place name (facts x.history x.clock).consumers) is (told (steps history r.now.clock) h.audit name ∙ ap (λ (f : Lists). consumer_place name f.consumers) (last_left history r.now.clock h.lived))
 
   pub life_told : (o : Object) (found : Option (ℕ × Option ℕ)) → ((ss : List Step) → IsAudit ss r.audit → found ≡ life_of o ss) → found ≡ life s.history s.clock o
   unfolding life
@@ -107,6 +107,9 @@ module _ (history : List Stamped) (r : Recording) (s : State) (h : IsRecorded hi
       pub spans_told : (g x : ℕ) (found : List (ℕ × Option ℕ)) → ((test : ℕ → Bool) (now : ℕ) → NotedBy now kept → ((t : ℕ) → t ≤ now → past.was_member kept g x t ≡ test t) → found ≡ spans_until test now) → found ≡ spans s.history s.clock g x
       unfolding spans
       spans_told g x found until = subst (λ (y : State). found ≡ spans y.history y.clock g x) is (until (λ t. was_member history t g x) r.now.clock noted (λ t w. was t g x w))
+
+      pub member_spans_told : (g x : ℕ) → ((test : ℕ → Bool) (now y z : ℕ) → NotedBy now kept → ((t : ℕ) → t ≤ now → past.was_member kept y z t ≡ test t) → member_spans kept y z ≡ spans_until test now) → member_spans kept g x ≡ spans s.history s.clock g x
+      member_spans_told g x until = spans_told g x (member_spans kept g x) (λ test now by are. until test now g x by are)
 
       module _ (g : ℕ) (until : (test : ℕ → Bool) (now y x : ℕ) → NotedBy now kept → ((t : ℕ) → t ≤ now → past.was_member kept y x t ≡ test t) → member_spans kept y x ≡ spans_until test now) where
         one_spans : (x : ℕ) → member_spans kept g x ≡ spans history r.now.clock g x

@@ -10,24 +10,27 @@ use Rattle.reg_facts.specs.Events.{all_happened, events_of, happened}
 use Rattle.reg_facts.specs.Lists as the_facts
 use Rattle.reg_facts.specs.Lists.{Lists}
 use Rattle.reg_facts.specs.Sound.{IsSound}
+use Rattle.reg_facts.proofs.Sounding.{start_sound}
 use Rattle.reg_effect.specs.declared.live.Live.{Live}
 use Rattle.reg_effect.specs.Member.{member}
 use Rattle.reg_audit.specs.Audit.{IsAudit}
-use Rattle.reg_audit.specs.Steps.{Step, FollowsOn, last_moment, left_by}
-use Rattle.reg_audit.specs.declared.audit.Audit.{Audit}
+use Rattle.reg_audit.specs.Steps.{Step, FollowsOn, left_by}
 use Rattle.reg_machine.specs.Dates.{due, ending, pair_gone, without_ended}
 use Rattle.reg_machine.specs.History.{facts}
+use Rattle.reg_machine.specs.Holding.{AllHold}
 use Rattle.reg_machine.specs.Invariant.{IsInStep, IsOpen, Now}
 use Rattle.reg_machine.specs.Live.{live}
 use Rattle.reg_machine.specs.Past.{AreKnown, AreLived, command_step, date_step, steps}
 use Rattle.reg_machine.specs.Recording.{IsRecorded, Recording, Records, carried_step}
 use Rattle.reg_machine.specs.Refusals.{refusal}
+use Rattle.reg_machine.specs.Standing.{AreStood}
 use Rattle.reg_machine.proofs.Due.{due_some}
 use Rattle.reg_machine.proofs.InStep.{command_in_step, later_in_step, next_in_step}
 use Rattle.reg_machine.proofs.KnownPersons.{known_later, known_next, known_push, known_start}
-use Rattle.reg_machine.proofs.Lived.{last_is, last_moment_by, lived_later, lived_next, lived_push, lived_start}
+use Rattle.reg_machine.proofs.Lived.{last_is, last_left, last_moment_by, lived_later, lived_next, lived_push, lived_start}
 use Rattle.reg_machine.proofs.StepByStep.{no_steps, steps_next, steps_none, steps_push}
 use Rattle.reg_machine.proofs.Starting.{start_in_step}
+use Rattle.reg_machine.proofs.Stood.{stood_later, stood_next, stood_push, stood_start}
 
 -- rows that go change no consumer
 rows_keep : (rows : List (ℕ × Member)) (f : Lists) → (all_happened (map pair_gone rows) f).consumers ≡ f.consumers
@@ -41,7 +44,7 @@ follows history clock step h later is from after =
     record {
       later = omega (arith, moment, later);
       members = λ g s. ap (λ (L : Live). member L g s) is ∙ (sym (h.lived clock g s (omega arith)) ∙ ap (λ o. member (left_by o) g s) (last_is clock (steps history clock) h.by));
-      consumers = ap (λ (f : Lists). f.consumers) from ∙ sym h.consumers;
+      before = from ∙ sym (last_left history clock h);
       consumers_after = after;
     }
 
@@ -67,6 +70,19 @@ known_more history by c r new h clock stands opens sound =
     let here : new.now.facts ≡ facts (history ++ (record { at = r.now.clock; by = by; command = c }) ∷ []) r.now.clock = stands.facts ∙ ap (facts (history ++ (record { at = r.now.clock; by = by; command = c }) ∷ [])) clock in
     rw clock (known_push history r.now.clock by c h.in_step.by (rw clock at stands.by) h.known (rw (clock, here) at opens) (rw here at sound))
 
+stood_then : (history : List Stamped) (d : ℕ) (r new : Recording) → IsRecorded history r → new.now ≡ record { clock = d; facts = without_ended d r.now.facts } → due r.now.clock d (facts history r.now.clock).rows ≡ Some d → IsInStep history new.now → IsSound new.now.facts → AreStood history new.now.clock
+stood_then history d r new h is there stands sound =
+    let clock : new.now.clock ≡ d = ap (λ (n : Now). n.clock) is in
+    let here : new.now.facts ≡ facts history d = stands.facts ∙ ap (facts history) clock in
+    rw clock (stood_next history r.now.clock d h.in_step.by h.stood there (rw here at sound))
+
+stood_more : (history : List Stamped) (by : Entity) (c : Command) (r new : Recording) (es : List Event) → IsRecorded history r → new.now.clock ≡ r.now.clock → IsInStep (history ++ (record { at = r.now.clock; by = by; command = c }) ∷ []) new.now
+    → es ≡ events_of r.now.clock by c r.now.facts → AllHold r.now.clock es r.now.facts → IsSound new.now.facts → AreStood (history ++ (record { at = r.now.clock; by = by; command = c }) ∷ []) new.now.clock
+stood_more history by c r new es h clock stands are hold sound =
+    let here : new.now.facts ≡ facts (history ++ (record { at = r.now.clock; by = by; command = c }) ∷ []) r.now.clock = stands.facts ∙ ap (facts (history ++ (record { at = r.now.clock; by = by; command = c }) ∷ [])) clock in
+    let held = subst (λ (f : Lists). AllHold r.now.clock (events_of r.now.clock by c f) f) h.in_step.facts (subst (λ (xs : List Event). AllHold r.now.clock xs r.now.facts) are hold) in
+    rw clock (stood_push history r.now.clock by c h.in_step.by h.stood held (rw here at sound))
+
 -- a date that comes next
 pub next_recorded : (history : List Stamped) (d : ℕ) (r new : Recording) → IsRecorded history r → due r.now.clock d r.now.facts.rows ≡ Some d → new.now ≡ record { clock = d; facts = without_ended d r.now.facts } → Records r.audit new.audit (date_step r.now.clock d r.now.facts)
     → AllByRecursion (IsOpen new.now.clock) new.now.facts.rows → IsSound new.now.facts → IsRecorded history new
@@ -81,6 +97,7 @@ next_recorded history d r new h first is records opens sound =
       audit = rw is (subst (λ ss. IsAudit ss new.audit) are more);
       lived = rw is (lived_next history r.now.clock d h.in_step.by h.lived there);
       known = known_then history d r new h is there stands opens sound;
+      stood = stood_then history d r new h is there stands sound;
     }
 
 -- a clock up to which no date comes
@@ -92,12 +109,13 @@ later_recorded history u r new h later none is same =
       audit = rw (is, same) (subst (λ ss. IsAudit ss r.audit) (sym (steps_none r.now.clock u history h.in_step.by later there)) h.audit);
       lived = rw is (lived_later history r.now.clock u h.in_step.by h.lived later there);
       known = rw is (known_later history r.now.clock u h.in_step.by h.known later there);
+      stood = rw is (stood_later history r.now.clock u h.in_step.by h.stood later there);
     }
 
 -- a command more
-pub command_recorded : (history : List Stamped) (by : Entity) (c : Command) (r new : Recording) (es : List Event) → IsRecorded history r → refusal history r.now.clock by c ≡ None → es ≡ events_of r.now.clock by c r.now.facts → new.now ≡ record { clock = r.now.clock; facts = all_happened es r.now.facts } → Records r.audit new.audit (carried_step r.now es)
+pub command_recorded : (history : List Stamped) (by : Entity) (c : Command) (r new : Recording) (es : List Event) → IsRecorded history r → refusal history r.now.clock by c ≡ None → es ≡ events_of r.now.clock by c r.now.facts → AllHold r.now.clock es r.now.facts → new.now ≡ record { clock = r.now.clock; facts = all_happened es r.now.facts } → Records r.audit new.audit (carried_step r.now es)
     → AllByRecursion (IsOpen new.now.clock) new.now.facts.rows → IsSound new.now.facts → IsRecorded (history ++ (record { at = r.now.clock; by = by; command = c }) ∷ []) new
-command_recorded history by c r new es h allowed are is records opens sound =
+command_recorded history by c r new es h allowed are hold is records opens sound =
     let stands = command_in_step history by c r.now new.now es h.in_step allowed are is in
     let step = carried_step r.now es in
     let more = records (steps history r.now.clock) h.audit (carried_follows history r es h) in
@@ -111,6 +129,7 @@ command_recorded history by c r new es h allowed are is records opens sound =
       audit = rw is (subst (λ ss. IsAudit ss new.audit) led more);
       lived = rw is (lived_push history r.now.clock by c h.in_step.by h.lived);
       known = known_more history by c r new h (ap (λ (n : Now). n.clock) is) stands opens sound;
+      stood = stood_more history by c r new es h (ap (λ (n : Now). n.clock) is) stands are hold sound;
     }
 
 -- nothing stands in an empty history
@@ -120,4 +139,5 @@ start_recorded r is none = record {
   audit = rw (is, no_steps) none;
   lived = rw is lived_start;
   known = rw is known_start;
+  stood = rw is (stood_start start_sound);
 }

@@ -1,20 +1,16 @@
 -- The steps of a history as the clock comes to the next date, as it comes later, and after one command more.
-use Rattle.std.proofs.Common.{◌≡◌, ◌<◌, ◌≤◌, ◌+◌, ◌*◌, ℕ, zero, suc, List, [], ◌∷◌, ◌++◌, length, Option, Some, None, arith, refl, sym, ◌∙◌, ap, inl, inr}
+use Rattle.std.proofs.Common.{◌≡◌, ◌≤◌, ◌*◌, ℕ, zero, suc, List, [], ◌∷◌, ◌++◌, length, Some, None, arith, refl, sym, ◌∙◌, ap, inl, inr}
 use Rattle.std.proofs.lemmas.List.{append_assoc, append-nil}
 use Rattle.std.specs.List.{AllByRecursion}
 use Rattle.reg_base.specs.declared.entity.Entity.{Entity}
 use Rattle.reg_terms.specs.declared.command.Stamped.{Stamped}
 use Rattle.reg_terms.specs.declared.command.Command.{Command}
-use Rattle.reg_terms.specs.declared.rows.MemberRow.{MemberRow}
 use Rattle.reg_facts.specs.Lists as the_facts
 use Rattle.reg_facts.specs.Lists.{Lists}
 use Rattle.reg_facts.proofs.Places.{cases_option}
-use Rattle.reg_effect.specs.declared.live.Live.{Live}
-use Rattle.reg_audit.specs.Steps.{Step}
-use Rattle.reg_machine.specs.Dates.{date_passed, due, ending, pair_gone, pass}
+use Rattle.reg_machine.specs.Dates.{date_passed, due, pass}
 use Rattle.reg_machine.specs.History.{acted, facts, facts_after}
 use Rattle.reg_machine.specs.Invariant.{IsBy}
-use Rattle.reg_machine.specs.Live.{live}
 use Rattle.reg_machine.specs.Past.{date_step, command_step, dates_passed_in, dates_passed, steps_after, steps}
 use Rattle.reg_machine.proofs.Due.{due_some, due_up_to, due_from, due_nowhere}
 use Rattle.reg_machine.proofs.Moments.{all_up_to, by_later, by_more, facts_of}

@@ -1,9 +1,11 @@
 -- The past that a history gives: its steps one after another, and by them who was a member when, the change log, and what is gone.
 use Rattle.std.specs.Prelude.{◌≡◌, ◌≤◌, ℕ, zero, suc, ◌*◌, List, [], ◌∷◌, ◌++◌, Bool, true, Option, None, Some, length, map, if◌then◌else◌}
 use Rattle.reg_base.specs.declared.entity.Entity.{Entity}
+use Rattle.reg_base.specs.declared.privilege.Privilege.{Privilege}
 use Rattle.reg_terms.specs.declared.command.Stamped.{Stamped}
 use Rattle.reg_terms.specs.declared.command.Command.{Command}
 use Rattle.reg_terms.specs.Kinds.{as_group}
+use Rattle.reg_terms.specs.declared.kinds.Holder.{Holder}
 use Rattle.reg_terms.specs.declared.kinds.Object.{Object}
 use Rattle.reg_terms.specs.declared.kinds.Object.TheVariants.{Subject}
 use Rattle.reg_facts.specs.Events.{events_of}
@@ -19,9 +21,11 @@ use Rattle.std.specs.Str.{bytes_eq}
 use Rattle.reg_audit.specs.Lines.{log_of}
 use Rattle.reg_audit.specs.Lives.{life_of, gone_of, gone_name, all_gone}
 use Rattle.reg_audit.specs.declared.gone.Gone.{Gone}
-use Rattle.reg_audit.specs.Steps.{Step, consumers_by, live_by}
+use Rattle.reg_audit.specs.Steps.{Step, facts_by, live_by}
 use Rattle.reg_log.specs.declared.entries.Line.{Line}
+use Rattle.reg_pit.specs.Grants.{has_grant}
 use Rattle.reg_pit.specs.Spans.{spans_until}
+use Rattle.reg_priv.specs.Grants.{grants}
 use Rattle.reg_machine.specs.Dates.{date_passed, due, ending, pair_gone, pass}
 use Rattle.reg_machine.specs.History.{acted, facts, up_to}
 use Rattle.reg_machine.specs.Live.{live}
@@ -64,11 +68,11 @@ was_member history t g s = member (live t (facts history t)) g s
 abbrev pub IsStepBy : ℕ → Step → Type 0
 IsStepBy t step = step.at ≤ t
 
--- at each moment up to the clock the memberships are those after the last step up to it, and the consumers those after the last
+-- at each moment up to the clock the memberships and the facts are those after the last step up to it
 pub record AreLived (history : List Stamped) (clock : ℕ) : Type 0 where
   pub by : AllByRecursion (IsStepBy clock) (steps history clock)
   pub lived : (t g s : ℕ) → t ≤ clock → member (live_by t (steps history clock)) g s ≡ was_member history t g s
-  pub consumers : consumers_by (steps history clock) ≡ (facts history clock).consumers
+  pub left : (t : ℕ) → t ≤ clock → facts_by t (steps history clock) ≡ facts history t
 
 -- who was a member at a moment up to the clock stands
 abbrev pub AreKnown : List Stamped → ℕ → Type 0
@@ -82,6 +86,16 @@ spans history now g s = spans_until (λ t. was_member history t g s) now
 abbrev pub all_spans : List Stamped → ℕ → ℕ → List ℕ → List (ℕ × ℕ × Option ℕ)
 all_spans history now g [] = []
 all_spans history now g (s ∷ ss) = map (λ (span : ℕ × Option ℕ). (s, span.0, span.1)) (spans history now g s) ++ all_spans history now g ss
+
+-- ---- grants
+
+-- whether a holder had a privilege on an object at a moment, by a grant or an inherit
+abbrev pub was_granted : List Stamped → ℕ → Object → Privilege → Holder → Bool
+was_granted history t o p h = has_grant (grants o (facts history t)) p h
+
+-- the intervals up to now in which a holder had a privilege on an object
+unfoldable pub grant_spans : List Stamped → ℕ → Object → Privilege → Holder → List (ℕ × Option ℕ)
+grant_spans history now o p h = spans_until (λ t. was_granted history t o p h) now
 
 -- ---- the change log
 

@@ -1,5 +1,5 @@
 -- What a machine keeps of the past: the record of the steps of its history.
-use Rattle.std.specs.Prelude.{ℕ, List, [], ◌∷◌, ◌++◌}
+use Rattle.std.specs.Prelude.{List, [], ◌∷◌, ◌++◌}
 use Rattle.reg_terms.specs.declared.command.Stamped.{Stamped}
 use Rattle.reg_terms.specs.declared.event.Event.{Event}
 use Rattle.reg_facts.specs.Events.{all_happened}
@@ -9,6 +9,7 @@ use Rattle.reg_audit.specs.declared.audit.Audit.{Audit}
 use Rattle.reg_machine.specs.Invariant.{IsInStep, Now}
 use Rattle.reg_machine.specs.Live.{live}
 use Rattle.reg_machine.specs.Past.{AreKnown, AreLived, steps}
+use Rattle.reg_machine.specs.Standing.{AreStood}
 
 -- facts at a moment, and the record of the steps up to it
 pub record Recording : Type 0 where
@@ -32,3 +33,4 @@ pub record IsRecorded (history : List Stamped) (recording : Recording) : Type 0 
   pub audit : IsAudit (steps history recording.now.clock) recording.audit
   pub lived : AreLived history recording.now.clock
   pub known : AreKnown history recording.now.clock
+  pub stood : AreStood history recording.now.clock

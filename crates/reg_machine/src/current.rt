@@ -4,13 +4,14 @@ ghost use Rattle.std.specs.List.{AllByRecursion};
 ghost use Rattle.std.specs.List.Sorted.{IsPermutation};
 ghost use Rattle.reg_facts.specs.Edits as edits;
 ghost use Rattle.reg_facts.specs.Events.{happened, all_happened};
-ghost use Rattle.reg_facts.specs.Lists.{start};
+ghost use Rattle.reg_facts.specs.Lists.{Lists, start};
 ghost use Rattle.reg_facts.specs.Suiting.{Suits};
 ghost use Rattle.reg_effect.specs.declared.live.Live.{Live};
 ghost use Rattle.reg_effect.specs.Bound.{most_steps_of};
 ghost use Rattle.reg_effect.specs.Changes.{changed_by, all_on, SuitAll};
 ghost use Rattle.reg_effect.specs.Standing.{standing};
 ghost use Rattle.reg_effect.specs.Turned.{Remembers};
+ghost use Rattle.reg_audit.specs.Touched.{KnowsTouched};
 ghost use Rattle.reg_machine.specs.Checks as checks;
 ghost use Rattle.reg_machine.specs.Circles.{ClosesNone};
 ghost use Rattle.reg_machine.specs.Coming.{FindsDates};
@@ -25,10 +26,12 @@ use crate::dates::Dates;
 use crate::edges::relink;
 use crate::ending::rows_gone;
 use crate::redating::redate;
+use crate::touching::put_touched;
 use reg_base::{GroupId, Moment, Steps};
 use reg_effect::{Kept, Turned, put_on};
 use reg_facts::{Event, Facts};
 use reg_graph::Dag;
+use reg_terms::Object;
 use std::alloc::{AllocError, Global};
 use std::marker::Model;
 use std::sync::ledger::Ledger;
@@ -179,7 +182,7 @@ impl<K: Kept> Current<K> {
         let mut current = self;
         current.facts.law_sound();
         current.graph.acyclic();
-        let sets = carry_beside(
+        let carried = carry_beside(
             current.sets,
             &mut current.graph,
             &mut current.dates,
@@ -188,29 +191,73 @@ impl<K: Kept> Current<K> {
             &event,
             turned,
             steps,
-        )?;
-        let facts = current.facts.take(alloc, event)?;
+        );
+        // by calls, here and below: dropped in place they would be taken apart by their parts
+        let Ok(sets) = carried else {
+            drop(event);
+            drop(current.facts);
+            drop(current.graph);
+            drop(current.dates);
+            return Err(AllocError);
+        };
+        let taken = current.facts.take(alloc, event);
+        let Ok(facts) = taken else {
+            drop(sets);
+            drop(current.graph);
+            drop(current.dates);
+            return Err(AllocError);
+        };
         current.facts = facts;
         current.sets = sets;
         Ok(current)
     }
 
-    /// What stands after some events, one after another. It takes at most the steps of these.
+    /// What stands after an event, whom it turns, and the objects whose grants it may change. It takes
+    /// at most the steps of the changes of live data that the event makes.
+    fn carry_told<L: Ledger>(
+        self,
+        alloc: Global,
+        event: Event,
+        turned: &mut Turned,
+        touched: &mut Vec<Object>,
+        steps: &mut Steps<L>,
+    ) -> Result<Current<K>, AllocError>
+        requires { Holds self.clock event self.facts }
+        ensures happened { IfOk result (λ c. c ≡ record { clock = self.clock; facts = happened event self.facts }) }
+        ensures told { IfOk result (λ c. (M : Live) → Remembers M (live self.clock self.facts) turned.old → Remembers M (live c.clock c.facts) turned.new) }
+        ensures touches { IfOk result (λ c. (f : Lists) → KnowsTouched f self.facts touched.old.items → KnowsTouched f c.facts touched.new.items) }
+        ensures cost { OnOk result (steps.new ≤ steps.old + event_steps self.clock event self.facts) }
+    {
+        match put_touched(alloc, self.facts(), &event, touched) {
+            Ok(()) => self.carry(alloc, event, turned, steps),
+            // by calls: dropped in place they would be taken apart by their parts
+            Err(AllocError) => {
+                drop(event);
+                drop(self);
+                Err(AllocError)
+            }
+        }
+    }
+
+    /// What stands after some events, one after another, whom these turn, and the objects whose
+    /// grants they may change. It takes at most the steps of these.
     pub fn carry_all<L: Ledger>(
         self,
         alloc: Global,
         events: Vec<Event>,
         turned: &mut Turned,
+        touched: &mut Vec<Object>,
         steps: &mut Steps<L>,
     ) -> Result<Current<K>, AllocError>
         requires { AllHold self.clock events.items self.facts }
         ensures happened { IfOk result (λ c. c ≡ record { clock = self.clock; facts = all_happened events.items self.facts }) }
         ensures told { IfOk result (λ c. (M : Live) → Remembers M (live self.clock self.facts) turned.old → Remembers M (live c.clock c.facts) turned.new) }
+        ensures touches { IfOk result (λ c. (f : Lists) → KnowsTouched f self.facts touched.old.items → KnowsTouched f c.facts touched.new.items) }
         ensures cost { OnOk result (steps.new ≤ steps.old + events_steps self.clock events.items self.facts) }
     {
         let mut current = self;
         for event in events {
-            current = current.carry(alloc, event, turned, steps)?;
+            current = current.carry_told(alloc, event, turned, touched, steps)?;
         }
         Ok(current)
     }
@@ -231,8 +278,18 @@ impl<K: Kept> Current<K> {
         let mut current = self;
         current.facts.law_sound();
         current.graph.acyclic();
-        let beginning = current.dates.beginning(date)?;
-        let sets = put_on(current.sets, &beginning, turned, steps)?;
+        let found = current.dates.beginning(date);
+        let Ok(beginning) = found else {
+            drop(current);
+            return Err(AllocError);
+        };
+        let put = put_on(current.sets, &beginning, turned, steps);
+        let Ok(sets) = put else {
+            drop(current.facts);
+            drop(current.graph);
+            drop(current.dates);
+            return Err(AllocError);
+        };
         current.dates.pass(date);
         current.sets = sets;
         current.moment = date;
@@ -256,18 +313,20 @@ impl<K: Kept> Current<K> {
         date: Moment,
         events: Vec<Event>,
         turned: &mut Turned,
+        touched: &mut Vec<Object>,
         steps: &mut Steps<L>,
     ) -> Result<Current<K>, AllocError>
         requires due { due self.clock date self.facts.rows ≡ Some date }
         requires events { events.items ≡ map pair_gone (ending date self.facts.rows) }
         ensures moved { IfOk result (λ c. c ≡ record { clock = date; facts = without_ended date self.facts }) }
         ensures told { IfOk result (λ c. (M : Live) → Remembers M (live self.clock self.facts) turned.old → Remembers M (live c.clock c.facts) turned.new) }
+        ensures touches { IfOk result (λ c. (f : Lists) → KnowsTouched f self.facts touched.old.items → KnowsTouched f c.facts touched.new.items) }
         ensures cost { OnOk result (steps.new ≤ steps.old + most_steps_of (date_changes date self.facts) (live self.clock self.facts)) }
     {
         let current = self;
         current.law_rows_open();
         current.law_date(date);
-        let current = current.carry_all(alloc, events, turned, steps)?;
+        let current = current.carry_all(alloc, events, turned, touched, steps)?;
         current.begin(date, turned, steps)
     }
 

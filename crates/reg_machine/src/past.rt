@@ -1,29 +1,36 @@
 // What a machine tells of the past.
-ghost use Rattle.std.specs.Prelude.{◌≡◌, ◌≤◌, ◌<◌, ◌+◌, ◌++◌, ◌==◌, ℕ, List, true, None, Some, IfOk};
+ghost use Rattle.std.specs.Prelude.{◌≡◌, ◌≤◌, ◌<◌, ◌+◌, ◌*◌, ◌^◌, ◌++◌, ◌==◌, ℕ, List, length, true, None, Some, IfOk};
 ghost use Rattle.std.specs.List.{list_any, AllByRecursion};
 ghost use Rattle.std.specs.List.Sorted.{IsStrictlySortedBy};
 ghost use Rattle.std.specs.Option.{option_copied};
 ghost use Rattle.std.specs.Ordering.{nat_cmp};
+ghost use Rattle.reg_base.specs.declared.privilege.Privilege.{Privilege};
 ghost use Rattle.reg_terms.specs.declared.command.Stamped.{Stamped};
 ghost use Rattle.reg_terms.specs.Kinds.{same_object};
+ghost use Rattle.reg_terms.specs.declared.kinds.Holder.{Holder};
+ghost use Rattle.reg_terms.specs.declared.kinds.Object.{Object};
 ghost use Rattle.reg_terms.specs.declared.kinds.Object.TheVariants.{Folder};
 ghost use Rattle.reg_facts.specs.Consumers.{consumer_place};
 ghost use Rattle.reg_facts.specs.Lists.{root};
 ghost use Rattle.reg_facts.specs.Sound.{has_subject, is_named};
 ghost use Rattle.reg_log.specs.Places.{place_of};
 ghost use Rattle.reg_pit.specs.Members.{Lists};
+ghost use Rattle.reg_pit.specs.Spans.{ends_after};
+ghost use Rattle.reg_priv.specs.Holders.{holders};
+ghost use Rattle.reg_priv.specs.May.{wheel};
 ghost use Rattle.reg_audit.specs.Lives.{gone_name};
 ghost use Rattle.reg_machine.specs.History.{facts};
 ghost use Rattle.reg_machine.specs.Invariant.{IsFrom};
-ghost use Rattle.reg_machine.specs.Past.{all_spans, gone, gone_named, last_name, life, log, present_name, spans, steps, was_member};
+ghost use Rattle.reg_machine.specs.Standing.{lives_at, stands};
+ghost use Rattle.reg_machine.specs.Past.{all_spans, gone, gone_named, grant_spans, last_name, life, log, present_name, spans, steps, was_granted, was_member};
 
 use crate::Machine;
-use reg_base::{GroupId, Moment, Steps, SubjectId, Text};
+use reg_base::{GroupId, Moment, Privilege, Steps, SubjectId, Text};
 use reg_effect::Kept;
 use reg_facts::Facts;
 use reg_log::{ChangeLog, Places};
 use reg_names::name_of;
-use reg_terms::Object;
+use reg_terms::{Holder, Object};
 use std::alloc::{AllocError, Global};
 use std::sync::ledger::Ledger;
 
@@ -79,6 +86,26 @@ fn told_name(
     }
 }
 
+/// Whether an end, if there is one, is later than a moment.
+fn ends_after(end: Option<Moment>, t: Moment) -> bool
+    ensures { result ≡ ends_after t end }
+{
+    match end {
+        Some(end) => t < end,
+        None => true,
+    }
+}
+
+/// Whether an object of this life stood at a moment.
+fn lives_at(life: Option<(Moment, Option<Moment>)>, t: Moment) -> bool
+    ensures { result ≡ lives_at t life }
+{
+    match life {
+        Some((made, gone)) => made <= t && ends_after(gone, t),
+        None => false,
+    }
+}
+
 impl<K: Kept> Machine<K> {
     /// The change log up to the clock: what each accepted command and each date changed, in order.
     /// An entry's number is its place, from 1. Takes no memory.
@@ -107,11 +134,12 @@ impl<K: Kept> Machine<K> {
         requires { t ≤ self.now.clock }
         ensures value { result ≡ was_member self.now.history t group subject }
         ensures looks { steps.new ≤ steps.old + 1 }
+        ensures cost { (n : ℕ) → steps.new ≡ steps.old + n → 2 ^ n ≤ 2 * length (spans self.now.history self.now.clock group subject) + 1 }
     {
-        self.recorded
-            .audit()
-            .past()
-            .was_member(group, subject, t, steps)
+        let past = self.recorded.audit().past();
+        past.law_noted_later();
+        past.law_spans();
+        past.was_member(group, subject, t, steps)
     }
 
     /// Who was an effective member of a group at a moment up to the clock, by id. Costs what was ever
@@ -162,13 +190,73 @@ impl<K: Kept> Machine<K> {
         past.history_of(group)
     }
 
-    /// Who was a member of a group at a moment up to the clock stands; and what stood before a moment,
-    /// no command changes from that moment on. It does nothing.
+    /// Whether a holder had a privilege on an object, by a grant or an inherit, at a moment up to the
+    /// clock. A step is one interval looked at. Takes no memory.
+    pub fn was_granted<L: Ledger>(
+        &self,
+        object: Object,
+        privilege: Privilege,
+        holder: Holder,
+        t: Moment,
+        steps: &mut Steps<L>,
+    ) -> bool
+        requires { t ≤ self.now.clock }
+        ensures value { result ≡ was_granted self.now.history t object privilege holder }
+        ensures looks { steps.new ≤ steps.old + 1 }
+        ensures cost { (n : ℕ) → steps.new ≡ steps.old + n → 2 ^ n ≤ 2 * length (grant_spans self.now.history self.now.clock object privilege holder) + 1 }
+    {
+        let past = self.recorded.audit().past();
+        past.law_noted_later();
+        past.law_grant_spans();
+        past.was_granted(object, privilege, holder, t, steps)
+    }
+
+    /// The grants that stood on an object at a moment up to the clock, direct and inherited, each pair
+    /// once: by the privilege's code, then everyone, persons by id, groups by id. Costs what was ever
+    /// noted of the object. The only error is out of memory.
+    pub fn grants_at(
+        &self,
+        object: Object,
+        t: Moment,
+    ) -> Result<Vec<(Privilege, Holder)>, AllocError>
+        requires { t ≤ self.now.clock }
+        ensures { IfOk result (λ found. found.items ≡ holders object (facts self.now.history t)) }
+    {
+        let past = self.recorded.audit().past();
+        let found = past.grants_at(object, t)?;
+        Ok(found)
+    }
+
+    /// The wheel group at a moment up to the clock: the group that was named `etc:sysadmingroup` then.
+    /// Takes no memory.
+    pub fn wheel_at(&self, t: Moment) -> Option<GroupId>
+        requires { t ≤ self.now.clock }
+        ensures { result ≡ wheel (facts self.now.history t) }
+    {
+        let past = self.recorded.audit().past();
+        past.wheel_at(t)
+    }
+
+    /// Who was a member of a group at a moment up to the clock stands; what stood before a moment, no
+    /// command changes from that moment on; and an object stood at a moment up to the clock exactly
+    /// where its life has the moment. It does nothing.
     pub fn law_past(&self)
         ensures stays { (before after : List Stamped) (c t : ℕ) → self.now.history ≡ before ++ after → AllByRecursion (IsFrom c) after → t < c → facts self.now.history t ≡ facts before t }
         ensures known { (t g s : ℕ) → t ≤ self.now.clock → was_member self.now.history t g s ≡ true → has_subject s (facts self.now.history self.now.clock).subjects ≡ true }
+        ensures stood { (o : Object) (t : ℕ) → t ≤ self.now.clock → stands o (facts self.now.history t) ≡ lives_at t (life self.now.history self.now.clock o) }
     {
         let _ = &self.recorded;
+    }
+
+    /// Over two machines, of which one's history goes on from the other's by commands from the other's
+    /// clock on: who was a member and who held what is the same at every moment before that clock. It
+    /// does nothing.
+    pub fn law_goes_on(&self, later: &Machine<K>)
+        ensures members { (after : List Stamped) (t g s : ℕ) → later.now.history ≡ self.now.history ++ after → AllByRecursion (IsFrom self.now.clock) after → t < self.now.clock → was_member later.now.history t g s ≡ was_member self.now.history t g s }
+        ensures granted { (after : List Stamped) (t : ℕ) (o : Object) (p : Privilege) (h : Holder) → later.now.history ≡ self.now.history ++ after → AllByRecursion (IsFrom self.now.clock) after → t < self.now.clock → was_granted later.now.history t o p h ≡ was_granted self.now.history t o p h }
+        ensures stays { (after : List Stamped) (t : ℕ) → later.now.history ≡ self.now.history ++ after → AllByRecursion (IsFrom self.now.clock) after → t < self.now.clock → facts later.now.history t ≡ facts self.now.history t }
+    {
+        let _ = &later.recorded;
     }
 
     /// When an object was made, and when it went, if it is gone. None exactly where it was never
@@ -177,6 +265,16 @@ impl<K: Kept> Machine<K> {
         ensures { result ≡ life self.now.history self.now.clock object }
     {
         self.recorded.audit().life(object)
+    }
+
+    /// Whether an object stood at a moment up to the clock: it was made by then, and hadn't gone.
+    /// Takes no memory.
+    pub fn stood_at(&self, object: Object, t: Moment) -> bool
+        requires { t ≤ self.now.clock }
+        ensures { result ≡ stands object (facts self.now.history t) }
+    {
+        self.law_past();
+        lives_at(self.life(object), t)
     }
 
     /// The groups that are gone, in the order in which they went. Takes no memory.

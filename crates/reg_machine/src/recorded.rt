@@ -10,6 +10,7 @@ ghost use Rattle.reg_effect.specs.Bound.{most_steps_of};
 ghost use Rattle.reg_effect.specs.Turned.{turns};
 ghost use Rattle.reg_audit.specs.Audit.{IsAudit};
 ghost use Rattle.reg_audit.specs.Notes.{notes_of};
+ghost use Rattle.reg_audit.specs.Touched.{KnowsTouched};
 ghost use Rattle.reg_pit.specs.Past.{NotedBy};
 ghost use Rattle.reg_machine.specs.Dates.{date_changes, due, ending, pair_gone, without_ended};
 ghost use Rattle.reg_machine.specs.Holding.{AllHold};
@@ -23,6 +24,7 @@ use reg_audit::{Audit, Notes, notes_of};
 use reg_base::{GroupId, Moment, Steps, SubjectId};
 use reg_effect::{Kept, Turned};
 use reg_facts::Event;
+use reg_terms::Object;
 use std::alloc::{AllocError, Global};
 use std::sync::ledger::Ledger;
 
@@ -33,47 +35,100 @@ pub struct Recorded<K: Kept> {
     audit: Audit,
 }
 
-/// What stands after some events, what they change themselves, and the memberships that they turn. It
-/// takes at most the steps of these.
+/// What stands after some events, what they change themselves, the memberships that they turn, and
+/// the objects whose grants they may change. It takes at most the steps of these.
 fn carried<K: Kept, L: Ledger>(
     alloc: Global,
     current: Current<K>,
     events: Vec<Event>,
     steps: &mut Steps<L>,
-) -> Result<(Current<K>, Notes, Vec<(GroupId, SubjectId, bool)>), AllocError>
+) -> Result<
+    (
+        Current<K>,
+        Notes,
+        Vec<(GroupId, SubjectId, bool)>,
+        Vec<Object>,
+    ),
+    AllocError,
+>
     requires { AllHold current.clock events.items current.facts }
     ensures happened { IfOk result (λ r. r.0 ≡ record { clock = current.clock; facts = all_happened events.items current.facts }) }
     ensures notes { IfOk result (λ r. r.1 ≡ notes_of current.clock current.facts events.items) }
     ensures turned { IfOk result (λ r. r.2.items ≡ turns (live current.clock current.facts) (live current.clock (all_happened events.items current.facts))) }
+    ensures touches { IfOk result (λ r. KnowsTouched current.facts (all_happened events.items current.facts) r.3.items) }
     ensures cost { OnOk result (steps.new ≤ steps.old + events_steps current.clock events.items current.facts) }
 {
     let mut turned = Turned::new(alloc);
-    let notes = notes_of(alloc, current.clock(), current.facts(), &events)?;
-    let current = current.carry_all(alloc, events, &mut turned, steps)?;
-    let turned = turned.list(current.kept())?;
-    Ok((current, notes, turned))
+    let mut touched = Vec::new(alloc);
+    // By calls, here and below: dropped in place they would be taken apart by their parts.
+    let noted = notes_of(alloc, current.clock(), current.facts(), &events);
+    let Ok(notes) = noted else {
+        drop(events);
+        drop(current);
+        return Err(AllocError);
+    };
+    let carried = current.carry_all(alloc, events, &mut turned, &mut touched, steps);
+    let Ok(current) = carried else {
+        drop(notes);
+        return Err(AllocError);
+    };
+    let listed = turned.list(current.kept());
+    let Ok(turned) = listed else {
+        drop(notes);
+        drop(current);
+        return Err(AllocError);
+    };
+    Ok((current, notes, turned, touched))
 }
 
-/// What stands at the next date, what it changes itself, and the memberships that it turns. It takes
-/// at most the steps of the memberships that end and begin there.
+/// What stands at the next date, what it changes itself, the memberships that it turns, and the
+/// objects whose grants it may change. It takes at most the steps of the memberships that end and
+/// begin there.
 fn passed<K: Kept, L: Ledger>(
     alloc: Global,
     current: Current<K>,
     date: Moment,
     steps: &mut Steps<L>,
-) -> Result<(Current<K>, Notes, Vec<(GroupId, SubjectId, bool)>), AllocError>
+) -> Result<
+    (
+        Current<K>,
+        Notes,
+        Vec<(GroupId, SubjectId, bool)>,
+        Vec<Object>,
+    ),
+    AllocError,
+>
     requires { due current.clock date current.facts.rows ≡ Some date }
     ensures moved { IfOk result (λ r. r.0 ≡ record { clock = date; facts = without_ended date current.facts }) }
     ensures notes { IfOk result (λ r. r.1 ≡ notes_of date current.facts (map pair_gone (ending date current.facts.rows))) }
     ensures turned { IfOk result (λ r. r.2.items ≡ turns (live current.clock current.facts) (live date (without_ended date current.facts))) }
+    ensures touches { IfOk result (λ r. KnowsTouched current.facts (without_ended date current.facts) r.3.items) }
     ensures cost { OnOk result (steps.new ≤ steps.old + most_steps_of (date_changes date current.facts) (live current.clock current.facts)) }
 {
     let mut turned = Turned::new(alloc);
-    let events = current.ending(alloc, date)?;
-    let notes = notes_of(alloc, date, current.facts(), &events)?;
-    let current = current.pass_date(alloc, date, events, &mut turned, steps)?;
-    let turned = turned.list(current.kept())?;
-    Ok((current, notes, turned))
+    let mut touched = Vec::new(alloc);
+    let Ok(events) = current.ending(alloc, date) else {
+        drop(current);
+        return Err(AllocError);
+    };
+    let noted = notes_of(alloc, date, current.facts(), &events);
+    let Ok(notes) = noted else {
+        drop(events);
+        drop(current);
+        return Err(AllocError);
+    };
+    let passed = current.pass_date(alloc, date, events, &mut turned, &mut touched, steps);
+    let Ok(current) = passed else {
+        drop(notes);
+        return Err(AllocError);
+    };
+    let listed = turned.list(current.kept());
+    let Ok(turned) = listed else {
+        drop(notes);
+        drop(current);
+        return Err(AllocError);
+    };
+    Ok((current, notes, turned, touched))
 }
 
 impl<K: Kept> Recorded<K> {
@@ -119,8 +174,16 @@ impl<K: Kept> Recorded<K> {
         ensures cost { OnOk result (steps.new ≤ steps.old + events_steps self.current.clock events.items self.current.facts) }
     {
         let Recorded { current, audit } = self;
-        let (current, notes, turned) = carried(alloc, current, events, steps)?;
-        let audit = audit.note(alloc, notes, &turned)?;
+        let after = carried(alloc, current, events, steps);
+        let Ok((current, notes, turned, touched)) = after else {
+            drop(audit);
+            return Err(AllocError);
+        };
+        let noted = audit.note(alloc, notes, &turned, current.facts(), &touched);
+        let Ok(audit) = noted else {
+            drop(current);
+            return Err(AllocError);
+        };
         current.law_rows_open();
         current.facts().law_sound();
         Ok(Recorded { current, audit })
@@ -143,8 +206,16 @@ impl<K: Kept> Recorded<K> {
         ensures cost { OnOk result (steps.new ≤ steps.old + most_steps_of (date_changes date self.current.facts) (live self.current.clock self.current.facts)) }
     {
         let Recorded { current, audit } = self;
-        let (current, notes, turned) = passed(alloc, current, date, steps)?;
-        let audit = audit.note(alloc, notes, &turned)?;
+        let after = passed(alloc, current, date, steps);
+        let Ok((current, notes, turned, touched)) = after else {
+            drop(audit);
+            return Err(AllocError);
+        };
+        let noted = audit.note(alloc, notes, &turned, current.facts(), &touched);
+        let Ok(audit) = noted else {
+            drop(current);
+            return Err(AllocError);
+        };
         current.law_rows_open();
         current.facts().law_sound();
         Ok(Recorded { current, audit })

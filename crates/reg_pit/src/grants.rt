@@ -6,7 +6,7 @@ ghost use Rattle.reg_base.specs.declared.privilege.Privilege.{Privilege};
 ghost use Rattle.reg_terms.specs.Kinds.{same_object};
 ghost use Rattle.reg_terms.specs.declared.kinds.Object.{Object};
 ghost use Rattle.reg_terms.specs.declared.kinds.Holder.{Holder};
-ghost use Rattle.reg_pit.specs.Spans.{NoLater};
+ghost use Rattle.reg_pit.specs.Spans.{AreSpans, NoLater};
 ghost use Rattle.reg_pit.specs.Runs.{spans_of};
 ghost use Rattle.reg_pit.specs.Grants.{grant_cmp, is_granted, has_grant, held_cmp, Fits};
 
@@ -126,6 +126,13 @@ impl Grants {
         ensures cost { (n : ℕ) → steps.new ≡ steps.old + n → 2 ^ n ≤ 2 * length (spans_of grant_cmp self.now (object, privilege, holder)) + 1 }
     {
         self.granted.at((object, privilege, holder), t, steps)
+    }
+
+    /// The intervals of each privilege of a holder are none empty, and no two touch. It does nothing.
+    pub(crate) fn law_spans(&self)
+        ensures { (k : Object × Privilege × Holder) → AreSpans (spans_of grant_cmp self.now k) }
+    {
+        self.granted.law_rows_apart();
     }
 
     /// The privileges that were held on an object at a moment, in order.

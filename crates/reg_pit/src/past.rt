@@ -233,6 +233,14 @@ impl Past {
         self.memberships.law_spans();
     }
 
+    /// Where a test tells who held a privilege up to the last note, the intervals are what the test
+    /// gives moment by moment. It does nothing.
+    pub fn law_grant_spans(&self)
+        ensures { (test : ℕ → Bool) (now : ℕ) (o : Object) (p : Privilege) (h : Holder) → NotedBy now self.now → ((t : ℕ) → t ≤ now → was_granted self.now o p h t ≡ test t) → grant_spans self.now o p h ≡ spans_until test now }
+    {
+        self.grants.law_spans();
+    }
+
     /// From the last note on all stays as it was then. It does nothing.
     pub fn law_stays(&self)
         ensures members { (at t g s : ℕ) → at ≤ t → NotedBy at self.now → was_member self.now g s t ≡ was_member self.now g s at }

@@ -3,12 +3,12 @@ ghost use Rattle.std.specs.Prelude.{◌≡◌, IfOk};
 ghost use Rattle.std.specs.Option.{option_copied};
 ghost use Rattle.reg_terms.specs.declared.kinds.Object.TheVariants.{Attr};
 ghost use Rattle.reg_facts.specs.Rows.{attribute_row};
-ghost use Rattle.reg_priv.specs.May.{is_root, granted, judged, may, visible, privileges_of};
+ghost use Rattle.reg_priv.specs.May.{is_root, granted, judged, may, visible, privileges_of, wheel};
 
 use crate::Who;
 use crate::climbing::any_inherited;
 use crate::granting::any_written;
-use reg_base::{AttrId, Privilege};
+use reg_base::{AttrId, GroupId, Privilege};
 use reg_effect::Kept;
 use reg_facts::{AttributeRow, Facts, Object};
 use reg_terms::{Privileges, all_privileges, privilege_kind};
@@ -17,14 +17,22 @@ use std::alloc::{AllocError, Global};
 /// The group whose members may do everything.
 const WHEEL: &str = "etc:sysadmingroup";
 
-/// Whether a caller may do everything: GrouperSystem, and who is in the group that is named
-/// `etc:sysadmingroup` now. It takes no memory.
+/// The wheel group, whose members may do everything: the group that is named `etc:sysadmingroup`
+/// now. It takes no memory.
+pub fn wheel(facts: &Facts) -> Option<GroupId>
+    ensures { result ≡ wheel facts.now }
+{
+    facts.group_id(WHEEL)
+}
+
+/// Whether a caller may do everything: GrouperSystem, and who is in the wheel group. It takes no
+/// memory.
 pub fn is_root<K: Kept>(facts: &Facts, kept: &K, who: &Who) -> bool
     ensures { result ≡ is_root (K.held kept.now) facts.now who.now }
 {
     match who {
         Who::System => true,
-        Who::Person(person) => match facts.group_id(WHEEL) {
+        Who::Person(person) => match wheel(facts) {
             Some(group) => kept.is_member(group, *person),
             None => false,
         },
@@ -68,7 +76,7 @@ fn judged_attribute(facts: &Facts, id: AttrId) -> Object
 }
 
 /// The object whose grants count: of an attribute its definition.
-fn judged(facts: &Facts, object: &Object) -> Object
+pub fn judged(facts: &Facts, object: &Object) -> Object
     ensures { result ≡ judged object.now facts.now }
 {
     match object {

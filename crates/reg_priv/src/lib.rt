@@ -11,6 +11,6 @@ mod touched;
 mod who;
 
 pub use holding::holders;
-pub use judging::{is_root, is_visible, may, privileges_of};
+pub use judging::{is_root, is_visible, judged, may, privileges_of, wheel};
 pub use touched::{law_untouched, touched_objects};
 pub use who::{Who, who_of};

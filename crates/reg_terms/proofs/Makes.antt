@@ -129,8 +129,8 @@ query_makes query.FolderList v = record { op = asked.Query (FolderList _); made_
 query_makes query.Members v = record { op = asked.Query (Members _ _); made_so = refl; is_kind = refl; has_these = refl }
 query_makes query.Rows v = record { op = asked.Query (Rows _); made_so = refl; is_kind = refl; has_these = refl }
 query_makes query.Groups v = record { op = asked.Query (Groups _ _); made_so = refl; is_kind = refl; has_these = refl }
-query_makes query.Grants v = record { op = asked.Query (Grants _); made_so = refl; is_kind = refl; has_these = refl }
-query_makes query.May v = record { op = asked.Query (May _ _); made_so = refl; is_kind = refl; has_these = refl }
+query_makes query.Grants v = record { op = asked.Query (Grants _ _); made_so = refl; is_kind = refl; has_these = refl }
+query_makes query.May v = record { op = asked.Query (May _ _ _); made_so = refl; is_kind = refl; has_these = refl }
 query_makes query.History v = record { op = asked.Query (History _); made_so = refl; is_kind = refl; has_these = refl }
 query_makes query.Log v = record { op = asked.Query (Log _ _); made_so = refl; is_kind = refl; has_these = refl }
 

@@ -61,8 +61,8 @@ query_row query.FolderList = record { word = codes "folder.list"; fields = (code
 query_row query.Members = record { word = codes "members"; fields = (codes "group", kind.Name) ∷ (codes "at", kind.OptionalMoment) ∷ [] }
 query_row query.Rows = record { word = codes "rows"; fields = (codes "group", kind.Name) ∷ [] }
 query_row query.Groups = record { word = codes "groups"; fields = (codes "subject", kind.Entity) ∷ (codes "at", kind.OptionalMoment) ∷ [] }
-query_row query.Grants = record { word = codes "grants"; fields = (codes "object", kind.Object) ∷ [] }
-query_row query.May = record { word = codes "may"; fields = (codes "object", kind.Object) ∷ (codes "entity", kind.Entity) ∷ [] }
+query_row query.Grants = record { word = codes "grants"; fields = (codes "object", kind.Object) ∷ (codes "at", kind.OptionalMoment) ∷ [] }
+query_row query.May = record { word = codes "may"; fields = (codes "object", kind.Object) ∷ (codes "entity", kind.Entity) ∷ (codes "at", kind.OptionalMoment) ∷ [] }
 query_row query.History = record { word = codes "history"; fields = (codes "group", kind.Name) ∷ [] }
 query_row query.Log = record { word = codes "log"; fields = (codes "consumer", kind.Extension) ∷ (codes "max", kind.Number 1 1000) ∷ [] }
 
@@ -137,8 +137,8 @@ query_apart (FolderList folder) = (query.FolderList, field.Folder folder ∷ [])
 query_apart (Members group at) = (query.Members, field.Name group ∷ field.OptionalMoment at ∷ [])
 query_apart (Rows group) = (query.Rows, field.Name group ∷ [])
 query_apart (Groups subject at) = (query.Groups, field.Entity subject ∷ field.OptionalMoment at ∷ [])
-query_apart (Grants object) = (query.Grants, field.Object object ∷ [])
-query_apart (May object entity) = (query.May, field.Object object ∷ field.Entity entity ∷ [])
+query_apart (Grants object at) = (query.Grants, field.Object object ∷ field.OptionalMoment at ∷ [])
+query_apart (May object entity at) = (query.May, field.Object object ∷ field.Entity entity ∷ field.OptionalMoment at ∷ [])
 query_apart (History group) = (query.History, field.Name group ∷ [])
 query_apart (Log consumer max) = (query.Log, field.Extension consumer ∷ field.Number max 1 1000 ∷ [])
 
@@ -280,11 +280,13 @@ made_query query.Groups fields = do
   whole (Groups subject.0 at.0) at.1
 made_query query.Grants fields = do
   object ← object_in fields
-  whole (Grants object.0) object.1
+  at ← moment_in object.1
+  whole (Grants object.0 at.0) at.1
 made_query query.May fields = do
   object ← object_in fields
   entity ← entity_in object.1
-  whole (May object.0 entity.0) entity.1
+  at ← moment_in entity.1
+  whole (May object.0 entity.0 at.0) at.1
 made_query query.History fields = do
   group ← name_in fields
   whole (History group.0) group.1

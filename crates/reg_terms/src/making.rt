@@ -369,6 +369,7 @@ fn grants(mut fields: VecDeque<Field>) -> Option<Query>
 {
     let query = Query::Grants {
         object: object(&mut fields)?,
+        at: moment(&mut fields)?,
     };
     whole(query, fields)
 }
@@ -379,6 +380,7 @@ fn may(mut fields: VecDeque<Field>) -> Option<Query>
     let query = Query::May {
         object: object(&mut fields)?,
         entity: entity(&mut fields)?,
+        at: moment(&mut fields)?,
     };
     whole(query, fields)
 }

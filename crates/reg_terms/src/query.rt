@@ -3,30 +3,55 @@ use crate::{EntriesShown, FactorsShown, GrantsShown, Privileges, RowsShown, Span
 use reg_base::{Entity, Moment, Name, Text};
 
 /// A question that changes nothing (`docs/REQUESTS.md`). A folder is named by its name, or `:` for the root.
-#[derive(Debug, Drop)]
+#[derive(Drop)]
 pub enum Query {
     /// The group of this name.
-    GroupGet { group: Name },
+    GroupGet {
+        group: Name,
+    },
     /// What stands directly in the folder of this name.
-    FolderList { folder: Text },
+    FolderList {
+        folder: Text,
+    },
     /// The effective members of the group of this name, now or at a moment before now.
-    Members { group: Name, at: Option<Moment> },
+    Members {
+        group: Name,
+        at: Option<Moment>,
+    },
     /// The immediate memberships and the factors of the group of this name.
-    Rows { group: Name },
+    Rows {
+        group: Name,
+    },
     /// The groups that have a person as an effective member, now or at a moment before now.
-    Groups { subject: Entity, at: Option<Moment> },
-    /// The privileges granted on an object, written on it or inherited, and their holders.
-    Grants { object: Text },
-    /// The privileges that an entity has on an object.
-    May { object: Text, entity: Entity },
+    Groups {
+        subject: Entity,
+        at: Option<Moment>,
+    },
+    /// The privileges granted on an object, written on it or inherited, and their holders, now or at a
+    /// moment before now.
+    Grants {
+        object: Text,
+        at: Option<Moment>,
+    },
+    /// The privileges that an entity has on an object, now or at a moment before now.
+    May {
+        object: Text,
+        entity: Entity,
+        at: Option<Moment>,
+    },
     /// Who was an effective member of the group of this name, from when and until when.
-    History { group: Name },
+    History {
+        group: Name,
+    },
     /// The entries of the change log after the place of a consumer, at most `max`.
-    Log { consumer: Text, max: u64 },
+    Log {
+        consumer: Text,
+        max: u64,
+    },
 }
 
 /// What a query is answered.
-#[derive(Debug, Drop)]
+#[derive(Drop)]
 pub enum Answer {
     GroupGet {
         display: Text,

@@ -2,7 +2,7 @@
 use crate::{Answer, Refusal};
 
 /// What a request is answered.
-#[derive(Debug, Drop)]
+#[derive(Drop)]
 pub enum Reply {
     /// The command was accepted; its place in the history, from 1.
     Number { number: u64 },

@@ -3,14 +3,14 @@ use crate::{Command, Query};
 use reg_base::Bytes;
 
 /// What is asked of the registry.
-#[derive(Debug, Drop)]
+#[derive(Drop)]
 pub enum Op {
     Command(Command),
     Query(Query),
 }
 
 /// What is asked of the registry, and by whom.
-#[derive(Debug, Drop)]
+#[derive(Drop)]
 pub struct Request {
     /// The caller's text: a person's or the registry's own; any other is nobody's.
     pub by: Bytes,

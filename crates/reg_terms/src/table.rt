@@ -301,10 +301,20 @@ pub fn query_row(kind: QueryKind) -> Row
                 ("at", FieldKind::OptionalMoment),
             ],
         ),
-        QueryKind::Grants => op("grants", &[("object", FieldKind::Object)]),
+        QueryKind::Grants => op(
+            "grants",
+            &[
+                ("object", FieldKind::Object),
+                ("at", FieldKind::OptionalMoment),
+            ],
+        ),
         QueryKind::May => op(
             "may",
-            &[("object", FieldKind::Object), ("entity", FieldKind::Entity)],
+            &[
+                ("object", FieldKind::Object),
+                ("entity", FieldKind::Entity),
+                ("at", FieldKind::OptionalMoment),
+            ],
         ),
         QueryKind::History => op("history", &[("group", FieldKind::Name)]),
         QueryKind::Log => op(

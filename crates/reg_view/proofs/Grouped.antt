@@ -1,5 +1,5 @@
 -- The groups of a person over the facts are those that the view shows.
-use Rattle.std.proofs.Common.{Bor, ◌≡◌, ◌==◌, ◌&&◌, ◌<◌, ◌∷◌, ℕ, List, [], Bool, true, false, Option, Some, None, Result, Ok, Err, inl, inr, refl, sym, ap, ◌∙◌, map, filter, bytes_eq, arith}
+use Rattle.std.proofs.Common.{Bor, ◌≡◌, ◌==◌, ◌&&◌, ◌<◌, ◌∷◌, ℕ, List, [], Bool, true, false, Option, Some, None, Result, Ok, Err, inl, inr, refl, sym, ap, ◌∙◌, map, filter, bytes_eq, codes, arith}
 use Rattle.std.specs.Prelude.{if◌then◌else◌, is_some}
 use Rattle.std.specs.List.{AllByRecursion, list_any}
 use Rattle.std.specs.List.Sorted.{IsStrictlySortedBy}
@@ -34,7 +34,7 @@ use Rattle.reg_facts.specs.Sound.{AreTextsOnce, AscendFrom, IsSound, has_group}
 use Rattle.reg_effect.specs.declared.live.Live.{Live}
 use Rattle.reg_effect.specs.Member.{member}
 use Rattle.reg_priv.specs.declared.who.Who.{Who}
-use Rattle.reg_view.specs.Answers.{groups_at, groups_of, groups_where, no_person, readable_names}
+use Rattle.reg_view.specs.Answers.{groups_at, groups_of, groups_where, readable_names, unfit}
 use Rattle.reg_view.specs.Past.{Past, moment_of}
 use Rattle.reg_view.specs.Show as shown
 use Rattle.reg_view.specs.Show.{◌>>=◌, in_time, shown_groups}
@@ -232,10 +232,10 @@ module _ (past : Past) (L : Live) (f : Lists) (sound : IsSound f) (are : AreName
         person_agrees text at (subject_id text f.subjects) refl
         ∙ ap (λ b. (if b then Ok (entity.Person text) else Err (NotFound text)) >>= shows at) (sym (text_known text f.subjects))
     groups_agree (entity.Group name) at =
-        by_seen past (moment_of now at) L f sound are c now by name (λ (g : GroupSeen). no_person now at) (λ id. no_person now at) (λ row at there. refl)
+        by_seen past (moment_of now at) L f sound are c now by name (λ (g : GroupSeen). unfit (codes "subject") now at) (λ id. unfit (codes "subject") now at) (λ row at there. refl)
         ∙ sym (after_seen (shown.seen (view_at (moment_of now at)) name))
       where
-        after_seen : (r : Result GroupSeen Refusal) → ((r >>= (λ _. Ok (entity.Group name))) >>= shows at) ≡ (r >>= (λ _. no_person now at))
+        after_seen : (r : Result GroupSeen Refusal) → ((r >>= (λ _. Ok (entity.Group name))) >>= shows at) ≡ (r >>= (λ _. unfit (codes "subject") now at))
         after_seen (Ok g) = refl
         after_seen (Err e) = refl
     groups_agree entity.System at = refl

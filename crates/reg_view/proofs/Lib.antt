@@ -16,6 +16,7 @@ pub mod FolderLists
 pub mod Grouped
 pub mod HistoryRows
 pub mod Meaning
+pub mod Held
 pub mod Powers
 pub mod Shown
 pub mod Unnamed

@@ -41,6 +41,10 @@ none_gone_at p history now by q L f live_is facts_is h =
 pub now_is : (history : List Stamped) (now : ℕ) (L : Live) → L ≡ live now (facts history now) → (g s : ℕ) → (past history now).was now g s ≡ member L g s
 now_is history now L live_is g s = ap (λ l. member l g s) (sym live_is)
 
+-- what is live now are the rows of the present facts that are on
+pub live_is : (history : List Stamped) (now : ℕ) (L : Live) (f : Lists) → f ≡ facts history now → L ≡ live now (facts history now) → L ≡ live now f
+live_is history now L f facts_are lives = lives ∙ ap (λ g. live now g) (sym facts_are)
+
 -- what is shown tells nothing else
 pub tells_at : (v : View) (q : Query) (r : Result Answer Refusal) → r ≡ show v q → IfRefused (TellsOf v (names_of q)) r
 tells_at v q r is = subst (λ x. IfRefused (TellsOf v (names_of q)) x) (sym is) (show_says v q)

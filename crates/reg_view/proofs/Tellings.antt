@@ -10,7 +10,7 @@ use Rattle.reg_base.specs.declared.entity.Entity.TheVariants as entity
 use Rattle.reg_base.specs.declared.privilege.Privilege.{Privilege}
 use Rattle.reg_base.specs.declared.privilege.Privilege.TheVariants as privilege
 use Rattle.reg_terms.specs.declared.refusal.Refusal.{Refusal}
-use Rattle.reg_terms.specs.declared.refusal.Refusal.TheVariants.{NoCaller, NotFound, Future}
+use Rattle.reg_terms.specs.declared.refusal.Refusal.TheVariants.{NoCaller, NotFound, Future, WrongKind}
 use Rattle.reg_terms.specs.declared.query.Query.{Query}
 use Rattle.reg_terms.specs.declared.query.Query.TheVariants as query
 use Rattle.reg_terms.specs.declared.query.Answer.{Answer}
@@ -216,13 +216,16 @@ module _ (v : View) where
   told_says names a ADefinition = tt
   told_says names a (AnAttribute d) = tt
 
-  on_says : (names : List (List ℕ)) (o : Meant) → MeantSays names o → IfRefused (TellsOf v names) (shown.grants_on v o)
-  on_says names (Named name kind) says = admin_says names name kind (λ a. shown.grants_told a kind) says.0 says.1 (λ a. told_says names a kind)
-  on_says names ASubject says = root_says names v.is_root _ tt
-  on_says names Internal says = tt
+  timed_says : (names : List (List ℕ)) (at : Option ℕ) (told : Result Answer Refusal) → IfRefused (TellsOf v names) told → IfRefused (TellsOf v names) (shown.timed v at told)
+  timed_says names at told h = next (λ (u : ⊤). ⊤) (TellsOf v names) (shown.in_time v.now at) (λ _. told) (in_time_says names v.now at) (λ u t. h)
 
-  grants_says : (text : List ℕ) → IfRefused (TellsOf v (object_names text)) (shown.shown_grants v text)
-  grants_says text = next (MeantSays (object_names text)) (TellsOf v (object_names text)) (shown.object_seen v text) (shown.grants_on v) (object_says (object_names text) text (λ other h. h)) (on_says (object_names text))
+  on_says : (names : List (List ℕ)) (at : Option ℕ) (o : Meant) → MeantSays names o → IfRefused (TellsOf v names) (shown.grants_on v at o)
+  on_says names at (Named name kind) says = admin_says names name kind (λ a. shown.timed v at (shown.grants_told a kind)) says.0 says.1 (λ a. timed_says names at (shown.grants_told a kind) (told_says names a kind))
+  on_says names at ASubject says = root_says names v.is_root (shown.timed v at (Err (WrongKind (codes "object")))) (timed_says names at (Err (WrongKind (codes "object"))) tt)
+  on_says names at Internal says = timed_says names at (Err (WrongKind (codes "object"))) tt
+
+  grants_says : (text : List ℕ) (at : Option ℕ) → IfRefused (TellsOf v (object_names text)) (shown.shown_grants v text at)
+  grants_says text at = next (MeantSays (object_names text)) (TellsOf v (object_names text)) (shown.object_seen v text) (shown.grants_on v at) (object_says (object_names text) text (λ other h. h)) (on_says (object_names text) at)
 
   with_says : (names : List (List ℕ)) (e : Entity) → IfRefused (TellsOf v names) (shown.groups_with v e)
   with_says names (entity.Person text) = tt
@@ -235,10 +238,10 @@ module _ (v : View) where
       next (λ (x : Entity). AreThese (entity_names x) (entity_names e)) (TellsOf v (entity_names e)) (shown.entity_seen v e) (λ x. shown.in_time v.now at >>= (λ _. shown.groups_with v x)) (entity_says (entity_names e) e (λ other h. h)) (λ x h.
       next (λ (u : ⊤). ⊤) (TellsOf v (entity_names e)) (shown.in_time v.now at) (λ _. shown.groups_with v x) (in_time_says (entity_names e) v.now at) (λ u t. with_says (entity_names e) x))
 
-  own_says : (names : List (List ℕ)) (o : Meant) → MeantSays names o → IfRefused (TellsOf v names) (shown.own_told v o)
-  own_says names (Named name kind) says = next (λ (p : Powers). ⊤) (TellsOf v names) (found_or (named (λ (p : Powers). p.name) v.own name) (NotFound name)) _ (found_says (TellsOf v names) (named (λ (p : Powers). p.name) v.own name) (NotFound name) says.0) (λ p t. tt)
-  own_says names ASubject says = tt
-  own_says names Internal says = tt
+  own_says : (names : List (List ℕ)) (at : Option ℕ) (o : Meant) → MeantSays names o → IfRefused (TellsOf v names) (shown.own_told v at o)
+  own_says names at (Named name kind) says = next (λ (p : Powers). ⊤) (TellsOf v names) (found_or (named (λ (p : Powers). p.name) v.own name) (NotFound name)) (λ (p : Powers). shown.timed v at (Ok (answer.May p.privileges))) (found_says (TellsOf v names) (named (λ (p : Powers). p.name) v.own name) (NotFound name) says.0) (λ p t. timed_says names at (Ok (answer.May p.privileges)) tt)
+  own_says names at ASubject says = timed_says names at (Ok (answer.May [])) tt
+  own_says names at Internal says = timed_says names at (Err (WrongKind (codes "object"))) tt
 
   powers_says : (names : List (List ℕ)) (a : Administered) (e : Entity) → AreThese (entity_names e) names → IfRefused (TellsOf v names) (shown.powers_for a e)
   powers_says names a (entity.Person text) these = next (λ (p : Powers). ⊤) (TellsOf v names) (found_or (named (λ (p : Powers). p.name) a.persons text) (NotFound text)) _ (found_says (TellsOf v names) (named (λ (p : Powers). p.name) a.persons text) (NotFound text) (these text (first text []))) (λ p t. tt)
@@ -252,21 +255,21 @@ module _ (v : View) where
   nothing_says names entity.System = tt
   nothing_says names entity.Everyone = tt
 
-  other_says : (names : List (List ℕ)) (o : Meant) (e : Entity) → MeantSays names o → AreThese (entity_names e) names → IfRefused (TellsOf v names) (shown.other_told v o e)
-  other_says names (Named name kind) e says these = admin_says names name kind (λ a. shown.powers_for a e) says.0 says.1 (λ a. powers_says names a e these)
-  other_says names ASubject e says these = root_says names v.is_root (shown.nothing_for e) (nothing_says names e)
-  other_says names Internal e says these = tt
+  other_says : (names : List (List ℕ)) (at : Option ℕ) (o : Meant) (e : Entity) → MeantSays names o → AreThese (entity_names e) names → IfRefused (TellsOf v names) (shown.other_told v at o e)
+  other_says names at (Named name kind) e says these = admin_says names name kind (λ a. shown.timed v at (shown.powers_for a e)) says.0 says.1 (λ a. timed_says names at (shown.powers_for a e) (powers_says names a e these))
+  other_says names at ASubject e says these = root_says names v.is_root (shown.timed v at (shown.nothing_for e)) (timed_says names at (shown.nothing_for e) (nothing_says names e))
+  other_says names at Internal e says these = timed_says names at (Err (WrongKind (codes "object"))) tt
 
-  caller_says : (names : List (List ℕ)) (b : Bool) (o : Meant) (e : Entity) → MeantSays names o → AreThese (entity_names e) names → IfRefused (TellsOf v names) (if b then shown.own_told v o else shown.other_told v o e)
-  caller_says names true o e says these = own_says names o says
-  caller_says names false o e says these = other_says names o e says these
+  caller_says : (names : List (List ℕ)) (b : Bool) (at : Option ℕ) (o : Meant) (e : Entity) → MeantSays names o → AreThese (entity_names e) names → IfRefused (TellsOf v names) (if b then shown.own_told v at o else shown.other_told v at o e)
+  caller_says names true at o e says these = own_says names at o says
+  caller_says names false at o e says these = other_says names at o e says these
 
-  may_says : (text : List ℕ) (e : Entity) → IfRefused (TellsOf v (object_names text ++ entity_names e)) (shown.shown_may v text e)
-  may_says text e =
+  may_says : (text : List ℕ) (e : Entity) (at : Option ℕ) → IfRefused (TellsOf v (object_names text ++ entity_names e)) (shown.shown_may v text e at)
+  may_says text e at =
       let names = object_names text ++ entity_names e in
       next (MeantSays names) (TellsOf v names) (shown.object_seen v text) _ (object_says names text (λ other h. in_left other (object_names text) (entity_names e) h)) (λ o says.
-      next (λ (x : Entity). AreThese (entity_names x) names) (TellsOf v names) (shown.entity_seen v e) (λ x. if shown.is_caller v.caller x then shown.own_told v o else shown.other_told v o x) (entity_says names e (λ other h. in_right other (object_names text) (entity_names e) h)) (λ x these.
-      caller_says names (shown.is_caller v.caller x) o x says these))
+      next (λ (x : Entity). AreThese (entity_names x) names) (TellsOf v names) (shown.entity_seen v e) (λ x. if shown.is_caller v.caller x then shown.own_told v at o else shown.other_told v at o x) (entity_says names e (λ other h. in_right other (object_names text) (entity_names e) h)) (λ x these.
+      caller_says names (shown.is_caller v.caller x) at o x says these))
 
   -- ---- queries
 
@@ -276,8 +279,8 @@ module _ (v : View) where
   shown_says (query.Members group at) = members_say group at
   shown_says (query.Rows group) = read_says group (λ g. rows_answer g)
   shown_says (query.Groups subject at) = groups_says subject at
-  shown_says (query.Grants object) = grants_says object
-  shown_says (query.May object e) = may_says object e
+  shown_says (query.Grants object at) = grants_says object at
+  shown_says (query.May object e at) = may_says object e at
   shown_says (query.History group) = history_says group
   shown_says (query.Log consumer max) = log_says consumer max
 

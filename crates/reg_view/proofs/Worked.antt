@@ -1,12 +1,12 @@
--- Worked examples computed: a group with VIEW alone, one without, a privilege that a complement holds, and a move out of a scope.
-use Rattle.std.proofs.Common.{◌≡◌, ◌==◌, ◌&&◌, ℕ, Bool, Option, List, [], ◌∷◌, Result, Ok, Err, Some, None, codes, refl}
+-- Worked examples computed: a group with VIEW alone, one without, a privilege that a complement holds, a move out of a scope, the past of a group that is gone, and grants of the past.
+use Rattle.std.proofs.Common.{◌≡◌, ◌==◌, ◌&&◌, ℕ, Bool, false, Option, List, [], ◌∷◌, Result, Ok, Err, Some, None, codes, refl}
 use Rattle.std.specs.Prelude.{if◌then◌else◌, nat_le, nat_lt}
 use Rattle.reg_base.specs.Entities.{entity_of}
 use Rattle.reg_base.specs.NameParts.{extension_of, folder_of}
 use Rattle.reg_base.specs.declared.entity.Entity.TheVariants as entity
 use Rattle.reg_base.specs.declared.privilege.Privilege.TheVariants as privilege
 use Rattle.reg_terms.specs.declared.command.Command.{Command}
-use Rattle.reg_terms.specs.declared.command.Command.TheVariants.{FolderAdd, FolderMove, ConsumerAdd, GroupAdd, GroupDelete, SubjectAdd, MemberAdd, CompositeSet, GrantAdd, InheritAdd}
+use Rattle.reg_terms.specs.declared.command.Command.TheVariants.{FolderAdd, FolderMove, ConsumerAdd, GroupAdd, GroupDelete, SubjectAdd, MemberAdd, CompositeSet, GrantAdd, GrantRemove, InheritAdd}
 use Rattle.reg_terms.specs.declared.entry_kinds.EntryKind.TheVariants as kinds
 use Rattle.reg_terms.specs.declared.kinds.Holder.TheVariants as holder
 use Rattle.reg_terms.specs.declared.kinds.InheritKind.TheVariants as kind
@@ -38,7 +38,7 @@ after (c ∷ cs) f = after cs (edit 0 entity.System c f)
 
 -- a past in which all was as it is
 abbrev nothing_past : Lists → Past
-nothing_past f = record { was = λ t g s. member (live_of 0 f.rows f.composites) g s; spans = λ g s. []; lines = []; gone = []; last_name = λ o. [] }
+nothing_past f = record { facts = λ t. f; was = λ t g s. member (live_of 0 f.rows f.composites) g s; spans = λ g s. []; lines = []; gone = []; last_name = λ o. [] }
 
 -- what a caller is answered
 abbrev asks : Lists → List ℕ → Query → Result Answer Refusal
@@ -82,7 +82,7 @@ below_app = after (
     ∷ InheritAdd (codes "app") kind.Group Sub privilege.Update (entity.Person (codes "uni/bob")) ∷ []
     ) start
 
-pub may_below : asks below_app (codes "uni/bob") (query.May (codes "app:web:admins") (entity.Person (codes "uni/bob"))) ≡ Ok (answer.May (privilege.Update ∷ privilege.View ∷ privilege.Optin ∷ privilege.Optout ∷ []))
+pub may_below : asks below_app (codes "uni/bob") (query.May (codes "app:web:admins") (entity.Person (codes "uni/bob")) None) ≡ Ok (answer.May (privilege.Update ∷ privilege.View ∷ privilege.Optin ∷ privilege.Optout ∷ []))
 unfolding below_app events_of entity_of object_of resolve placed lies_in path extensions name_of rows_of member extension_of folder_of
 may_below = refl
 
@@ -111,6 +111,7 @@ without_g = after (GroupDelete (codes "g") ∷ ConsumerAdd (codes "c1") ∷ []) 
 
 abbrev with_past : Past
 with_past = record {
+  facts = λ t. if nat_lt t 9 then after_g else without_g;
   was = was_in;
   spans = was_when;
   lines = (record { at = 5; kind = kinds.RowAdd; object = Some (object.Group 1); entity = Some (holder.Person 1); number = 0 }) ∷ (record { at = 9; kind = kinds.GroupDelete; object = Some (object.Group 1); entity = None; number = 0 }) ∷ [];
@@ -156,3 +157,40 @@ log_of_one = refl
 pub log_for_others : asks_then (codes "uni/ann") None (query.Log (codes "c1") 1) ≡ Err (NotFound (codes "c1"))
 unfolding after_g without_g events_of entity_of resolve placed lies_in path extensions name_of rows_of member extension_of folder_of
 log_for_others = refl
+
+-- bob was the admin of g until 6, and from then on ann is
+pub by_bob : Lists
+by_bob = after (
+    SubjectAdd (entity.Person (codes "uni/ann")) [] ∷ SubjectAdd (entity.Person (codes "uni/bob")) [] ∷ GroupAdd (codes "g") []
+    ∷ GrantAdd (codes "g") privilege.View entity.Everyone ∷ GrantAdd (codes "g") privilege.Admin (entity.Person (codes "uni/bob")) ∷ []
+    ) start
+
+pub by_ann : Lists
+by_ann = after (GrantRemove (codes "g") privilege.Admin (entity.Person (codes "uni/bob")) ∷ GrantAdd (codes "g") privilege.Admin (entity.Person (codes "uni/ann")) ∷ []) by_bob
+
+abbrev grants_past : Past
+grants_past = record { facts = λ t. if nat_lt t 6 then by_bob else by_ann; was = λ t g s. false; spans = λ g s. []; lines = []; gone = []; last_name = λ o. [] }
+
+-- what a caller is answered at 10
+abbrev asks_of_grants : List ℕ → Option ℕ → Query → Result Answer Refusal
+asks_of_grants by at q = show (view_of grants_past (live_of 10 by_ann.rows by_ann.composites) by_ann 10 (moment_of 10 at) by) q
+
+-- the admin of now is told the grants of then
+pub grants_before : asks_of_grants (codes "uni/ann") (Some 5) (query.Grants (codes "g") (Some 5)) ≡ Ok (answer.Grants ((record { holder = codes "uni/bob"; privilege = privilege.Admin }) ∷ (record { holder = codes "g:isa/GrouperAll"; privilege = privilege.View }) ∷ []))
+unfolding by_bob by_ann events_of entity_of object_of resolve placed lies_in path extensions name_of rows_of member extension_of folder_of
+grants_before = refl
+
+-- and the admin of then is told nothing
+pub admin_before : asks_of_grants (codes "uni/bob") (Some 5) (query.Grants (codes "g") (Some 5)) ≡ Err (Denied (codes "g") (codes "ADMIN"))
+unfolding by_bob by_ann events_of entity_of object_of resolve placed lies_in path extensions name_of rows_of member extension_of folder_of
+admin_before = refl
+
+-- what bob could do at 5, and at 6
+pub could_before : asks_of_grants (codes "uni/ann") (Some 5) (query.May (codes "g") (entity.Person (codes "uni/bob")) (Some 5))
+    ≡ Ok (answer.May (privilege.Admin ∷ privilege.Update ∷ privilege.Read ∷ privilege.View ∷ privilege.Optin ∷ privilege.Optout ∷ privilege.GroupAttrRead ∷ privilege.GroupAttrUpdate ∷ []))
+unfolding by_bob by_ann events_of entity_of object_of resolve placed lies_in path extensions name_of rows_of member extension_of folder_of
+could_before = refl
+
+pub could_then : asks_of_grants (codes "uni/bob") (Some 6) (query.May (codes "g") (entity.Person (codes "uni/bob")) (Some 6)) ≡ Ok (answer.May (privilege.View ∷ []))
+unfolding by_bob by_ann events_of entity_of object_of resolve placed lies_in path extensions name_of rows_of member extension_of folder_of
+could_then = refl

@@ -4,6 +4,7 @@ use Rattle.std.specs.List.{list_any}
 use Rattle.reg_base.specs.Entities.{entity_of}
 use Rattle.reg_base.specs.declared.entity.Entity.{Entity}
 use Rattle.reg_base.specs.declared.entity.Entity.TheVariants as entity
+use Rattle.reg_base.specs.declared.privilege.Privilege.{Privilege}
 use Rattle.reg_base.specs.declared.privilege.Privilege.TheVariants as privilege
 use Rattle.reg_terms.specs.declared.changes_shown.SpanShown.{SpanShown}
 use Rattle.reg_terms.specs.declared.kinds.Member.TheVariants.{Person}
@@ -29,12 +30,13 @@ use Rattle.reg_facts.specs.Sound.{has_group}
 use Rattle.reg_effect.specs.declared.live.Live.{Live}
 use Rattle.reg_effect.specs.Member.{member}
 use Rattle.reg_priv.specs.declared.who.Who.{Who}
+use Rattle.reg_priv.specs.Grants.{Grant}
 use Rattle.reg_priv.specs.Holders.{holders}
 use Rattle.reg_priv.specs.May.{is_root, privileges_of, visible, who_of}
 use Rattle.reg_view.specs.Past.{Past, entry_shown, gone_id, history_of, span_shown}
 use Rattle.reg_view.specs.Show.{◌>>=◌, denied, found_or, in_time, root_denied, is_caller}
 use Rattle.reg_view.specs.Texts.{row_shown, composite_shown, grant_shown, definition_name, member_text}
-use Rattle.reg_view.specs.View.{is_admin, is_readable}
+use Rattle.reg_view.specs.View.{is_admin, is_readable, powers_at}
 
 -- ---- groups and folders
 
@@ -151,20 +153,20 @@ groups_at p L f now c s (Some at) = do
 abbrev pub groups_of_person : Past → Live → Lists → ℕ → Who → List ℕ → Option ℕ → Result Answer Refusal
 groups_of_person p L f now c text at = elim (subject_id text f.subjects) [ None ↦ Err (NotFound text) | Some s ↦ groups_at p L f now c s at ]
 
--- no person is asked of: a moment that is later than now is refused first
-abbrev pub no_person : ℕ → Option ℕ → Result Answer Refusal
-no_person now at = do
+-- a field names a thing of a kind that it can't be: a moment that is later than now is refused first
+abbrev pub unfit : List ℕ → ℕ → Option ℕ → Result Answer Refusal
+unfit field now at = do
   _ ← in_time now at
-  Err (WrongKind (codes "subject"))
+  Err (WrongKind field)
 
 -- the groups of which this entity is a member, now or at a moment
 abbrev pub groups_of : Past → Live → Lists → ℕ → Who → Entity → Option ℕ → Result Answer Refusal
 groups_of p L f now c (entity.Person text) at = groups_of_person p L f now c text at
 groups_of p L f now c (entity.Group name) at = do
   _ ← group_seen L f c name
-  no_person now at
-groups_of p L f now c entity.System at = no_person now at
-groups_of p L f now c entity.Everyone at = no_person now at
+  unfit (codes "subject") now at
+groups_of p L f now c entity.System at = unfit (codes "subject") now at
+groups_of p L f now c entity.Everyone at = unfit (codes "subject") now at
 
 -- ---- objects
 
@@ -194,52 +196,70 @@ not_admin f (object.Def a) = denied (name_of (object.Def a) f) privilege.AttrAdm
 not_admin f (object.Attr a) = denied (definition_of a f) privilege.AttrAdmin
 not_admin f (object.Subject s) = root_denied
 
+-- the grants on an object, now or at a moment
+abbrev pub grants_at : Past → Lists → Object → Option ℕ → List Grant
+grants_at p f o None = holders o f
+grants_at p f o (Some at) = holders o (p.facts at)
+
 -- the grants on an object, as they are shown
-abbrev pub all_grants : Lists → Object → Answer
-all_grants f o = answer.Grants (map (grant_shown f) (holders o f))
+abbrev pub all_grants : Past → Lists → ℕ → Object → Option ℕ → Result Answer Refusal
+all_grants p f now o at = do
+  _ ← in_time now at
+  Ok (answer.Grants (map (grant_shown p f) (grants_at p f o at)))
 
 -- what the admin of an object is told of its grants; none is written on an attribute or a subject
-abbrev pub grants_told : Lists → Object → Result Answer Refusal
-grants_told f (object.Folder d) = Ok (all_grants f (object.Folder d))
-grants_told f (object.Group g) = Ok (all_grants f (object.Group g))
-grants_told f (object.Def a) = Ok (all_grants f (object.Def a))
-grants_told f (object.Attr a) = Err (WrongKind (codes "object"))
-grants_told f (object.Subject s) = Err (WrongKind (codes "object"))
+abbrev pub grants_told : Past → Lists → ℕ → Object → Option ℕ → Result Answer Refusal
+grants_told p f now (object.Folder d) at = all_grants p f now (object.Folder d) at
+grants_told p f now (object.Group g) at = all_grants p f now (object.Group g) at
+grants_told p f now (object.Def a) at = all_grants p f now (object.Def a) at
+grants_told p f now (object.Attr a) at = unfit (codes "object") now at
+grants_told p f now (object.Subject s) at = unfit (codes "object") now at
 
 -- the grants on an object; an entity of the registry itself has none
-abbrev pub grants_on : Live → Lists → Who → Option Object → Result Answer Refusal
-grants_on L f c None = Err (WrongKind (codes "object"))
-grants_on L f c (Some o) = if is_admin L f c o then grants_told f o else Err (not_admin f o)
+abbrev pub grants_on : Past → Live → Lists → ℕ → Who → Option Object → Option ℕ → Result Answer Refusal
+grants_on p L f now c None at = unfit (codes "object") now at
+grants_on p L f now c (Some o) at = if is_admin L f c o then grants_told p f now o at else Err (not_admin f o)
 
--- the grants on what this text names
-abbrev pub grants_of : Live → Lists → Who → List ℕ → Result Answer Refusal
-grants_of L f c object = do
+-- the grants on what this text names, now or at a moment
+abbrev pub grants_of : Past → Live → Lists → ℕ → Who → List ℕ → Option ℕ → Result Answer Refusal
+grants_of p L f now c object at = do
   o ← object_found L f c object
-  grants_on L f c o
+  grants_on p L f now c o at
 
 -- ---- what someone may do
 
--- what someone may do with an object
-abbrev pub powers_told : Live → Lists → Option Who → Object → Result Answer Refusal
-powers_told L f None o = Err (WrongKind (codes "entity"))
-powers_told L f (Some who) o = Ok (answer.May (privileges_of L f who o))
+-- what someone may do with an object, now or at a moment
+abbrev pub privileges_at : Past → Live → Lists → Who → Object → Option ℕ → List Privilege
+privileges_at p L f who o None = privileges_of L f who o
+privileges_at p L f who o (Some at) = powers_at p f at who o
+
+-- and so it is told
+abbrev pub powers_of : Past → Live → Lists → ℕ → Who → Object → Option ℕ → Result Answer Refusal
+powers_of p L f now who o at = do
+  _ ← in_time now at
+  Ok (answer.May (privileges_at p L f who o at))
+
+-- what someone may do with an object, if it is one that may do something
+abbrev pub powers_told : Past → Live → Lists → ℕ → Option Who → Object → Option ℕ → Result Answer Refusal
+powers_told p L f now None o at = unfit (codes "entity") now at
+powers_told p L f now (Some who) o at = powers_of p L f now who o at
 
 -- what the caller itself may do with an object
-abbrev pub own_told : Live → Lists → Who → Option Object → Result Answer Refusal
-own_told L f c None = Err (WrongKind (codes "object"))
-own_told L f c (Some o) = powers_told L f (Some c) o
+abbrev pub own_told : Past → Live → Lists → ℕ → Who → Option Object → Option ℕ → Result Answer Refusal
+own_told p L f now c None at = unfit (codes "object") now at
+own_told p L f now c (Some o) at = powers_of p L f now c o at
 
 -- what another may do with an object
-abbrev pub other_told : Live → Lists → Who → Option Object → Entity → Result Answer Refusal
-other_told L f c None e = Err (WrongKind (codes "object"))
-other_told L f c (Some o) e = if is_admin L f c o then powers_told L f (who_of e f) o else Err (not_admin f o)
+abbrev pub other_told : Past → Live → Lists → ℕ → Who → Option Object → Entity → Option ℕ → Result Answer Refusal
+other_told p L f now c None e at = unfit (codes "object") now at
+other_told p L f now c (Some o) e at = if is_admin L f c o then powers_told p L f now (who_of e f) o at else Err (not_admin f o)
 
--- what an entity may do with what this text names
-abbrev pub may_of : Live → Lists → List ℕ → Who → List ℕ → Entity → Result Answer Refusal
-may_of L f by c object entity = do
+-- what an entity may do with what this text names, now or at a moment
+abbrev pub may_of : Past → Live → Lists → ℕ → List ℕ → Who → List ℕ → Entity → Option ℕ → Result Answer Refusal
+may_of p L f now by c object entity at = do
   o ← object_found L f c object
   _ ← entity_found L f c entity
-  if is_caller by entity then own_told L f c o else other_told L f c o entity
+  if is_caller by entity then own_told p L f now c o at else other_told p L f now c o entity at
 
 -- ---- the change log
 
@@ -266,7 +286,7 @@ answer_of p L f now by c (query.FolderList folder) = listing_of L f c folder
 answer_of p L f now by c (query.Members group at) = members_of p L f now c group at
 answer_of p L f now by c (query.Rows group) = rows_of_group L f c group
 answer_of p L f now by c (query.Groups subject at) = groups_of p L f now c subject at
-answer_of p L f now by c (query.Grants object) = grants_of L f c object
-answer_of p L f now by c (query.May object entity) = may_of L f by c object entity
+answer_of p L f now by c (query.Grants object at) = grants_of p L f now c object at
+answer_of p L f now by c (query.May object entity at) = may_of p L f now by c object entity at
 answer_of p L f now by c (query.History group) = history_told p L f c group
 answer_of p L f now by c (query.Log consumer max) = log_of p L f c consumer max

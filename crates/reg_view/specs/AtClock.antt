@@ -19,6 +19,8 @@ view history now at by = view_of (past history now) (live now (facts history now
 abbrev pub named_moment : Query → Option ℕ
 named_moment (query.Members group at) = at
 named_moment (query.Groups subject at) = at
+named_moment (query.Grants object at) = at
+named_moment (query.May object entity at) = at
 named_moment _ = None
 
 -- the moment that a query asks of

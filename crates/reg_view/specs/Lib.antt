@@ -1,5 +1,7 @@
-pub mod Texts
 pub mod Past
+pub mod Texts
+pub mod Held
+pub mod Powers
 pub mod View
 pub mod Show
 pub mod Answers

@@ -13,13 +13,17 @@ use Rattle.reg_log.specs.declared.entries.Line.{Line}
 use Rattle.reg_log.specs.Numbering.{numbered}
 use Rattle.reg_facts.specs.Lists.{Lists}
 use Rattle.reg_facts.specs.Members.{texts_where}
+use Rattle.reg_effect.specs.declared.live.Live.{Live}
+use Rattle.reg_machine.specs.History as given
 use Rattle.reg_machine.specs.History.{State}
+use Rattle.reg_machine.specs.Live.{live}
 use Rattle.reg_machine.specs.Past as machine
 
 -- ---- what is told
 
--- who was a member at a moment (of a group, a person), when a person was a member of a group, what was changed, the groups that went in the order in which they did, each with the name that it had then, and the name that an object has or had last
+-- the facts at a moment, who was a member then (of a group, a person), when a person was a member of a group, what was changed, the groups that went in the order in which they did, each with the name that it had then, and the name that an object has or had last
 pub record Past : Type 0 where
+  pub facts : ℕ → Lists
   pub was : ℕ → ℕ → ℕ → Bool
   pub spans : ℕ → ℕ → List (ℕ × Option ℕ)
   pub lines : List Line
@@ -29,6 +33,7 @@ pub record Past : Type 0 where
 -- what a history tells at a clock
 abbrev pub past : List Stamped → ℕ → Past
 past history now = record {
+  facts = given.facts history;
   was = machine.was_member history;
   spans = machine.spans history now;
   lines = machine.log history now;
@@ -39,6 +44,10 @@ past history now = record {
 -- what a state of the machine tells
 abbrev pub past_at : State → Past
 past_at s = past s.history s.clock
+
+-- what was live at a moment
+abbrev pub live_at : State → ℕ → Live
+live_at s t = live t (given.facts s.history t)
 
 -- the moment that is asked of: now where none is named, or a later one
 abbrev pub moment_of : ℕ → Option ℕ → ℕ

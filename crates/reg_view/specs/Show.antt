@@ -216,6 +216,12 @@ as_admin v name kind = found_or (named (λ (a : Administered). a.name) v.adminis
 abbrev pub as_root : View → Result Answer Refusal → Result Answer Refusal
 as_root v told = if v.is_root then told else Err root_denied
 
+-- this is told, unless the moment asked is later than now
+abbrev pub timed : View → Option ℕ → Result Answer Refusal → Result Answer Refusal
+timed v at told = do
+  _ ← in_time v.now at
+  told
+
 -- the grants on an object; none is written on an attribute
 abbrev pub grants_told : Administered → Kind → Result Answer Refusal
 grants_told a AFolder = Ok (answer.Grants a.grants)
@@ -223,21 +229,21 @@ grants_told a AGroup = Ok (answer.Grants a.grants)
 grants_told a ADefinition = Ok (answer.Grants a.grants)
 grants_told a (AnAttribute definition) = Err (WrongKind (codes "object"))
 
--- the grants on what is meant: its admin is told, and of a subject root
-abbrev pub grants_on : View → Meant → Result Answer Refusal
-grants_on v (Named name kind) = do
+-- the grants on what is meant, now or at a moment: its admin is told, and of a subject root
+abbrev pub grants_on : View → Option ℕ → Meant → Result Answer Refusal
+grants_on v at (Named name kind) = do
   a ← as_admin v name kind
-  grants_told a kind
-grants_on v ASubject = as_root v (Err (WrongKind (codes "object")))
-grants_on v Internal = Err (WrongKind (codes "object"))
+  timed v at (grants_told a kind)
+grants_on v at ASubject = as_root v (timed v at (Err (WrongKind (codes "object"))))
+grants_on v at Internal = timed v at (Err (WrongKind (codes "object")))
 
--- the grants on what this text names
-abbrev pub shown_grants : View → List ℕ → Result Answer Refusal
-shown_grants v object = do
+-- the grants on what this text names, now or at a moment
+abbrev pub shown_grants : View → List ℕ → Option ℕ → Result Answer Refusal
+shown_grants v object at = do
   o ← object_seen v object
-  grants_on v o
+  grants_on v at o
 
--- ---- what someone may do
+-- ---- what someone may do, now or at a moment
 
 -- an entity is the caller of this text
 abbrev pub is_caller : List ℕ → Entity → Bool
@@ -263,27 +269,27 @@ powers_for a entity.System = Ok (answer.May a.system)
 powers_for a entity.Everyone = Err (WrongKind (codes "entity"))
 
 -- what the caller itself may do with an object
-abbrev pub own_told : View → Meant → Result Answer Refusal
-own_told v (Named name kind) = do
+abbrev pub own_told : View → Option ℕ → Meant → Result Answer Refusal
+own_told v at (Named name kind) = do
   p ← found_or (named (λ (p : Powers). p.name) v.own name) (NotFound name)
-  Ok (answer.May p.privileges)
-own_told v ASubject = Ok (answer.May [])
-own_told v Internal = Err (WrongKind (codes "object"))
+  timed v at (Ok (answer.May p.privileges))
+own_told v at ASubject = timed v at (Ok (answer.May []))
+own_told v at Internal = timed v at (Err (WrongKind (codes "object")))
 
 -- what another may do with an object
-abbrev pub other_told : View → Meant → Entity → Result Answer Refusal
-other_told v (Named name kind) e = do
+abbrev pub other_told : View → Option ℕ → Meant → Entity → Result Answer Refusal
+other_told v at (Named name kind) e = do
   a ← as_admin v name kind
-  powers_for a e
-other_told v ASubject e = as_root v (nothing_for e)
-other_told v Internal e = Err (WrongKind (codes "object"))
+  timed v at (powers_for a e)
+other_told v at ASubject e = as_root v (timed v at (nothing_for e))
+other_told v at Internal e = timed v at (Err (WrongKind (codes "object")))
 
 -- what an entity may do with what this text names: the caller may ask it of itself, and the object's admin of anyone
-abbrev pub shown_may : View → List ℕ → Entity → Result Answer Refusal
-shown_may v object entity = do
+abbrev pub shown_may : View → List ℕ → Entity → Option ℕ → Result Answer Refusal
+shown_may v object entity at = do
   o ← object_seen v object
   e ← entity_seen v entity
-  if is_caller v.caller e then own_told v o else other_told v o e
+  if is_caller v.caller e then own_told v at o else other_told v at o e
 
 -- ---- the change log
 
@@ -302,8 +308,8 @@ shown v (query.FolderList folder) = shown_listing v folder
 shown v (query.Members group at) = shown_members v group at
 shown v (query.Rows group) = shown_rows v group
 shown v (query.Groups subject at) = shown_groups v subject at
-shown v (query.Grants object) = shown_grants v object
-shown v (query.May object entity) = shown_may v object entity
+shown v (query.Grants object at) = shown_grants v object at
+shown v (query.May object entity at) = shown_may v object entity at
 shown v (query.History group) = shown_history v group
 shown v (query.Log consumer max) = shown_log v consumer max
 

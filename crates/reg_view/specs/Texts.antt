@@ -1,9 +1,10 @@
 -- What is shown of rows, factors and holders: by texts.
-use Rattle.std.specs.Prelude.{ℕ, ◌==◌, ◌++◌, List, [], ◌∷◌, Option, None, Some, option_map, codes}
+use Rattle.std.specs.Prelude.{ℕ, ◌==◌, ◌++◌, List, [], Option, None, Some, option_map, codes, if◌then◌else◌}
 use Rattle.std.specs.List.{find}
 use Rattle.reg_facts.specs.Lists.{Lists}
 use Rattle.reg_facts.specs.Naming.{name_of}
-use Rattle.reg_facts.specs.Rows.{subject_row, attribute_row}
+use Rattle.reg_facts.specs.Rows.{subject_row}
+use Rattle.reg_facts.specs.Sound.{has_group}
 use Rattle.reg_terms.specs.declared.kinds.Member.{Member}
 use Rattle.reg_terms.specs.declared.kinds.Member.TheVariants.{Person, Group}
 use Rattle.reg_terms.specs.declared.kinds.Holder.{Holder}
@@ -11,23 +12,31 @@ use Rattle.reg_terms.specs.declared.kinds.Holder.TheVariants as holder
 use Rattle.reg_terms.specs.declared.kinds.Object.TheVariants as object
 use Rattle.reg_terms.specs.declared.rows.MemberRow.{MemberRow}
 use Rattle.reg_terms.specs.declared.rows.CompositeRow.{CompositeRow}
-use Rattle.reg_terms.specs.declared.rows.SubjectRow.{SubjectRow}
 use Rattle.reg_terms.specs.declared.rows.AttributeRow.{AttributeRow}
 use Rattle.reg_terms.specs.declared.shown.FactorsShown.{FactorsShown}
 use Rattle.reg_terms.specs.declared.shown.GrantShown.{GrantShown}
 use Rattle.reg_terms.specs.declared.shown.RowShown.{RowShown}
 use Rattle.reg_priv.specs.Grants.{Grant}
+use Rattle.reg_view.specs.Past.{Past}
 
 -- the text of a member: a person's, and a group's name behind `g:gsa/`
 abbrev pub member_text : Member → Lists → List ℕ
 member_text (Person s) f = elim (subject_row s f.subjects) [ None ↦ [] | Some row ↦ row.text ]
 member_text (Group g) f = codes "g:gsa/" ++ name_of (object.Group g) f
 
--- the text of a holder
-abbrev pub holder_text : Holder → Lists → List ℕ
-holder_text holder.Everyone f = codes "g:isa/GrouperAll"
-holder_text (holder.Person s) f = member_text (Person s) f
-holder_text (holder.Group g) f = member_text (Group g) f
+-- the name of a group that stands, and of one that is gone the one that it had last
+abbrev pub group_called : Past → Lists → ℕ → List ℕ
+group_called p f g = if has_group g f.groups then name_of (object.Group g) f else p.last_name (object.Group g)
+
+-- the text of a person, also of one that is gone
+abbrev pub person_called : Past → Lists → ℕ → List ℕ
+person_called p f s = elim (subject_row s f.subjects) [ None ↦ p.last_name (object.Subject s) | Some row ↦ row.text ]
+
+-- the text of a holder, also of one that is gone
+abbrev pub holder_text : Past → Lists → Holder → List ℕ
+holder_text p f holder.Everyone = codes "g:isa/GrouperAll"
+holder_text p f (holder.Person s) = person_called p f s
+holder_text p f (holder.Group g) = codes "g:gsa/" ++ group_called p f g
 
 -- an immediate membership as it is shown
 abbrev pub row_shown : Lists → MemberRow → RowShown
@@ -42,8 +51,8 @@ abbrev pub composite_shown : ℕ → Lists → Option FactorsShown
 composite_shown id f = option_map (factors_shown f) (find (λ (row : CompositeRow). row.group == id) f.composites)
 
 -- a grant as it is shown
-abbrev pub grant_shown : Lists → Grant → GrantShown
-grant_shown f g = record { holder = holder_text g.1 f; privilege = g.0 }
+abbrev pub grant_shown : Past → Lists → Grant → GrantShown
+grant_shown p f g = record { holder = holder_text p f g.1; privilege = g.0 }
 
 -- the name of the definition of an attribute
 abbrev pub definition_name : Lists → AttributeRow → List ℕ

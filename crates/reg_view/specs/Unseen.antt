@@ -28,8 +28,8 @@ AsksOf name (query.FolderList folder) = ⊥
 AsksOf name (query.Members group at) = group ≡ name
 AsksOf name (query.Rows group) = group ≡ name
 AsksOf name (query.Groups subject at) = IsGroup name subject
-AsksOf name (query.Grants text) = ⊥
-AsksOf name (query.May text e) = ⊥
+AsksOf name (query.Grants text at) = ⊥
+AsksOf name (query.May text e at) = ⊥
 AsksOf name (query.History group) = group ≡ name
 AsksOf name (query.Log consumer max) = ⊥
 

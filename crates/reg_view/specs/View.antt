@@ -22,8 +22,9 @@ use Rattle.reg_effect.specs.declared.live.Live.{Live}
 use Rattle.reg_priv.specs.declared.who.Who.{Who}
 use Rattle.reg_priv.specs.declared.who.Who.TheVariants as who
 use Rattle.reg_priv.specs.Holders.{holders}
-use Rattle.reg_priv.specs.May.{is_root, may, privileges_of, visible, who_of}
+use Rattle.reg_priv.specs.May.{is_root, may, visible, who_of}
 use Rattle.reg_view.specs.Past.{Past, GroupPast, group_past, log_shown}
+use Rattle.reg_view.specs.Powers.{powers_then}
 use Rattle.reg_view.specs.Texts.{row_shown, composite_shown, grant_shown, definition_name}
 
 -- ---- the record
@@ -60,7 +61,7 @@ pub record Powers : Type 0 where
   pub name : List ℕ
   pub privileges : List Privilege
 
--- an object whose admin the caller is: the grants on it, and what GrouperSystem and each person may do with it
+-- an object whose admin the caller is: the grants on it at the moment asked, and what GrouperSystem and each person could do with it then
 pub record Administered : Type 0 where
   pub name : List ℕ
   pub grants : List GrantShown
@@ -153,24 +154,28 @@ abbrev pub for_root : {A : Type 0} → Bool → List A → List A
 for_root true list = list
 for_root false list = []
 
--- what a person may do with an object
-abbrev pub person_powers : Live → Lists → Object → SubjectRow → Powers
-person_powers L f o row = record { name = row.text; privileges = privileges_of L f (who.Person row.id) o }
+-- what someone could do with an object at a moment
+abbrev pub powers_at : Past → Lists → ℕ → Who → Object → List Privilege
+powers_at p f at c o = powers_then f at (p.facts at) c o
 
--- an object, as its admin is told of it
-abbrev pub administered : Live → Lists → Object → Administered
-administered L f o = record {
+-- what a person could do with an object at a moment
+abbrev pub person_powers : Past → Lists → ℕ → Object → SubjectRow → Powers
+person_powers p f at o row = record { name = row.text; privileges = powers_at p f at (who.Person row.id) o }
+
+-- an object, as its admin is told of it: the grants on it at a moment, and who could do what then
+abbrev pub administered : Past → Lists → ℕ → Object → Administered
+administered p f at o = record {
   name = name_of o f;
-  grants = map (grant_shown f) (holders o f);
-  system = privileges_of L f who.System o;
-  persons = map (person_powers L f o) f.subjects;
+  grants = map (grant_shown p f) (holders o (p.facts at));
+  system = powers_at p f at who.System o;
+  persons = map (person_powers p f at o) f.subjects;
 }
 
--- what the caller itself may do with an object
-abbrev pub own_powers : Live → Lists → Who → Object → Powers
-own_powers L f c o = record { name = name_of o f; privileges = privileges_of L f c o }
+-- what the caller itself could do with an object at a moment
+abbrev pub own_powers : Past → Lists → ℕ → Who → Object → Powers
+own_powers p f at c o = record { name = name_of o f; privileges = powers_at p f at c o }
 
--- what a caller that stands may see, of the past what was at a moment: all is judged now
+-- what a caller that stands may see, of the past what was at a moment: whether it may see it is judged now
 abbrev pub seen_by : Past → Live → Lists → ℕ → ℕ → List ℕ → Who → View
 seen_by p L f now at by c = record {
   now = now;
@@ -183,8 +188,8 @@ seen_by p L f now at by c = record {
   definitions = shown_where definition_object (visible L f c) (λ (row : DefinitionRow). name_of (object.Def row.id) f) f.definitions;
   attributes = shown_where attribute_object (visible L f c) (attribute_seen f) f.attributes;
   readable = shown_where group_object (is_readable L f c) (group_read p f at) f.groups;
-  administered = shown_where (λ (o : Object). o) (is_admin L f c) (administered L f) (objects f);
-  own = shown_where (λ (o : Object). o) (visible L f c) (own_powers L f c) (objects f);
+  administered = shown_where (λ (o : Object). o) (is_admin L f c) (administered p f at) (objects f);
+  own = shown_where (λ (o : Object). o) (visible L f c) (own_powers p f at c) (objects f);
   consumers = for_root (is_root L f c) (map consumer_seen f.consumers);
   log = for_root (is_root L f c) (log_shown p);
   gone = for_root (is_root L f c) (map (group_gone p f at) p.gone);

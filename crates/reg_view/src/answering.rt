@@ -53,8 +53,10 @@ fn answer_of<K: Kept>(
         Query::Members { group, at } => members_of(alloc, machine, facts, kept, who, group, *at),
         Query::Rows { group } => rows_of_group(alloc, facts, kept, who, group),
         Query::Groups { subject, at } => groups_of(alloc, machine, facts, kept, who, subject, *at),
-        Query::Grants { object } => grants_of(alloc, facts, kept, who, object),
-        Query::May { object, entity } => may_of(alloc, facts, kept, by, who, object, entity),
+        Query::Grants { object, at } => grants_of(alloc, machine, facts, kept, who, object, *at),
+        Query::May { object, entity, at } => {
+            may_of(alloc, machine, facts, kept, by, who, object, entity, *at)
+        }
         Query::History { group } => history_told(alloc, machine, facts, kept, who, group),
         Query::Log { consumer, max } => log_of(alloc, machine, facts, kept, who, consumer, *max),
     }

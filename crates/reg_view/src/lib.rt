@@ -5,6 +5,7 @@ mod administering;
 mod allowing;
 mod answering;
 mod asking;
+mod earlier;
 mod finding;
 mod grouping;
 mod history;
@@ -18,4 +19,5 @@ mod texts;
 mod timing;
 
 pub use asking::ask;
+pub use earlier::law_powers;
 pub use reg_terms::{Answer, FactorsShown, Op, Query, Reply, Request, RowShown, RowsShown};

@@ -1,29 +1,20 @@
 // The groups of a person.
 ghost use Rattle.std.specs.Prelude.{◌≡◌, ◌≤◌, IfOk};
 ghost use Rattle.reg_effect.specs.Member.{member};
-ghost use Rattle.reg_facts.specs.Sound.{has_group};
-ghost use Rattle.reg_view.specs.Answers.{groups_at, groups_of, groups_of_person, groups_where, no_person, readable_names};
+ghost use Rattle.reg_view.specs.Answers.{groups_at, groups_of, groups_of_person, groups_where, readable_names};
 ghost use Rattle.reg_view.specs.Past.{past_at};
 
 use crate::Answer;
-use crate::refusing::{not_found, wrong_kind};
+use crate::refusing::not_found;
 use crate::seeing::group_seen;
-use crate::texts::object_name;
-use crate::timing::{in_time, not_later};
+use crate::texts::{has_group, object_name};
+use crate::timing::{not_later, unfit};
 use reg_base::{Entity, GroupId, Moment, Privilege, SubjectId, Text};
 use reg_effect::Kept;
 use reg_facts::{Facts, Object, Refusal, Texts};
 use reg_machine::Machine;
 use reg_priv::{Who, may};
 use std::alloc::{AllocError, Global};
-
-/// Whether a group stands.
-#[tactic(auto, using(crate::proofs::Grouped::found_stands))]
-fn has_group(facts: &Facts, id: GroupId) -> bool
-    ensures { result ≡ has_group id facts.now.groups }
-{
-    facts.group(id).is_some()
-}
 
 /// The names of those of these groups that stand and that the caller may read.
 fn readable_names<K: Kept>(
@@ -124,20 +115,6 @@ fn groups_of_person<K: Kept>(
     groups_at(alloc, machine, facts, kept, who, id, at)
 }
 
-/// No person is asked of: a moment that is later than now is refused first.
-fn no_person(
-    alloc: Global,
-    now: Moment,
-    at: Option<Moment>,
-) -> Result<Result<Answer, Refusal>, AllocError>
-    ensures { IfOk result (λ r. r ≡ no_person now at) }
-{
-    match in_time(now, at) {
-        Ok(()) => Ok(Err(wrong_kind(alloc, "subject")?)),
-        Err(refusal) => Ok(Err(refusal)),
-    }
-}
-
 /// The groups of which this entity is a member, now or at a moment, of those that the caller may
 /// read now.
 pub fn groups_of<K: Kept>(
@@ -154,9 +131,9 @@ pub fn groups_of<K: Kept>(
     match subject {
         Entity::Person(text) => groups_of_person(alloc, machine, facts, kept, who, text, at),
         Entity::Group(name) => match group_seen(alloc, facts, kept, who, name)? {
-            Ok(_) => no_person(alloc, machine.clock(), at),
+            Ok(_) => unfit(alloc, "subject", machine.clock(), at),
             Err(refusal) => Ok(Err(refusal)),
         },
-        Entity::System | Entity::Everyone => no_person(alloc, machine.clock(), at),
+        Entity::System | Entity::Everyone => unfit(alloc, "subject", machine.clock(), at),
     }
 }

@@ -3,7 +3,7 @@ use Rattle.reg_terms.specs.declared.refusal.Refusal.{Refusal}
 use Rattle.reg_terms.specs.declared.query.Answer.{Answer}
 use Rattle.reg_view.specs.Answers.{answer_of}
 use Rattle.reg_view.specs.Past.{past_at}
-use Rattle.reg_view.proofs.Moved.{now_is}
+use Rattle.reg_view.proofs.Moved.{live_is, now_is}
 use Rattle.reg_view.proofs.NotSeen.{unseen_is}
 use Rattle.reg_view.proofs.Shown.{caller_shown, if_ok}
 use Rattle.reg_view.proofs.answering.answer.Goals as goal
@@ -12,7 +12,8 @@ use Rattle.reg_view.proofs.answering.answer.Goals as goal
 pub returns-clause-shown : goal.returns-clause-shown
 returns-clause-shown g c = if_ok c.answer_of.result _ _ (λ (r : Result Answer Refusal) (h : r ≡ answer_of (past_at c.args.machine.now) (g.K.Kept.held c.args.kept.now) c.args.facts.now c.args.machine.now.clock c.args.by.now c.in-Some.who c.args.query.now).
     h ∙ caller_shown c.law_by_bytes.ensures.sorted c.law_by_bytes.ensures.same (past_at c.args.machine.now) (g.K.Kept.held c.args.kept.now) c.args.facts.now c.law_sound.ensures c.law_held.ensures c.law_names.ensures c.args.machine.now.clock c.args.by.now
-    (now_is c.args.machine.now.history c.args.machine.now.clock (g.K.Kept.held c.args.kept.now) c.requires.held) c.in-Some.who c.args.query.now (sym c.in_ok-caller.ensures ∙ c.in-Some.is)) c.answer_of.ensures
+    (now_is c.args.machine.now.history c.args.machine.now.clock (g.K.Kept.held c.args.kept.now) c.requires.held) (sym c.requires.here)
+    (live_is c.args.machine.now.history c.args.machine.now.clock (g.K.Kept.held c.args.kept.now) c.args.facts.now c.requires.here c.requires.held) c.in-Some.who c.args.query.now (sym c.in_ok-caller.ensures ∙ c.in-Some.is)) c.answer_of.ensures
 
 pub returns-clause-unseen : goal.returns-clause-unseen
 returns-clause-unseen g c = if_ok c.answer_of.result _ _ (λ (r : Result Answer Refusal) (h : r ≡ answer_of (past_at c.args.machine.now) (g.K.Kept.held c.args.kept.now) c.args.facts.now c.args.machine.now.clock c.args.by.now c.in-Some.who c.args.query.now) group asks unseen gone.

@@ -1,11 +1,12 @@
 use Rattle.reg_effect.specs.Member.{member}
+use Rattle.reg_facts.specs.Naming.{placed, resolve}
 use Rattle.reg_audit.specs.Lines.{log_of}
 use Rattle.reg_audit.specs.Lives.{life_of, gone_of, gone_name, gone_named}
 use Rattle.reg_audit.proofs.audit.Audit.start.Goals as goal
 
 -- without a step nothing is told, made, gone or noted
 pub returns : goal.returns
-unfolding log_of life_of gone_of gone_name gone_named member
+unfolding log_of life_of gone_of gone_name gone_named member resolve placed
 returns c = record {
   log = c.start.ensures.log;
   lives = c.start.ensures.lives;
@@ -14,5 +15,7 @@ returns c = record {
   named = c.start.ensures.named;
   places = c.start.ensures.places;
   members = λ t g s. c.start-2.ensures.members g s t;
+  granted = λ t o p h. c.start-2.ensures.grants o p h t;
+  noted_wheel = c.start-2.ensures.wheel;
   noted = c.start-2.ensures.last 0;
 }

@@ -10,10 +10,11 @@ loop-event-init g c = record {
       let len : c.args.events.len ≡ length c.args.events.items = search rules in
       omega (arith, same, len, c.into_iter-event-iterator.ensures.into_iter_gives.1);
   told = λ M h. h;
+  touches = λ f h. h;
 }
 
-pub carry-requires : goal.carry-requires
-carry-requires g c = left_holds c.loop-event.event-iterator.rest.items c.next.new.self.rest.items c.in-Some.event c.loop-event.current _ _ _ c.in-Some.ensures.steps.0 c.loop-event.invariant.left
+pub carry_told-requires : goal.carry_told-requires
+carry_told-requires g c = left_holds c.loop-event.event-iterator.rest.items c.next.new.self.rest.items c.in-Some.event c.loop-event.current _ _ _ c.in-Some.ensures.steps.0 c.loop-event.invariant.left
 
 pub loop-event-preserved : goal.loop-event-preserved
 loop-event-preserved g c = record {
@@ -22,6 +23,7 @@ loop-event-preserved g c = record {
       let split = ap length c.in-Some.ensures.steps.0 in
       omega (arith, split, c.in-Some.ensures.steps.1, c.loop-event.invariant.count);
   told = λ M h. c.in_ok-current.ensures.told M (c.loop-event.invariant.told M h);
+  touches = λ f h. c.in_ok-current.ensures.touches f (c.loop-event.invariant.touches f h);
 }
 
 pub returns-clause-happened : goal.returns-clause-happened

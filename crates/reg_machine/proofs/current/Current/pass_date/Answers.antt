@@ -1,9 +1,11 @@
-use Rattle.std.proofs.Common.{◌≡◌, ◌∙◌, List, ap, refl, arith}
+use Rattle.std.proofs.Common.{◌≡◌, ◌∙◌, List, ap, refl, subst, sym, arith}
 use Rattle.std.proofs.lemmas.Result.{IfOk-weaker}
 use Rattle.reg_terms.specs.declared.event.Event.{Event}
 use Rattle.reg_facts.specs.Events.{all_happened}
 use Rattle.reg_facts.specs.Lists.{Lists}
+use Rattle.reg_audit.specs.Touched.{KnowsTouched}
 use Rattle.reg_machine.specs.Dates.{without_ended}
+use Rattle.reg_machine.specs.Invariant.{Now}
 use Rattle.reg_machine.proofs.Beginning.{date_cost}
 use Rattle.reg_machine.proofs.DatesGone.{next_due}
 use Rattle.reg_machine.proofs.RowFound.{on_ok}
@@ -28,6 +30,10 @@ returns-clause-moved g c =
 
 pub returns-clause-told : goal.returns-clause-told
 returns-clause-told g c = IfOk-weaker c.begin.result _ _ (λ k told M h. told M (c.in_ok-current.ensures.told M h)) c.begin.ensures.told
+
+-- what begins there changes no facts
+pub returns-clause-touches : goal.returns-clause-touches
+returns-clause-touches g c = IfOk-weaker c.begin.result _ _ (λ k is f h. subst (λ (n : Now). KnowsTouched f n.facts c.carry_all.new.touched.items) (sym is) (c.in_ok-current.ensures.touches f h)) c.begin.ensures.moved
 
 -- the steps of the date
 pub returns-clause-cost : goal.returns-clause-cost

@@ -1,0 +1,104 @@
+-- Grants and the wheel group, as a step leaves them.
+use Rattle.std.proofs.Common.{◌≡◌, ◌≤◌, ◌<◌, ◌+◌, ◌++◌, ◌||◌, ◌&&◌, ℕ, List, [], ◌∷◌, Bool, true, false, Option, Some, length, drop, get_or, nat_le, if◌then◌else◌, arith, refl, sym, ap, ◌∙◌, inl, inr}
+use Rattle.std.proofs.lemmas.Bool.{cases_Bool}
+use Rattle.std.proofs.lemmas.Bool.Decides.{nat_tests}
+use Rattle.std.proofs.lemmas.List.{drop_more}
+use Rattle.reg_base.specs.declared.privilege.Privilege.{Privilege}
+use Rattle.reg_terms.specs.Kinds.{same_object}
+use Rattle.reg_terms.specs.declared.kinds.Object.{Object}
+use Rattle.reg_terms.specs.declared.kinds.Holder.{Holder}
+use Rattle.reg_facts.specs.Lists.{Lists}
+use Rattle.reg_facts.proofs.Places.{same_is}
+use Rattle.reg_pit.specs.Grants.{has_grant}
+use Rattle.reg_pit.specs.Past.{was_granted, wheel_at, NotedBy}
+use Rattle.reg_pit.specs.declared.past.Past.{Past}
+use Rattle.reg_priv.specs.Grants.{grants}
+use Rattle.reg_priv.specs.May.{wheel}
+use Rattle.reg_priv.specs.Touched.{is_listed}
+use Rattle.reg_audit.specs.Audit.{IsAudit}
+use Rattle.reg_audit.specs.Steps.{Step, FollowsOn, last_by, facts_of, facts_by}
+use Rattle.reg_audit.specs.Touched.{KnowsTouched}
+use Rattle.reg_audit.specs.declared.audit.Audit.{Audit}
+use Rattle.reg_audit.proofs.Stepping.{all_seen, last_by_more}
+
+-- ---- one object more
+
+one_more : (s listed le has new old : Bool) → new ≡ (if s && le then has else old) → (if listed && le then has else new) ≡ (if (s || listed) && le then has else old)
+one_more true true true has new old e = refl
+one_more true true false has new old e = e
+one_more true false true has new old e = e
+one_more true false false has new old e = e
+one_more false true true has new old e = refl
+one_more false true false has new old e = e
+one_more false false le has new old e = e
+
+turned_object : (a b : Object) → same_object a b ≡ same_object b a
+turned_object a b = elim (cases_Bool (same_object a b)) [
+  | inl y ↦ rw (same_is a b y) refl
+  | inr n ↦ elim (cases_Bool (same_object b a)) [
+    | inl y ↦ rw (same_is b a y) refl
+    | inr m ↦ n ∙ sym m
+  ]
+]
+
+-- what is noted of the object is said of one that is it
+of_it : (f : Lists) (x o : Object) (p : Privilege) (h : Holder) (le old : Bool) → (if same_object o x && le then has_grant (grants x f) p h else old) ≡ (if same_object x o && le then has_grant (grants o f) p h else old)
+of_it f x o p h le old = elim (cases_Bool (same_object x o)) [
+  | inl y ↦ rw (same_is x o y) refl
+  | inr n ↦ rw (turned_object o x, n) refl
+]
+
+pub object_noted : (f : Lists) (touched : List Object) (i : ℕ) (x o : Object) (p : Privilege) (h : Holder) (at t : ℕ) (new old : Bool) → i < length touched → x ≡ get_or touched i x → new ≡ (if same_object o x && nat_le at t then has_grant (grants x f) p h else old)
+    → (if is_listed o (drop (i + 1) touched) && nat_le at t then has_grant (grants o f) p h else new) ≡ (if is_listed o (drop i touched) && nat_le at t then has_grant (grants o f) p h else old)
+object_noted f touched i x o p h at t new old w is e =
+    let left : drop i touched ≡ x ∷ drop (i + 1) touched = drop_more touched i x w ∙ ap (λ y. y ∷ drop (i + 1) touched) (sym is) in
+    rw left (one_more (same_object x o) (is_listed o (drop (i + 1) touched)) (nat_le at t) (has_grant (grants o f) p h) new old (e ∙ of_it f x o p h (nat_le at t) old))
+
+-- ---- the wheel group that was noted last
+
+pub wheel_stays : (past : Past) (group : Option ℕ) (at t : ℕ) → ((a u : ℕ) → a ≤ u → NotedBy a past → wheel_at past u ≡ wheel_at past a) → NotedBy at past → wheel_at past at ≡ group → wheel_at past t ≡ (if nat_le at t then group else wheel_at past t)
+wheel_stays past group at t stays noted e = elim (cases_Bool (nat_le at t)) [
+  | inl y ↦
+      let w : at ≤ t = grind (arith, nat_tests, y) in
+      rw y (stays at t w noted ∙ e)
+  | inr n ↦ rw n refl
+]
+
+-- ---- a step more
+
+facts_then : (t : ℕ) (steps : List Step) (step : Step) → nat_le step.at t ≡ true → facts_by t (steps ++ step ∷ []) ≡ step.after
+facts_then t steps step y =
+    let last : last_by t (steps ++ step ∷ []) ≡ Some step = last_by_more t steps step ∙ rw y refl in
+    ap facts_of last
+
+facts_still : (t : ℕ) (steps : List Step) (step : Step) → nat_le step.at t ≡ false → facts_by t (steps ++ step ∷ []) ≡ facts_by t steps
+facts_still t steps step n =
+    let last : last_by t (steps ++ step ∷ []) ≡ last_by t steps = last_by_more t steps step ∙ rw n refl in
+    ap facts_of last
+
+-- at a moment from the step on, the facts before it are those after the last one
+facts_before : (t : ℕ) (steps : List Step) (step : Step) → FollowsOn steps step → step.at ≤ t → facts_by t steps ≡ step.before
+facts_before t steps step f w = ap facts_of (all_seen t steps (omega (arith, f.later, w))) ∙ sym f.before
+
+module _ (steps : List Step) (step : Step) (audit new : Audit) (h : IsAudit steps audit) (f : FollowsOn steps step) where
+  pub granted_more : (touched : List Object) (t : ℕ) (o : Object) (p : Privilege) (j : Holder) → KnowsTouched step.before step.after touched
+      → was_granted new.past o p j t ≡ (if is_listed o touched && nat_le step.at t then has_grant (grants o step.after) p j else was_granted audit.past o p j t)
+      → was_granted new.past o p j t ≡ has_grant (grants o (facts_by t (steps ++ step ∷ []))) p j
+  granted_more touched t o p j knows noted = elim (cases_Bool (nat_le step.at t)) [
+    | inl y ↦
+        let w : step.at ≤ t = grind (arith, nat_tests, y) in
+        noted ∙ (elim (cases_Bool (is_listed o touched)) [
+          | inl l ↦ rw (l, y, facts_then t steps step y) refl
+          | inr l ↦ rw (l, facts_then t steps step y, knows o l) (h.granted t o p j ∙ ap (λ (g : Lists). has_grant (grants o g) p j) (facts_before t steps step f w))
+        ])
+    | inr n ↦ noted ∙ (elim (cases_Bool (is_listed o touched)) [
+      | inl l ↦ rw (l, n, facts_still t steps step n) (h.granted t o p j)
+      | inr l ↦ rw (l, facts_still t steps step n) (h.granted t o p j)
+    ])
+  ]
+
+  pub wheel_more : (t : ℕ) → wheel_at new.past t ≡ (if nat_le step.at t then wheel step.after else wheel_at audit.past t) → wheel_at new.past t ≡ wheel (facts_by t (steps ++ step ∷ []))
+  wheel_more t noted = elim (cases_Bool (nat_le step.at t)) [
+    | inl y ↦ noted ∙ rw (y, facts_then t steps step y) refl
+    | inr n ↦ noted ∙ rw (n, facts_still t steps step n) (h.noted_wheel t)
+  ]
