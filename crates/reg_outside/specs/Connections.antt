@@ -56,10 +56,11 @@ pub record ConnState : Type 0 where
 abbrev pub seen_in_memory : ConnState → Seen
 seen_in_memory c = record { left = Some c.pieces.left; written = Some c.written; read_faults = c.calls.faults; write_faults = c.calls.faults }
 
--- A listener in memory: its port, its connections, and the calls.
+-- A listener in memory: its port, the connections still to come, how many are accepted and not given back, those given
+-- back, and the calls.
 pub record ListenerState : Type 0 where
   pub port : Option ℕ
   pub coming : List ConnState
-  pub accepted : ℕ
+  pub not_back : ℕ
   pub given_back : List ConnState
   pub calls : Calls

@@ -45,6 +45,9 @@ pub trait Listener {
     /// How often a call has failed.
     ghost listener_faults: { Self → ℕ };
 
+    /// No more connections were given back than accepted.
+    ghost back_at_most: { (listener : Self) → IfSome (connections listener) (λ told. length told.given_back ≤ told.accepted) };
+
     /// Listens on a port. `Failed` comes only where the count of faults rose.
     fn listen(&mut self, port: u16) -> Result<(), Failed>
         ensures port { OnOk result (listens self.new ≡ Some port) }

@@ -152,13 +152,14 @@ impl Connection for MemoryConn {
 
 /// A listener in memory, for tests. It gives its connections in order, and then none. Chosen calls
 /// fail; all its calls are counted together. Contracts see its port, the connections still to come,
-/// how many were accepted, those given back, and the calls.
+/// how many are accepted and not given back, those given back, and the calls.
 #[derive(Drop)]
 pub struct MemoryListener {
     port: Option<u16>,
     /// The next one stands last.
     coming: Vec<MemoryConn>,
-    accepted: usize,
+    /// How many are accepted and not given back.
+    not_back: usize,
     closed: Vec<MemoryConn>,
     calls: Calls,
 }
@@ -172,12 +173,12 @@ impl Model for MemoryListener {
     ghost view = { λ s. record {
       port = s.port;
       coming = reverse s.coming.items;
-      accepted = s.accepted;
+      not_back = s.not_back;
       given_back = s.closed.items;
       calls = s.calls;
     } };
 
-    ghost invariant = { λ s. s.accepted + vec_len s.coming ≤ vec_capacity s.closed };
+    ghost invariant = { λ s. vec_len s.closed + s.not_back + vec_len s.coming ≤ vec_capacity s.closed };
 }
 
 impl MemoryListener {
@@ -191,7 +192,7 @@ impl MemoryListener {
         ensures { IfOk result (λ l. l ≡ record {
           port = None;
           coming = conns.items;
-          accepted = 0;
+          not_back = 0;
           given_back = [];
           calls = no_calls fail.items;
         }) }
@@ -202,7 +203,7 @@ impl MemoryListener {
         Ok(MemoryListener {
             port: None,
             coming,
-            accepted: 0,
+            not_back: 0,
             closed,
             calls: Calls::new(fail),
         })
@@ -217,17 +218,22 @@ impl MemoryListener {
 }
 
 impl Listener for MemoryListener {
+    ghost use Rattle.std.proofs.Common.{arith};
+    ghost use Rattle.std.proofs.lemmas.List.{length-map};
+
     type Conn = MemoryConn;
 
     ghost listens = { λ s. s.port };
 
     ghost connections = { λ s. Some (record {
       coming = map seen_in_memory s.coming;
-      accepted = s.accepted;
+      accepted = length s.given_back + s.not_back;
       given_back = map seen_in_memory s.given_back;
     }) };
 
     ghost listener_faults = { λ s. s.calls.faults };
+
+    ghost back_at_most = { λ s. Prim.omega (arith, length-map s.given_back seen_in_memory) };
 
     fn listen(&mut self, port: u16) -> Result<(), Failed> {
         if self.calls.next().is_err() {
@@ -243,7 +249,7 @@ impl Listener for MemoryListener {
         }
         match self.coming.pop() {
             Some(conn) => {
-                self.accepted += 1;
+                self.not_back += 1;
                 Ok(Some(conn))
             }
             None => Ok(None),
@@ -252,6 +258,7 @@ impl Listener for MemoryListener {
 
     fn close(&mut self, conn: MemoryConn) -> Result<(), Failed> {
         let called = self.calls.next();
+        self.not_back -= 1;
         match self.closed.push(conn) {
             Ok(()) => called,
             // there is room for all that were accepted

@@ -149,6 +149,8 @@ impl<R: Net<Listener = TcpListener, Stream = TcpStream>> Listener for TcpPort<'_
 
     ghost listener_faults = { λ p. p.faults };
 
+    ghost back_at_most = { λ p. tt };
+
     fn listen(&mut self, port: u16) -> Result<(), Failed> {
         let address = SocketAddr::V4(SocketAddrV4::new(Ipv4Addr::LOCALHOST, port));
         match TcpListener::bind(self.rt, address) {

@@ -24,8 +24,8 @@ use Rattle.reg_session.specs.declared.stop.Stop.{Stop}
 use Rattle.reg_session.specs.declared.stop.Stop.TheVariants as stop
 use Rattle.reg_run.specs.Status.{status_of}
 use Rattle.reg_run.specs.Crash.{Seen, DiskSurvives, IsWhole}
-use Rattle.reg_run.specs.Ends.{Asked, IsFlushed, Printed, ApplyEnds, DidApply, AskEnds, RepliedFront, TooMuchExactly, begins_at, end_of_reply, end_of_stop, is_refused}
-use Rattle.reg_run.specs.World.{World, Out, output}
+use Rattle.reg_run.specs.Ends.{Asked, Printed, ApplyEnds, DidApply, AskEnds, RepliedFront, TooMuchExactly, begins_at, end_of_reply, end_of_stop, is_refused}
+use Rattle.reg_run.specs.World.{World, Out, IsFlushed, SameNet, output}
 use Rattle.reg_run.specs.declared.status.End.{End}
 use Rattle.reg_run.specs.declared.status.End.TheVariants as the_end
 
@@ -106,20 +106,23 @@ pub asked_ends : (reading : Result Request Refusal) (end : End) (before after : 
 asked_ends reading end before after s query a = ask_ends reading end before after s a.at a.told query a.moment a.turn a.printed
 
 -- where the input ended, failed or was too much, all that was accepted was answered
-three : IsWhole 3 → ⊥
+pub three : IsWhole 3 → ⊥
 three (inl e) = absurd (omega arith)
 three (inr (inl e)) = absurd (omega arith)
-three (inr (inr e)) = absurd (omega arith)
+three (inr (inr (inl e))) = absurd (omega arith)
+three (inr (inr (inr e))) = absurd (omega arith)
 
-four : IsWhole 4 → ⊥
+pub four : IsWhole 4 → ⊥
 four (inl e) = absurd (omega arith)
 four (inr (inl e)) = absurd (omega arith)
-four (inr (inr e)) = absurd (omega arith)
+four (inr (inr (inl e))) = absurd (omega arith)
+four (inr (inr (inr e))) = absurd (omega arith)
 
 six : IsWhole 6 → ⊥
 six (inl e) = absurd (omega arith)
 six (inr (inl e)) = absurd (omega arith)
-six (inr (inr e)) = absurd (omega arith)
+six (inr (inr (inl e))) = absurd (omega arith)
+six (inr (inr (inr e))) = absurd (omega arith)
 
 stop_whole : (s : Stop) (p : Point) (taken : List ℕ) (left w : Option (List ℕ)) (f : Option ℕ) (answered after : List Stamped) → EndsInput p taken left w f answered after s
     → IsWhole (status_of (end_of_stop s)) → answered ≡ after
@@ -172,6 +175,7 @@ too_much_of the_end.Output from taken before after accepted answered input e = r
   where_given = λ none. absurd (none.output e.0);
 }
 too_much_of (the_end.Damaged at) from taken before after accepted answered input e = elim e [ ]
+too_much_of the_end.Listener from taken before after accepted answered input e = elim e [ ]
 too_much_of the_end.TooMuch from taken before after accepted answered input e = record {
   only = λ is. e.2;
   where_taken = λ none is. inl refl;
@@ -182,9 +186,9 @@ too_much_of the_end.Refused from taken before after accepted answered input e = 
 
 -- what `apply` did, from how it ended and what it left
 pub did_apply : (d : Seen) (end : End) (before after : World) (from : State) (taken : List ℕ) → Takes before.left taken after.left → length taken ≤ 2 ^ 32 → IsCutAtLineFeeds (lines taken) taken
-    → (accepted : List Stamped) (answered : ℕ) → ApplyEnds end from taken before after accepted (from.history ++ take answered accepted) → DiskSurvives d from.history accepted answered (status_of end)
+    → (accepted : List Stamped) (answered : ℕ) → SameNet before after → ApplyEnds end from taken before after accepted (from.history ++ take answered accepted) → DiskSurvives d from.history accepted answered (status_of end)
     → DidApply d end before after from
-did_apply d end before after from taken input few cut accepted answered ends disk = record {
+did_apply d end before after from taken input few cut accepted answered net ends disk = record {
   taken = taken;
   input = input;
   few = few;
@@ -193,5 +197,6 @@ did_apply d end before after from taken input few cut accepted answered ends dis
   answered = answered;
   ends = ends;
   too_much = too_much_of end from taken before after accepted (from.history ++ take answered accepted) input ends;
+  net = net;
   disk = disk;
 }

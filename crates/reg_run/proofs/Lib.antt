@@ -3,4 +3,5 @@ pub mod Crashing
 pub mod Ending
 pub mod Naming
 pub mod Opened
+pub mod Serving
 pub mod Usage

@@ -18,6 +18,7 @@ status_two the_end.Disk e = absurd (omega arith)
 status_two the_end.Input e = absurd (omega arith)
 status_two the_end.Output e = absurd (omega arith)
 status_two (the_end.Damaged at) e = absurd (omega arith)
+status_two the_end.Listener e = absurd (omega arith)
 status_two the_end.TooMuch e = absurd (omega arith)
 status_two the_end.Exists e = absurd (omega arith)
 status_two the_end.Refused e = absurd (omega arith)
@@ -32,6 +33,8 @@ task_is_use : (d : Seen) (t : Task) (before after : World) → Did d t the_end.U
 task_is_use d task.Init before after did = did.ends
 task_is_use d task.Apply before after (inl not) = not.cause
 task_is_use d task.Apply before after (inr p) = p.2.ends
+task_is_use d (task.Serve port connections) before after (inl not) = not.cause
+task_is_use d (task.Serve port connections) before after (inr p) = p.2.ends
 task_is_use d task.Check before after (inl not) = not.cause
 task_is_use d task.Check before after (inr p) = print_is_use _ _ _ p.2.printed
 task_is_use d (task.Ask question) before after (inl not) = not.cause

@@ -1,11 +1,15 @@
 -- What a crash leaves of the disk: at any moment of a run, and after it.
-use Rattle.std.specs.Prelude.{◌≡◌, ◌⊎◌, ◌≤◌, ◌+◌, ℕ, List, [], ◌∷◌, ◌++◌, length, take, Option, Ok, Err, IfSome, true}
+use Rattle.std.specs.Prelude.{◌≡◌, ◌⊎◌, ◌≤◌, ◌+◌, ℕ, List, [], ◌∷◌, ◌++◌, length, take, Option, Result, Ok, Err, IfSome, true}
 use Rattle.reg_terms.specs.declared.command.Stamped.{Stamped}
 use Rattle.reg_machine.specs.History.{State, start}
 use Rattle.reg_outside.specs.declared.disk.Disk.{Ghosts}
 use Rattle.reg_keep.specs.Begin.{is_taken}
 use Rattle.reg_keep.specs.Frames.{payloads_in}
 use Rattle.reg_service.specs.Opening.{opens, at_last}
+
+-- the file opens to this, where it is told
+abbrev pub OpensTo : Option (List ℕ) → Result State ℕ → Type 0
+OpensTo held r = IfSome held (λ file. opens file ≡ r)
 
 -- the file has the payloads, or the damage, that one of these images had
 abbrev pub AsBefore : (List ℕ → Type 0) → List ℕ → Type 0
@@ -25,9 +29,9 @@ pub record IsSound (held : Option (List ℕ)) (images : List ℕ → Type 0) (hi
   pub bytes : IfSome held (λ file. opens file ≡ Ok (at_last history))
   pub near : (c : List ℕ) → images c → (other : List Stamped) × IsNear history other × (opens c ≡ Ok (at_last other))
 
--- a run ended at its input's end, or where that failed or there was too much of it: at status 0, 5 or 9
+-- a run ended at its input's end, or where that or the listener failed or there was too much input: at status 0, 5, 8 or 9
 abbrev pub IsWhole : ℕ → Type 0
-IsWhole status = (status ≡ 0) ⊎ ((status ≡ 5) ⊎ (status ≡ 9))
+IsWhole status = (status ≡ 0) ⊎ ((status ≡ 5) ⊎ ((status ≡ 8) ⊎ (status ≡ 9)))
 
 -- What a run leaves that began at a history, accepted these commands after it, and answered all of them but perhaps the
 -- last. Its disk held these bytes and might leave these images before, and does those now.
@@ -39,7 +43,7 @@ pub record Survives (before accepted : List Stamped) (answered status : ℕ) (he
   pub now : (c : List ℕ) → images c → OpensWith before accepted answered c
   -- and so do the bytes
   pub bytes : IfSome left (OpensWith before accepted answered)
-  -- at status 0, 5 and 9 it leaves all that were accepted
+  -- at status 0, 5, 8 and 9 it leaves all that were accepted
   pub done : IsWhole status → (c : List ℕ) → images c → opens c ≡ Ok (at_last (before ++ accepted))
   -- and so do the bytes
   pub whole : IsWhole status → IfSome left (λ file. opens file ≡ Ok (at_last (before ++ accepted)))

@@ -2,7 +2,7 @@
 use Rattle.std.specs.Prelude.{◌≡◌, ◌⊎◌, ◌<◌, ◌≤◌, ◌^◌, ◌++◌, ℕ, List, [], Bool, true, false, Option, Some, None, Result, Ok, Err, length, take, option_map, IfSome}
 use Rattle.std.specs.Io.KnownBytes.{append_known, IsAtEnd}
 use Rattle.reg_outside.specs.Faults.{Rose}
-use Rattle.reg_outside.specs.Streams.{first_moment, later_moments, WritesFront}
+use Rattle.reg_outside.specs.Streams.{first_moment, WritesFront}
 use Rattle.reg_outside.specs.declared.disk.Disk.{Ghosts}
 use Rattle.reg_terms.specs.declared.command.Stamped.{Stamped}
 use Rattle.reg_terms.specs.declared.refusal.Refusal.{Refusal}
@@ -14,7 +14,7 @@ use Rattle.reg_keep.specs.Begin.{is_taken}
 use Rattle.reg_keep.specs.Frames.{journal_bytes}
 use Rattle.reg_keep.specs.declared.open.OpenFault.{OpenFault}
 use Rattle.reg_keep.specs.declared.open.OpenFault.TheVariants as fault
-use Rattle.reg_service.specs.Opening.{opens, at_last}
+use Rattle.reg_service.specs.Opening.{at_last}
 use Rattle.reg_service.specs.Turn.{turn}
 use Rattle.reg_session.specs.Lines.{lines, IsCutAtLineFeeds}
 use Rattle.reg_session.specs.Replies.{line_of}
@@ -22,38 +22,15 @@ use Rattle.reg_session.specs.Answered.{Point, Accepted}
 use Rattle.reg_session.specs.Input.{Takes, EndsInput}
 use Rattle.reg_session.specs.declared.stop.Stop.{Stop}
 use Rattle.reg_session.specs.declared.stop.Stop.TheVariants as stop
-use Rattle.reg_run.specs.Crash.{Seen, seen, IsUntouched, DiskSurvives, DiskBegins}
+use Rattle.reg_run.specs.Crash.{Seen, seen, OpensTo, IsUntouched, DiskSurvives, DiskBegins}
 use Rattle.reg_run.specs.Status.{check_line, status_of}
-use Rattle.reg_run.specs.World.{World, Out, output}
+use Rattle.reg_run.specs.Serving.{DidServe}
+use Rattle.reg_run.specs.World.{World, Out, IsFlushed, LookedOnce, SameClock, SameInput, SameNet, SameOutput, output}
 use Rattle.reg_run.specs.Questions.{asked_by}
 use Rattle.reg_words.specs.declared.task.Task.{Task}
 use Rattle.reg_words.specs.declared.task.Task.TheVariants as task
 use Rattle.reg_run.specs.declared.status.End.{End}
 use Rattle.reg_run.specs.declared.status.End.TheVariants as the_end
-
--- nothing of the input was read
-abbrev pub SameInput : World → World → Type 0
-SameInput before after = (after.left ≡ before.left) × (after.reads ≡ before.reads)
-
--- nothing was written
-abbrev pub SameOutput : World → World → Type 0
-SameOutput before after = (after.written ≡ before.written) × (after.flushed ≡ before.flushed) × (after.writes ≡ before.writes)
-
--- the clock was looked at once
-abbrev pub LookedOnce : World → World → Type 0
-LookedOnce before after = after.moments ≡ option_map later_moments before.moments
-
--- the clock wasn't looked at
-abbrev pub SameClock : World → World → Type 0
-SameClock before after = after.moments ≡ before.moments
-
--- the file opens to this, where it is told
-abbrev pub OpensTo : Option (List ℕ) → Result State ℕ → Type 0
-OpensTo held r = IfSome held (λ file. opens file ≡ r)
-
--- all that was written is flushed
-abbrev pub IsFlushed : World → Type 0
-IsFlushed after = after.flushed ≡ option_map length after.written
 
 -- why the journal wasn't opened: there was no memory, the disk failed, or the file is damaged
 abbrev pub OpenCaused : End → Option (List ℕ) → ℕ → ℕ → Type 0
@@ -64,16 +41,19 @@ OpenCaused the_end.Disk held before after = Rose before after
 OpenCaused the_end.Input held before after = ⊥
 OpenCaused the_end.Output held before after = ⊥
 OpenCaused (the_end.Damaged at) held before after = OpensTo held (Err at)
+OpenCaused the_end.Listener held before after = ⊥
 OpenCaused the_end.TooMuch held before after = ⊥
 OpenCaused the_end.Exists held before after = ⊥
 OpenCaused the_end.Refused held before after = ⊥
 
--- The journal wasn't opened: nothing was read but the disk, nothing was written, and the clock not looked at.
+-- The journal wasn't opened: nothing was read but the disk, nothing was written, the clock not looked at, and the listener
+-- not asked.
 pub record NotOpened (d : Seen) (end : End) (before after : World) : Type 0 where
   pub cause : OpenCaused end before.held before.faults after.faults
   pub input : SameInput before after
   pub output : SameOutput before after
   pub clock : SameClock before after
+  pub net : SameNet before after
   pub disk : IsUntouched d
 
 -- what a run did over a journal: it wasn't opened; or it was, to a state from which this was done
@@ -89,6 +69,7 @@ InitEnds the_end.Disk held before new after = Rose before after
 InitEnds the_end.Input held before new after = ⊥
 InitEnds the_end.Output held before new after = ⊥
 InitEnds (the_end.Damaged at) held before new after = ⊥
+InitEnds the_end.Listener held before new after = ⊥
 InitEnds the_end.TooMuch held before new after = ⊥
 InitEnds the_end.Exists held before new after = IfSome held (λ file. is_taken file ≡ true)
 InitEnds the_end.Refused held before new after = ⊥
@@ -100,6 +81,7 @@ pub record DidInit (d : Seen) (end : End) (before after : World) : Type 0 where
   pub input : SameInput before after
   pub output : SameOutput before after
   pub clock : SameClock before after
+  pub net : SameNet before after
 
 -- where a session begins
 abbrev pub begins_at : World → State → Point
@@ -129,6 +111,7 @@ ApplyEnds the_end.Input from taken before after accepted answered =
 ApplyEnds the_end.Output from taken before after accepted answered =
     Rose before.writes after.writes × EndsInput (begins_at before from) taken after.left after.written after.flushed answered (from.history ++ accepted) stop.Output
 ApplyEnds (the_end.Damaged at) from taken before after accepted answered = ⊥
+ApplyEnds the_end.Listener from taken before after accepted answered = ⊥
 ApplyEnds the_end.TooMuch from taken before after accepted answered = EndsInput (begins_at before from) taken after.left after.written after.flushed answered (from.history ++ accepted) stop.TooMuch
 ApplyEnds the_end.Exists from taken before after accepted answered = ⊥
 ApplyEnds the_end.Refused from taken before after accepted answered = ⊥
@@ -157,6 +140,7 @@ pub record DidApply (d : Seen) (end : End) (before after : World) (from : State)
   pub answered : ℕ
   pub ends : ApplyEnds end from taken before after accepted (from.history ++ take answered accepted)
   pub too_much : TooMuchExactly end taken before after
+  pub net : SameNet before after
   pub disk : DiskSurvives d from.history accepted answered (status_of end)
 
 -- How printing these bytes ends: they were written and flushed, and the end is this one; or the output failed, a front of them
@@ -172,6 +156,7 @@ pub record DidCheck (d : Seen) (end : End) (before after : World) (from : State)
   pub printed : Printed the_end.Done (check_line from) end (output before) (output after)
   pub input : SameInput before after
   pub clock : SameClock before after
+  pub net : SameNet before after
   pub same : IsUntouched d
   pub disk : DiskSurvives d from.history [] 0 (status_of end)
 
@@ -235,6 +220,7 @@ AskEnds reading the_end.Disk from before after = ⊥
 AskEnds reading the_end.Input from before after = ⊥
 AskEnds reading the_end.Output from before after = Rose before.writes after.writes × RepliedFront reading from before after × (after.flushed ≡ before.flushed)
 AskEnds reading (the_end.Damaged at) from before after = ⊥
+AskEnds reading the_end.Listener from before after = ⊥
 AskEnds reading the_end.TooMuch from before after = ⊥
 AskEnds reading the_end.Exists from before after = ⊥
 AskEnds reading the_end.Refused from before after = Replied reading true from before after × IsFlushed after
@@ -244,6 +230,7 @@ pub record DidAsk (d : Seen) (reading : Result Request Refusal) (end : End) (bef
   pub ends : AskEnds reading end from before after
   pub input : SameInput before after
   pub clock : LookedOnce before after
+  pub net : SameNet before after
   pub same : IsUntouched d
   pub disk : DiskSurvives d from.history [] 0 (status_of end)
 
@@ -251,6 +238,7 @@ pub record DidAsk (d : Seen) (reading : Result Request Refusal) (end : End) (bef
 abbrev pub Did : Seen → Task → End → World → World → Type 0
 Did d task.Init end before after = DidInit d end before after
 Did d task.Apply end before after = OverJournal d (DidApply d end before after) end before after
+Did d (task.Serve port connections) end before after = OverJournal d (DidServe d port connections end before after) end before after
 Did d task.Check end before after = OverJournal d (DidCheck d end before after) end before after
 Did d (task.Ask question) end before after = OverJournal d (DidAsk d (asked_by question) end before after) end before after
 

@@ -18,6 +18,7 @@ status_of the_end.Disk = 4
 status_of the_end.Input = 5
 status_of the_end.Output = 6
 status_of (the_end.Damaged at) = 7
+status_of the_end.Listener = 8
 status_of the_end.TooMuch = 9
 status_of the_end.Exists = 10
 status_of the_end.Refused = 11
@@ -31,6 +32,7 @@ note_of the_end.Disk = codes "disk\n"
 note_of the_end.Input = codes "input\n"
 note_of the_end.Output = codes "output\n"
 note_of (the_end.Damaged at) = codes "damaged at " ++ decimal at ++ 10 ∷ []
+note_of the_end.Listener = codes "listener\n"
 note_of the_end.TooMuch = codes "too much input\n"
 note_of the_end.Exists = codes "exists\n"
 note_of the_end.Refused = []
@@ -41,7 +43,7 @@ NotesOnce end old before new after = (new ≡ append_known old (note_of end)) �
 
 -- the exit statuses that a run has
 abbrev pub IsStatus : ℕ → Type 0
-IsStatus n = (n ≡ 0) ⊎ (n ≡ 2) ⊎ (n ≡ 3) ⊎ (n ≡ 4) ⊎ (n ≡ 5) ⊎ (n ≡ 6) ⊎ (n ≡ 7) ⊎ (n ≡ 9) ⊎ (n ≡ 10) ⊎ (n ≡ 11)
+IsStatus n = (n ≡ 0) ⊎ (n ≡ 2) ⊎ (n ≡ 3) ⊎ (n ≡ 4) ⊎ (n ≡ 5) ⊎ (n ≡ 6) ⊎ (n ≡ 7) ⊎ (n ≡ 8) ⊎ (n ≡ 9) ⊎ (n ≡ 10) ⊎ (n ≡ 11)
 
 -- what `check` prints: how many commands there are, and the last one's moment, or moment 0, at which the journal opens
 abbrev pub check_line : State → List ℕ

@@ -11,14 +11,15 @@ ghost use Rattle.reg_run.specs.Crash.{seen};
 ghost use Rattle.reg_run.specs.Ends.{Did, DidInit, OpenCaused, Asked, Printed, end_of_reply, end_of_stop, end_of_open};
 ghost use Rattle.reg_run.specs.Questions.{asked_by};
 ghost use Rattle.reg_run.specs.Status.{check_line};
-ghost use Rattle.reg_run.specs.World.{World, world, holding, printing, at_clock, out_of};
+ghost use Rattle.reg_run.specs.World.{Net, World, world, holding, printing, at_clock, net_of, out_of};
 
 use crate::question::asked_by;
+use crate::serve::serve_over;
 use crate::status::End;
 use reg_effect::Incremental;
 use reg_keep::{InitFault, Journal, Keeper, OpenFault};
 use reg_machine::Machine;
-use reg_outside::{Clock, Disk, Failed, Sink, Source, write_whole};
+use reg_outside::{Clock, Disk, Failed, Listener, Sink, Source, write_whole};
 use reg_service::Service;
 use reg_session::{Stop, answer_input, reply_line, turn};
 use reg_terms::Reply;
@@ -48,7 +49,7 @@ fn end_of_stop(stop: Stop) -> End
 }
 
 /// The service over the journal on a disk. A refusal gives the disk back.
-fn open<D: Disk>(alloc: Global, disk: D) -> Result<Service<Journal<D>>, (End, D)>
+pub(crate) fn open<D: Disk>(alloc: Global, disk: D) -> Result<Service<Journal<D>>, (End, D)>
     ensures opens { IfOk result (λ s. IfSome (D.contents disk) (λ file. opens file ≡ Ok s.state)) }
     ensures same { IfOk result (λ s. D.contents (disk_of s.keeper) ≡ D.contents disk) }
     ensures crash { IfOk result (λ s. Changes D.moment D.may_leave D.left_since Same disk (disk_of s.keeper)) }
@@ -70,7 +71,7 @@ fn open<D: Disk>(alloc: Global, disk: D) -> Result<Service<Journal<D>>, (End, D)
 }
 
 /// The disk under a service. It opens to the service's history.
-fn close<D: Disk>(service: Service<Journal<D>>) -> D
+pub(crate) fn close<D: Disk>(service: Service<Journal<D>>) -> D
     ensures disk { result ≡ disk_of service.keeper }
     ensures opens { IfSome (D.contents result) (λ file. opens file ≡ Ok (at_last service.state.history)) }
     ensures images { (c : List ℕ) → D.may_leave result c → opens c ≡ Ok (at_last service.state.history) }
@@ -100,7 +101,9 @@ fn apply_over<S: Source, K: Sink, D: Disk, C: Clock>(
     disk: D,
     clock: &mut C,
 ) -> (End, D)
-    ensures did { Did (seen ⟦<D as Disk>⟧ disk result.1) Task.Apply result.0 (world ⟦<S as Source>⟧ ⟦<K as Sink>⟧ ⟦<D as Disk>⟧ ⟦<C as Clock>⟧ input.old out.old disk clock.old) (world ⟦<S as Source>⟧ ⟦<K as Sink>⟧ ⟦<D as Disk>⟧ ⟦<C as Clock>⟧ input.new out.new result.1 clock.new) }
+    ensures did { (net : Net) → Did (seen ⟦<D as Disk>⟧ disk result.1) Task.Apply result.0
+        (world ⟦<S as Source>⟧ ⟦<K as Sink>⟧ ⟦<D as Disk>⟧ ⟦<C as Clock>⟧ input.old out.old disk clock.old net)
+        (world ⟦<S as Source>⟧ ⟦<K as Sink>⟧ ⟦<D as Disk>⟧ ⟦<C as Clock>⟧ input.new out.new result.1 clock.new net) }
     ensures object { D.name result.1 ≡ D.name disk }
     ensures later { D.faults disk ≤ D.faults result.1 }
 {
@@ -234,21 +237,27 @@ fn ask_over<K: Sink, D: Disk, C: Clock>(
 }
 
 /// Does a task.
-pub fn perform<S: Source, K: Sink, D: Disk, C: Clock>(
+pub fn perform<S: Source, K: Sink, D: Disk, C: Clock, L: Listener>(
     alloc: Global,
     task: &Task,
     input: &mut S,
     out: &mut K,
     disk: D,
     clock: &mut C,
+    net: &mut L,
 ) -> (End, D)
-    ensures did { Did (seen ⟦<D as Disk>⟧ disk result.1) task.now result.0 (world ⟦<S as Source>⟧ ⟦<K as Sink>⟧ ⟦<D as Disk>⟧ ⟦<C as Clock>⟧ input.old out.old disk clock.old) (world ⟦<S as Source>⟧ ⟦<K as Sink>⟧ ⟦<D as Disk>⟧ ⟦<C as Clock>⟧ input.new out.new result.1 clock.new) }
+    ensures did { Did (seen ⟦<D as Disk>⟧ disk result.1) task.now result.0
+        (world ⟦<S as Source>⟧ ⟦<K as Sink>⟧ ⟦<D as Disk>⟧ ⟦<C as Clock>⟧ input.old out.old disk clock.old (net_of ⟦<L as Listener>⟧ net.old))
+        (world ⟦<S as Source>⟧ ⟦<K as Sink>⟧ ⟦<D as Disk>⟧ ⟦<C as Clock>⟧ input.new out.new result.1 clock.new (net_of ⟦<L as Listener>⟧ net.new)) }
     ensures object { D.name result.1 ≡ D.name disk }
     ensures later { D.faults disk ≤ D.faults result.1 }
 {
     match task {
         Task::Init => init(disk),
         Task::Apply => apply_over(alloc, input, out, disk, clock),
+        Task::Serve { port, connections } => {
+            serve_over(alloc, *port, *connections, disk, clock, net)
+        }
         Task::Check => check_over(alloc, out, disk),
         Task::Ask(question) => ask_over(alloc, question, out, disk, clock),
     }

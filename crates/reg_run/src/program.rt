@@ -4,29 +4,32 @@ ghost use Rattle.reg_words.specs.Words.{task_of};
 ghost use Rattle.reg_run.specs.declared.status.End.{End};
 ghost use Rattle.reg_run.specs.Ends.{IsUsage, RunDid};
 ghost use Rattle.reg_run.specs.Status.{status_of, IsStatus, NotesOnce};
-ghost use Rattle.reg_run.specs.World.{world};
+ghost use Rattle.reg_run.specs.World.{net_of, world};
 
 use crate::perform::perform;
 use crate::status::{End, status_of, write_note};
-use reg_outside::{Clock, Disk, Sink, Source};
+use reg_outside::{Clock, Disk, Listener, Sink, Source};
 use reg_words::task_of;
 use std::alloc::{AllocError, Global};
 
 /// Does what the words ask for.
-fn follow<S: Source, K: Sink, D: Disk, C: Clock>(
+fn follow<S: Source, K: Sink, D: Disk, C: Clock, L: Listener>(
     alloc: Global,
     words: &[String],
     input: &mut S,
     out: &mut K,
     disk: &mut D,
     clock: &mut C,
+    net: &mut L,
 ) -> End
-    ensures did { RunDid ⟦<D as Disk>⟧ (task_of (map string_bytes words.now)) result (world ⟦<S as Source>⟧ ⟦<K as Sink>⟧ ⟦<D as Disk>⟧ ⟦<C as Clock>⟧ input.old out.old disk.old clock.old) (world ⟦<S as Source>⟧ ⟦<K as Sink>⟧ ⟦<D as Disk>⟧ ⟦<C as Clock>⟧ input.new out.new disk.new clock.new) disk.old disk.new }
+    ensures did { RunDid ⟦<D as Disk>⟧ (task_of (map string_bytes words.now)) result
+        (world ⟦<S as Source>⟧ ⟦<K as Sink>⟧ ⟦<D as Disk>⟧ ⟦<C as Clock>⟧ input.old out.old disk.old clock.old (net_of ⟦<L as Listener>⟧ net.old))
+        (world ⟦<S as Source>⟧ ⟦<K as Sink>⟧ ⟦<D as Disk>⟧ ⟦<C as Clock>⟧ input.new out.new disk.new clock.new (net_of ⟦<L as Listener>⟧ net.new)) disk.old disk.new }
     ensures later { D.faults disk.old ≤ D.faults disk.new }
 {
     match task_of(alloc, words) {
         Ok(Some(task)) => {
-            let (end, _disk) = perform(alloc, &task, input, out, &mut *disk, clock);
+            let (end, _disk) = perform(alloc, &task, input, out, &mut *disk, clock, net);
             end
         }
         Ok(None) => End::Usage,
@@ -36,10 +39,11 @@ fn follow<S: Source, K: Sink, D: Disk, C: Clock>(
 
 /// Runs the command that the words name over the disk's journal, and gives the exit status
 /// (`docs/REQUESTS.md`, "The program"): `init` begins a journal, `apply` answers each line of the
-/// input with a line of output, `check` opens the journal, and `members NAME [--at T]` and
+/// input with a line of output, `serve PORT [--connections N]` answers the messages of so many
+/// connections, one after another, `check` opens the journal, and `members NAME [--at T]` and
 /// `history NAME` ask it. A status other than 0 has a note on `notes`; that it can't be written
 /// changes nothing.
-pub fn run<S: Source, K: Sink, N: Sink, D: Disk, C: Clock>(
+pub fn run<S: Source, K: Sink, N: Sink, D: Disk, C: Clock, L: Listener>(
     alloc: Global,
     words: &[String],
     input: &mut S,
@@ -47,16 +51,18 @@ pub fn run<S: Source, K: Sink, N: Sink, D: Disk, C: Clock>(
     notes: &mut N,
     disk: &mut D,
     clock: &mut C,
+    net: &mut L,
 ) -> u8
     // One end tells the status, its cause, what was done and what is left of the disk, and the note.
     ensures ends { (end : End) × (result ≡ status_of end)
-        × RunDid ⟦<D as Disk>⟧ (task_of (map string_bytes words.now)) end (world ⟦<S as Source>⟧ ⟦<K as Sink>⟧ ⟦<D as Disk>⟧ ⟦<C as Clock>⟧ input.old out.old disk.old clock.old) (world ⟦<S as Source>⟧ ⟦<K as Sink>⟧ ⟦<D as Disk>⟧ ⟦<C as Clock>⟧ input.new out.new disk.new clock.new) disk.old disk.new
+        × RunDid ⟦<D as Disk>⟧ (task_of (map string_bytes words.now)) end (world ⟦<S as Source>⟧ ⟦<K as Sink>⟧ ⟦<D as Disk>⟧ ⟦<C as Clock>⟧ input.old out.old disk.old clock.old (net_of ⟦<L as Listener>⟧ net.old))
+        (world ⟦<S as Source>⟧ ⟦<K as Sink>⟧ ⟦<D as Disk>⟧ ⟦<C as Clock>⟧ input.new out.new disk.new clock.new (net_of ⟦<L as Listener>⟧ net.new)) disk.old disk.new
         × NotesOnce end (N.written notes.old) (N.write_faults notes.old) (N.written notes.new) (N.write_faults notes.new) }
     ensures statuses { IsStatus result }
     ensures usage { IsUsage (task_of (map string_bytes words.now)) result }
     ensures later { D.faults disk.old ≤ D.faults disk.new }
 {
-    let end = follow(alloc, words, input, out, &mut *disk, clock);
+    let end = follow(alloc, words, input, out, &mut *disk, clock, net);
     write_note(alloc, notes, end);
     status_of(end)
 }

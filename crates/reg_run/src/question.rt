@@ -12,7 +12,7 @@ use reg_words::Question;
 use std::alloc::{AllocError, Global};
 
 /// Why a question asks nothing.
-#[derive(Debug, Drop)]
+#[derive(Drop)]
 pub enum NotAsked {
     /// There was no memory.
     Memory,

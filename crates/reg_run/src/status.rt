@@ -21,6 +21,8 @@ pub enum End {
     Output,
     /// The journal doesn't open; the place of the damage.
     Damaged(u64),
+    /// The listener failed.
+    Listener,
     /// Too many bytes were read.
     TooMuch,
     /// The file isn't free for a new journal.
@@ -41,6 +43,7 @@ pub fn status_of(end: End) -> u8
         End::Input => 5,
         End::Output => 6,
         End::Damaged(_) => 7,
+        End::Listener => 8,
         End::TooMuch => 9,
         End::Exists => 10,
         End::Refused => 11,
@@ -58,6 +61,7 @@ fn note_of(alloc: Global, end: End) -> Result<String, AllocError>
         End::Input => String::from_str(alloc, "input\n"),
         End::Output => String::from_str(alloc, "output\n"),
         End::Damaged(at) => format!(in alloc; "damaged at {at}\n"),
+        End::Listener => String::from_str(alloc, "listener\n"),
         End::TooMuch => String::from_str(alloc, "too much input\n"),
         End::Exists => String::from_str(alloc, "exists\n"),
     }

@@ -7,6 +7,7 @@ use Rattle.reg_outside.specs.Streams.{first_moment, later_moments, WritesFront}
 use Rattle.reg_terms.specs.declared.refusal.Refusal.{Refusal}
 use Rattle.reg_base.specs.declared.entity.Entity.{Entity}
 use Rattle.reg_terms.specs.declared.command.Command.{Command}
+use Rattle.reg_terms.specs.declared.command.Stamped.{Stamped}
 use Rattle.reg_machine.specs.History.{State}
 use Rattle.reg_terms.specs.declared.request.Request.{Request}
 use Rattle.reg_terms.specs.declared.request.Op.{Op}
@@ -14,16 +15,21 @@ use Rattle.reg_terms.specs.declared.request.Op.TheVariants as op
 use Rattle.reg_terms.specs.declared.reply.Reply.{Reply}
 use Rattle.reg_terms.specs.declared.reply.Reply.TheVariants as reply
 use Rattle.reg_base.specs.Entities.{entity_of}
+use Rattle.reg_keep.specs.declared.keeper.Keeper.{Ghosts}
+use Rattle.reg_service.specs.Kept.{Halted, IsOneMore, KeptOn, KeepsNext}
 use Rattle.reg_service.specs.Turn.{at_moment, decided, requested, turn, Turns, Follows, last_reply, ordered}
 use Rattle.reg_service.specs.Opening.{Served}
 use Rattle.reg_service.specs.declared.service.Cause.{Cause}
 use Rattle.reg_service.specs.declared.service.Next.{Next}
 use Rattle.reg_service.specs.declared.service.Next.TheVariants as next
 use Rattle.reg_session.specs.Replies.{is_accepted, IsShown}
+use Rattle.reg_session.proofs.Halting.{one_more, turn_one}
 use Rattle.reg_session.specs.Answered.{Point, AreNext, coming_after, Gives}
 use Rattle.reg_http.specs.declared.call.Call.{Call}
+use Rattle.reg_http.specs.declared.call.Turn.TheVariants as taken
 use Rattle.reg_calls.specs.Asked.{asked_of, closes, closes_by}
-use Rattle.reg_serve.specs.Answered.{Question, refuses, reads, question_of, MayReply, Answer, MayAnswer, calls_of, times_of, responses_of, Answered, Answers, Breaks, StopsAt, CallEnds}
+use Rattle.reg_serve.specs.Answered.{Question, refuses, reads, question_of, MayReply, Answer, MayAnswer, calls_of, times_of, responses_of, Answered, Answers, Breaks, LeadsTo, goes, stops}
+use Rattle.reg_serve.specs.Keeping.{TurnLeaves}
 use Rattle.reg_calls.specs.Responses.{response_to}
 use Rattle.reg_serve.specs.Sent.{SendsReply, SentFront, Finishes}
 use Rattle.reg_calls.specs.declared.asked.Asked.{Asked}
@@ -102,7 +108,7 @@ pub append_none : (w : Option (List ℕ)) → w ≡ append_known w []
 append_none None = refl
 append_none (Some bytes) = ap Some (sym (append-nil bytes))
 
-append_more : (w : Option (List ℕ)) (xs ys : List ℕ) → append_known (append_known w xs) ys ≡ append_known w (xs ++ ys)
+pub append_more : (w : Option (List ℕ)) (xs ys : List ℕ) → append_known (append_known w xs) ys ≡ append_known w (xs ++ ys)
 append_more None xs ys = refl
 append_more (Some bytes) xs ys = ap Some (append_assoc bytes xs ys)
 
@@ -118,20 +124,20 @@ front_all old new text e = (length text, omega arith, e ∙ ap (append_known old
 pub answered_none : (p : Point) → Answered p [] p
 answered_none p = record { answers = []; asked_by = refl; given = refl; times = gives_none p.moments; text = append_none p.written }
 
-may_more : (s mid last : State) (xs ys : List Answer) → MayAnswer s xs mid → MayAnswer mid ys last → MayAnswer s (xs ++ ys) last
+pub may_more : (s mid last : State) (xs ys : List Answer) → MayAnswer s xs mid → MayAnswer mid ys last → MayAnswer s (xs ++ ys) last
 may_more s mid last [] ys one two = rw (← one) two
 may_more s mid last (x ∷ xs) ys one two = (one.0, one.1, may_more one.0 mid last xs ys one.2 two)
 
-times_more : (xs ys : List Answer) → times_of (xs ++ ys) ≡ times_of xs ++ times_of ys
+pub times_more : (xs ys : List Answer) → times_of (xs ++ ys) ≡ times_of xs ++ times_of ys
 times_more [] ys = refl
 times_more (x ∷ xs) ys = ap (λ (l : List ℕ). x.at ++ l) (times_more xs ys) ∙ sym (append_assoc x.at (times_of xs) (times_of ys))
 
-responses_more : (xs ys : List Answer) → responses_of (xs ++ ys) ≡ responses_of xs ++ responses_of ys
+pub responses_more : (xs ys : List Answer) → responses_of (xs ++ ys) ≡ responses_of xs ++ responses_of ys
 responses_more [] ys = refl
 responses_more (x ∷ xs) ys =
     ap (λ (l : List ℕ). response_to (asked_of x.call) (closes x.call) x.told ++ l) (responses_more xs ys) ∙ sym (append_assoc (response_to (asked_of x.call) (closes x.call) x.told) (responses_of xs) (responses_of ys))
 
-pub answered_more : (p q r : Point) (xs ys : List Call) → Answered p xs q → Answered q ys r → Answered p (xs ++ ys) r
+abbrev pub answered_more : (p q r : Point) (xs ys : List Call) → Answered p xs q → Answered q ys r → Answered p (xs ++ ys) r
 answered_more p q r xs ys a b = record {
   answers = a.answers ++ b.answers;
   asked_by = map-append (λ (x : Answer). x.call) a.answers b.answers ∙ both a.asked_by b.asked_by;
@@ -156,22 +162,27 @@ answered_one w ms w2 ms2 s after call at due shown gives may shows wrote = recor
 
 -- ---- what follows a message
 
-pub answers_follows : {K : Type 0} (old new : Option (List ℕ)) (s : State) (m : ℕ) (reading : Result Request Refusal) (r : Reply × Next K) → IfSome old (λ coming. m ≡ first_moment coming)
-    → new ≡ option_map later_moments old → Follows s m reading r → Answers old new s (reads reading) r
-answers_follows old new s m reading (told, next.Go after) first later f = (m ∷ [], gives_one old new m first later, (m, refl, f))
-answers_follows old new s m reading (told, next.Stop why k) first later f = (f, (m ∷ [], gives_one old new m first later))
+pub answers_follows : {K : Type 0} (g : Ghosts K) (keeper : K) (old new : Option (List ℕ)) (s : State) (m : ℕ) (reading : Result Request Refusal) (r : Reply × Next K) → IfSome old (λ coming. m ≡ first_moment coming)
+    → new ≡ option_map later_moments old → Follows s m reading r → KeepsNext g s.history (turn s m reading).1.history keeper r.1 → Answers g keeper old new s (reads reading) r
+answers_follows g keeper old new s m reading (told, next.Go after) first later f kept = (m ∷ [], gives_one old new m first later, (m, refl, f), kept)
+answers_follows g keeper old new s m reading (told, next.Stop why k) first later f kept = (f, (m ∷ [], gives_one old new m first later, ((turn s m reading).1.history, (m, refl, refl), kept)))
 
 -- a message that is refused at once
-pub answers_at_once : {K : Type 0} (o : Option (List ℕ)) (s : Served K) (r : Refusal) → Answers o o s.state (refuses r) (reply.Refused r, next.Go s)
-answers_at_once o s r = ([], gives_none o, (refl, refl, inl refl))
+pub answers_at_once : {K : Type 0} (g : Ghosts K) (o : Option (List ℕ)) (s : Served K) (r : Refusal) → KeptOn g s.state.history s.keeper s.state.history s.keeper → Answers g s.keeper o o s.state (refuses r) (reply.Refused r, next.Go s)
+answers_at_once g o s r kept = ([], gives_none o, (refl, refl, inl refl), kept)
 
-pub answers_go : {K : Type 0} (old new : Option (List ℕ)) (s : State) (q : Question) (r : Reply × Next K) (after : Served K) → Answers old new s q r → r.1 ≡ next.Go after
-    → (at : List ℕ) × Gives old at new × MayReply s q at r.0 after.state
-answers_go old new s q (told, following) after f e = rw e at f
+pub answers_go : {K : Type 0} (g : Ghosts K) (keeper : K) (old new : Option (List ℕ)) (s : State) (q : Question) (r : Reply × Next K) (after : Served K) → Answers g keeper old new s q r → r.1 ≡ next.Go after
+    → (at : List ℕ) × Gives old at new × MayReply s q at r.0 after.state × KeptOn g s.history keeper after.state.history after.keeper
+answers_go g keeper old new s q (told, following) after f e = rw e at f
 
-pub answers_stop : {K : Type 0} (old new : Option (List ℕ)) (s : State) (q : Question) (r : Reply × Next K) (why : Cause) (k : K) → Answers old new s q r → r.1 ≡ next.Stop why k
-    → (r.0 ≡ last_reply why) × ((at : List ℕ) × Gives old at new)
-answers_stop old new s q (told, following) why k f e = rw e at f
+pub answers_stop : {K : Type 0} (g : Ghosts K) (keeper : K) (old new : Option (List ℕ)) (s : State) (q : Question) (r : Reply × Next K) (why : Cause) (k : K) → Answers g keeper old new s q r → r.1 ≡ next.Stop why k
+    → (r.0 ≡ last_reply why) × ((at : List ℕ) × Gives old at new × ((expected : List Stamped) × LeadsTo s q at expected × KeepsNext g s.history expected keeper (next.Stop why k)))
+answers_stop g keeper old new s q (told, following) why k f e = rw e at f
+
+-- a message leads to the history, or to one command more
+pub leads_one : (s : State) (q : Question) (at : List ℕ) (expected : List Stamped) → LeadsTo s q at expected → IsOneMore s.history expected
+leads_one s (refuses r) at expected t = inl t.1
+leads_one s (reads reading) at expected t = rw t.2 (turn_one s t.0 reading)
 
 closes_is : (call : Call) → closes_by (asked_of call) call ≡ closes call
 unfolding closes
@@ -235,19 +246,35 @@ breaks w ms w2 ms2 p after call at due gives may f = record {
   front = rw (← closes_is call) f.2;
 }
 
-pub finishes_ended : {K : Type 0} (w ms w2 ms2 : Option (List ℕ)) (p : State) (s : Served K) (call : Call) (at : List ℕ) (due : Reply) (r : Result (Served K) (Ended × Next K)) → Gives ms at ms2
-    → MayReply p (question_of call) at due s.state → Finishes (asked_of call) call due w w2 s r → IfErr r (CallEnds (record { written = w; moments = ms; state = p }) call w2 ms2)
-finishes_ended w ms w2 ms2 p s call at due (Ok after) gives may f = tt
-finishes_ended w ms w2 ms2 p s call at due (Err (ended.Closed, n)) gives may f =
+-- what is kept, where the service goes on
+pub finishes_kept : {K : Type 0} (g : Ghosts K) (h : List Stamped) (k : K) (w w2 : Option (List ℕ)) (s : Served K) (a : Asked) (call : Call) (due : Reply) (r : Result (Served K) (Ended × Next K)) → KeptOn g h k s.state.history s.keeper
+    → Finishes a call due w w2 s r → IfOk r (λ after. KeptOn g h k after.state.history after.keeper)
+finishes_kept g h k w w2 s a call due (Ok after) kept f = rw f.0 kept
+finishes_kept g h k w w2 s a call due (Err e) kept f = tt
+
+-- and where the connection ends
+pub finishes_ended : {K : Type 0} (g : Ghosts K) (k : K) (w ms w2 ms2 : Option (List ℕ)) (p : State) (s : Served K) (call : Call) (at : List ℕ) (due : Reply) (r : Result (Served K) (Ended × Next K)) → Gives ms at ms2
+    → MayReply p (question_of call) at due s.state → KeptOn g p.history k s.state.history s.keeper → Finishes (asked_of call) call due w w2 s r
+    → IfErr r (TurnLeaves g (record { written = w; moments = ms; state = p }) k (taken.Call call) w2 ms2)
+finishes_ended g k w ms w2 ms2 p s call at due (Ok after) gives may kept f = tt
+finishes_ended g k w ms w2 ms2 p s call at due (Err (ended.Closed, n)) gives may kept f =
     let shut : closes call ≡ true = sym (closes_is call) ∙ f.1 in
-    rw f.0 (shut, answered_one w ms w2 ms2 p s.state call at due f.2.0 gives may f.2.1 (rw shut f.2.2))
-finishes_ended w ms w2 ms2 p s call at due (Err (ended.Failed, n)) gives may f = rw f.0 (breaks w ms w2 ms2 p s.state call at due gives may f.1)
-finishes_ended w ms w2 ms2 p s call at due (Err (ended.NoMemory, n)) gives may f = rw f.0 (breaks w ms w2 ms2 p s.state call at due gives may f.1)
-finishes_ended w ms w2 ms2 p s call at due (Err (ended.Bad, n)) gives may f = absurd f
-finishes_ended w ms w2 ms2 p s call at due (Err (ended.TooMuch, n)) gives may f = absurd f
-finishes_ended w ms w2 ms2 p s call at due (Err (ended.Stopped, n)) gives may f = absurd f
+    rw f.0 (record { to = goes s.state; ends = (shut, answered_one w ms w2 ms2 p s.state call at due f.2.0 gives may f.2.1 (rw shut f.2.2)); leaves = (refl, kept) })
+finishes_ended g k w ms w2 ms2 p s call at due (Err (ended.Failed, n)) gives may kept f = rw f.0 (record { to = goes s.state; ends = breaks w ms w2 ms2 p s.state call at due gives may f.1; leaves = (refl, kept) })
+finishes_ended g k w ms w2 ms2 p s call at due (Err (ended.NoMemory, n)) gives may kept f = rw f.0 (record { to = goes s.state; ends = breaks w ms w2 ms2 p s.state call at due gives may f.1; leaves = (refl, kept) })
+finishes_ended g k w ms w2 ms2 p s call at due (Err (ended.Bad, n)) gives may kept f = absurd f
+finishes_ended g k w ms w2 ms2 p s call at due (Err (ended.TooMuch, n)) gives may kept f = absurd f
+finishes_ended g k w ms w2 ms2 p s call at due (Err (ended.Stopped, n)) gives may kept f = absurd f
 
 -- how it ends where the service stopped
-pub stops_at : (w ms w2 ms2 : Option (List ℕ)) (p : State) (call : Call) (at : List ℕ) (due : Reply) (why : Cause) → Gives ms at ms2 → due ≡ last_reply why → SentFront (asked_of call) true due w w2
-    → StopsAt (record { written = w; moments = ms; state = p }) call w2 ms2 why
-stops_at w ms w2 ms2 p call at due why gives is f = record { at = at; told = f.0; times = gives; shows = rw is at f.1; front = f.2 }
+pub stop_leaves : {K : Type 0} (g : Ghosts K) (old k : K) (w ms w2 ms2 : Option (List ℕ)) (p : State) (call : Call) (at : List ℕ) (due : Reply) (why : Cause) (expected : List Stamped) → Gives ms at ms2 → due ≡ last_reply why
+    → SentFront (asked_of call) true due w w2 → LeadsTo p (question_of call) at expected → KeepsNext g p.history expected old (next.Stop why k)
+    → TurnLeaves g (record { written = w; moments = ms; state = p }) old (taken.Call call) w2 ms2 (ended.Stopped, next.Stop why k)
+stop_leaves g old k w ms w2 ms2 p call at due why expected gives is f leads kept =
+    let one : IsOneMore p.history expected = leads_one p (question_of call) at expected leads in
+    let halted : Halted g p.history old k = record { answered = p.history; after = kept.0; first = omega arith; last = one_more why p.history expected kept.0 one kept.1; kept = kept.2; stopped = kept.3 } in
+    record {
+      to = stops why kept.0;
+      ends = record { at = at; told = f.0; times = gives; shows = rw is at f.1; front = f.2; expected = expected; leads = leads; began = kept.1 };
+      leaves = (refl, (halted, refl, refl), kept.4);
+    }

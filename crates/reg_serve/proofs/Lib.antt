@@ -1,3 +1,5 @@
 mod Answering
+mod Cutting
 mod Exactly
 mod Turning
+mod Visiting

@@ -12,12 +12,21 @@ use Rattle.reg_http.specs.declared.call.HeadFault.{HeadFault}
 use Rattle.reg_http.specs.declared.call.Turn.{Turn}
 use Rattle.reg_http.specs.declared.call.Turn.TheVariants as turn
 use Rattle.reg_outside.specs.Faults.{Rose}
+use Rattle.reg_terms.specs.declared.command.Stamped.{Stamped}
+use Rattle.reg_keep.specs.declared.keeper.Keeper.{Ghosts}
+use Rattle.reg_service.specs.Kept.{KeptOn, RoseAt}
+use Rattle.reg_service.specs.Opening.{Served}
+use Rattle.reg_service.specs.declared.service.Cause.{Cause}
+use Rattle.reg_service.specs.declared.service.Cause.TheVariants as cause
 use Rattle.reg_service.specs.declared.service.Next.{Next}
+use Rattle.reg_service.specs.declared.service.Next.TheVariants as next
+use Rattle.reg_session.proofs.Halting.{kept_then, halted_then}
 use Rattle.reg_session.specs.Answered.{Point}
 use Rattle.reg_session.specs.Input.{Takes}
 use Rattle.reg_calls.specs.Asked.{closes}
-use Rattle.reg_serve.specs.Answered.{Answered}
-use Rattle.reg_serve.specs.Sessions.{Remains, Serves, Session, TurnFails, TurnServed, EndsTurn, EndsTurns, EndsAtMessage, EndsBetween, IsQuiet, HasServed}
+use Rattle.reg_serve.specs.Answered.{Answered, Outcome, goes, stops}
+use Rattle.reg_serve.specs.Keeping.{EndsTurnsOf, IsLeft, ReadLeaves, SessionOf, TurnLeaves}
+use Rattle.reg_serve.specs.Sessions.{Remains, Serves, TurnFails, TurnServed, EndsTurn, EndsAtMessage, EndsBetween, IsQuiet, HasServed}
 use Rattle.reg_serve.specs.declared.ended.Ended.{Ended}
 use Rattle.reg_serve.specs.declared.ended.Ended.TheVariants as ended
 use Rattle.reg_serve.proofs.Answering.{answered_none, answered_more}
@@ -86,10 +95,13 @@ remains p q before after (turn.Call call) more none gives s = rw s.2 (gives.1, m
 remains p q before after turn.NeedMore more none gives s = rw (s.1, gives.1) (none, refl, gives.2)
 remains p q before after (turn.Bad fault) more none gives s = absurd s
 
-pub fails_turn : {K : Type 0} (p : Point) (before after : Reading) (t : Turn) (w ms : Option (List ℕ)) (e : Ended × Next K) → before.fault ≡ None → GivesTurn before t after → TurnFails p t w ms e → EndsTurn p before w ms e
-fails_turn p before after (turn.Call call) w ms e none gives f = inl (inl (call, after.rest, gives.2, f))
-fails_turn p before after turn.NeedMore w ms e none gives f = absurd f
-fails_turn p before after (turn.Bad fault) w ms e none gives f = inl (inr (fault, fault_of before after fault gives none, f))
+fails_ends : (p : Point) (before after : Reading) (t : Turn) (w ms : Option (List ℕ)) (e : Ended) (to : Outcome) → before.fault ≡ None → GivesTurn before t after → TurnFails p t w ms e to → EndsTurn p before w ms e to
+fails_ends p before after (turn.Call call) w ms e to none gives f = inl (inl (call, after.rest, gives.2, f))
+fails_ends p before after turn.NeedMore w ms e to none gives f = absurd f
+fails_ends p before after (turn.Bad fault) w ms e to none gives f = inl (inr (fault, fault_of before after fault gives none, f))
+
+pub fails_turn : {K : Type 0} (g : Ghosts K) (k : K) (p : Point) (before after : Reading) (t : Turn) (w ms : Option (List ℕ)) (e : Ended × Next K) → before.fault ≡ None → GivesTurn before t after → TurnLeaves g p k t w ms e → ReadLeaves g p k before w ms e
+fails_turn g k p before after t w ms e none gives f = (f.to, fails_ends p before after t w ms e.0 f.to none gives f.ends, f.leaves)
 
 -- what holds of a result goes on
 pub ok_so : {A E : Type 0} (P Q : A → Type 0) (r : Result A E) → IfOk r P → ((x : A) → P x → Q x) → IfOk r Q
@@ -108,9 +120,37 @@ pub remains_none : (old new : Reading) (more : Bool) → Remains old more new �
 remains_none old new true r e = absurd (cc)
 remains_none old new false r e = r.2
 
+-- ---- what is left
+
 -- there was no memory for more
-pub ends_quiet : {K : Type 0} (p : Point) (reading : Reading) (w ms : Option (List ℕ)) (n : Next K) → IsQuiet p w ms n → EndsTurns p reading w ms (ended.NoMemory, n)
-ends_quiet p reading w ms n quiet = record { last = p; reading = reading; served = serves_none p reading; ends = inr (quiet, refl) }
+pub ends_quiet : {K : Type 0} (g : Ghosts K) (k : K) (p : Point) (reading : Reading) (w ms : Option (List ℕ)) (s : Served K) → w ≡ p.written → ms ≡ p.moments → s.state ≡ p.state → KeptOn g p.state.history k s.state.history s.keeper
+    → EndsTurnsOf g p k reading w ms (ended.NoMemory, next.Go s)
+ends_quiet g k p reading w ms s same still at kept = record {
+  to = goes s.state;
+  turns = record { last = p; reading = reading; served = serves_none p reading; ends = inr ((same, still, at), refl) };
+  leaves = (refl, kept);
+}
+
+rose_at_more : (why : Cause) (a b c : ℕ) → a ≤ b → RoseAt why b c → RoseAt why a c
+rose_at_more cause.Memory a b c le r = tt
+rose_at_more cause.Disk a b c le r = omega (arith, le, r)
+
+-- what is left from a later history and keeper on
+pub left_then : {K : Type 0} (g : Ghosts K) (h0 h1 : List Stamped) (k0 k1 : K) (answered : List Stamped) (to : Outcome) (n : Next K) → KeptOn g h0 k0 h1 k1 → IsLeft g h1 k1 answered to n → IsLeft g h0 k0 answered to n
+left_then g h0 h1 k0 k1 answered (goes s) (next.Go service) kept l = (l.0, kept_then g h0 h1 s.history k0 k1 service.keeper kept l.1)
+left_then g h0 h1 k0 k1 answered (goes s) (next.Stop why k) kept l = absurd l
+left_then g h0 h1 k0 k1 answered (stops why after) (next.Go service) kept l = absurd l
+left_then g h0 h1 k0 k1 answered (stops why after) (next.Stop cause k) kept l =
+    (l.0, (halted_then g h0 h1 k0 k1 k kept l.1.0, l.1.1, l.1.2), rose_at_more cause (g.keep_faults k0) (g.keep_faults k1) (g.keep_faults k) kept.later l.2)
+
+-- a message ended the connection, behind others that were answered
+pub ends_behind : {K : Type 0} (g : Ghosts K) (k0 k1 : K) (p q : Point) (old mid : Reading) (w ms : Option (List ℕ)) (e : Ended × Next K) → Serves p old q mid → KeptOn g p.state.history k0 q.state.history k1 → ReadLeaves g q k1 mid w ms e
+    → EndsTurnsOf g p k0 old w ms e
+ends_behind g k0 k1 p q old mid w ms e served kept r = record {
+  to = r.0;
+  turns = record { last = q; reading = mid; served = served; ends = r.1 };
+  leaves = left_then g p.state.history q.state.history k0 k1 q.state.history r.0 e.1 kept r.2;
+}
 
 -- ---- the connection as a whole
 
@@ -161,86 +201,109 @@ served_piece law left mid now p q r before after count n piece h read long s = r
   counted = omega (arith, length-append h.taken piece, h.counted, long);
 }
 
-turn_ends : {K : Type 0} (taken : List ℕ) (now : Option (List ℕ)) (p : Point) (reading : Reading) (w ms : Option (List ℕ)) (e : Ended × Next K) → EndsTurn p reading w ms e
-    → EndsAtMessage p reading.rest w ms e ⊎ (IsQuiet p w ms e.1 × EndsBetween taken now reading.rest e.0)
-turn_ends taken now p reading w ms e (inl at) = inl at
-turn_ends taken now p reading w ms e (inr quiet) = inr (quiet.0, rw quiet.1 tt)
+turn_ends : (taken : List ℕ) (now : Option (List ℕ)) (p : Point) (reading : Reading) (w ms : Option (List ℕ)) (e : Ended) (to : Outcome) → EndsTurn p reading w ms e to
+    → EndsAtMessage p reading.rest w ms e to ⊎ (IsQuiet p w ms to × EndsBetween taken now reading.rest e)
+turn_ends taken now p reading w ms e to (inl at) = inl at
+turn_ends taken now p reading w ms e to (inr quiet) = inr (quiet.0, rw quiet.1 tt)
 
 -- it ended before anything was read
-pub session_first : {K : Type 0} (left : Option (List ℕ)) (p : Point) (w ms : Option (List ℕ)) (e : Ended × Next K) → HasGiven [] [] start → EndsTurns p start w ms e → Session p left left w ms e
-session_first left p w ms e begun t = record {
-  taken = [];
-  input = takes_none left;
-  few = omega arith;
-  calls = t.served.calls;
-  open_still = t.served.open_still;
-  last = t.last;
-  all = t.served.all;
-  reading = t.reading;
-  given = t.served.given [] [] begun;
-  ends = turn_ends [] left t.last t.reading w ms e t.ends;
+pub session_first : {K : Type 0} (g : Ghosts K) (k : K) (left : Option (List ℕ)) (p : Point) (w ms : Option (List ℕ)) (e : Ended × Next K) → HasGiven [] [] start → EndsTurnsOf g p k start w ms e → SessionOf g p k left left w ms e
+session_first g k left p w ms e begun t = record {
+  to = t.to;
+  session = record {
+    taken = [];
+    input = takes_none left;
+    few = omega arith;
+    calls = t.turns.served.calls;
+    open_still = t.turns.served.open_still;
+    last = t.turns.last;
+    all = t.turns.served.all;
+    reading = t.turns.reading;
+    given = t.turns.served.given [] [] begun;
+    ends = turn_ends [] left t.turns.last t.turns.reading w ms e.0 t.to t.turns.ends;
+  };
+  leaves = t.leaves;
 }
 
-pub session_none : {K : Type 0} (left : Option (List ℕ)) (p : Point) (w ms : Option (List ℕ)) (n : Next K) → HasGiven [] [] start → IsQuiet p w ms n → Session p left left w ms (ended.NoMemory, n)
-session_none left p w ms n begun quiet = record {
-  taken = [];
-  input = takes_none left;
-  few = omega arith;
-  calls = [];
-  open_still = All-nil IsOpen;
-  last = p;
-  all = answered_none p;
-  reading = start;
-  given = begun;
-  ends = inr (quiet, tt);
+pub session_none : {K : Type 0} (g : Ghosts K) (left : Option (List ℕ)) (p : Point) (s : Served K) → HasGiven [] [] start → s.state ≡ p.state → KeptOn g p.state.history s.keeper s.state.history s.keeper
+    → SessionOf g p s.keeper left left p.written p.moments (ended.NoMemory, next.Go s)
+session_none g left p s begun at kept = record {
+  to = goes s.state;
+  session = record {
+    taken = [];
+    input = takes_none left;
+    few = omega arith;
+    calls = [];
+    open_still = All-nil IsOpen;
+    last = p;
+    all = answered_none p;
+    reading = start;
+    given = begun;
+    ends = inr ((refl, refl, at), tt);
+  };
+  leaves = (refl, kept);
 }
 
 -- it ended in a piece that was read
-pub session_piece : {K : Type 0} (law : FedLaw) (left mid now : Option (List ℕ)) (p q : Point) (before : Reading) (count : ℕ) (piece : List ℕ) (w ms : Option (List ℕ)) (e : Ended × Next K) → HasServed left mid p q before count
-    → mid ≡ prepend_known piece now → count + length piece ≤ 2 ^ 32 → EndsTurns q (fed before piece) w ms e → Session p left now w ms e
-session_piece law left mid now p q before count piece w ms e h read few t = record {
-  taken = h.taken ++ piece;
-  input = takes_more left mid now h.taken piece h.input read;
-  few = omega (arith, length-append h.taken piece, h.counted, few);
-  calls = h.calls ++ t.served.calls;
-  open_still = All-append IsOpen h.calls t.served.calls h.open_still t.served.open_still;
-  last = t.last;
-  all = answered_more p q t.last h.calls t.served.calls h.all t.served.all;
-  reading = t.reading;
-  given = t.served.given (h.taken ++ piece) h.calls (law h.taken piece h.calls before h.given);
-  ends = turn_ends (h.taken ++ piece) now t.last t.reading w ms e t.ends;
+pub session_piece : {K : Type 0} (g : Ghosts K) (k0 k1 : K) (law : FedLaw) (left mid now : Option (List ℕ)) (p q : Point) (before : Reading) (count : ℕ) (piece : List ℕ) (w ms : Option (List ℕ)) (e : Ended × Next K) → HasServed left mid p q before count
+    → KeptOn g p.state.history k0 q.state.history k1 → mid ≡ prepend_known piece now → count + length piece ≤ 2 ^ 32 → EndsTurnsOf g q k1 (fed before piece) w ms e → SessionOf g p k0 left now w ms e
+session_piece g k0 k1 law left mid now p q before count piece w ms e h kept read few t = record {
+  to = t.to;
+  session = record {
+    taken = h.taken ++ piece;
+    input = takes_more left mid now h.taken piece h.input read;
+    few = omega (arith, length-append h.taken piece, h.counted, few);
+    calls = h.calls ++ t.turns.served.calls;
+    open_still = All-append IsOpen h.calls t.turns.served.calls h.open_still t.turns.served.open_still;
+    last = t.turns.last;
+    all = answered_more p q t.turns.last h.calls t.turns.served.calls h.all t.turns.served.all;
+    reading = t.turns.reading;
+    given = t.turns.served.given (h.taken ++ piece) h.calls (law h.taken piece h.calls before h.given);
+    ends = turn_ends (h.taken ++ piece) now t.turns.last t.turns.reading w ms e.0 t.to t.turns.ends;
+  };
+  leaves = left_then g p.state.history q.state.history k0 k1 t.turns.last.state.history t.to e.1 kept t.leaves;
 }
 
 -- a read failed, or 2^32 bytes were read
-pub session_still : {K : Type 0} (left mid now : Option (List ℕ)) (p q : Point) (before : Reading) (count : ℕ) (w ms : Option (List ℕ)) (e : Ended × Next K) → HasServed left mid p q before count
-    → now ≡ mid → count ≤ 2 ^ 32 → IsQuiet q w ms e.1 → ((taken : List ℕ) → length taken ≡ count → EndsBetween taken now before.rest e.0) → Session p left now w ms e
-session_still left mid now p q before count w ms e h same few quiet why = record {
-  taken = h.taken;
-  input = rw same h.input;
-  few = omega (arith, h.counted, few);
-  calls = h.calls;
-  open_still = h.open_still;
-  last = q;
-  all = h.all;
-  reading = before;
-  given = h.given;
-  ends = inr (quiet, why h.taken h.counted);
+pub session_still : {K : Type 0} (g : Ghosts K) (k0 : K) (left mid now : Option (List ℕ)) (p : Point) (s : Served K) (before : Reading) (count : ℕ) (w0 w ms : Option (List ℕ)) (e : Ended)
+    → HasServed left mid p (record { written = w0; moments = ms; state = s.state }) before count → KeptOn g p.state.history k0 s.state.history s.keeper
+    → now ≡ mid → w ≡ w0 → count ≤ 2 ^ 32 → ((taken : List ℕ) → length taken ≡ count → EndsBetween taken now before.rest e) → SessionOf g p k0 left now w ms (e, next.Go s)
+session_still g k0 left mid now p s before count w0 w ms e h kept same still few why = record {
+  to = goes s.state;
+  session = record {
+    taken = h.taken;
+    input = rw same h.input;
+    few = omega (arith, h.counted, few);
+    calls = h.calls;
+    open_still = h.open_still;
+    last = record { written = w0; moments = ms; state = s.state };
+    all = h.all;
+    reading = before;
+    given = h.given;
+    ends = inr ((still, refl, refl), why h.taken h.counted);
+  };
+  leaves = (refl, kept);
 }
 
 -- its bytes ended
-pub session_end : {K : Type 0} (left mid now : Option (List ℕ)) (p q : Point) (before : Reading) (count : ℕ) (bs : List ℕ) (k : ℕ) (w ms : Option (List ℕ)) (n : Next K) → HasServed left mid p q before count
-    → mid ≡ prepend_known (take k bs) now → k ≡ 0 → IsAtEnd now → count ≤ 2 ^ 32 → IsUnfinished before.rest → IsQuiet q w ms n → Session p left now w ms (ended.Closed, n)
-session_end left mid now p q before count bs k w ms n h read none at few unfinished quiet = record {
-  taken = h.taken;
-  input = took_none left mid now h.taken bs k h.input read none;
-  few = omega (arith, h.counted, few);
-  calls = h.calls;
-  open_still = h.open_still;
-  last = q;
-  all = h.all;
-  reading = before;
-  given = h.given;
-  ends = inr (quiet, (at, unfinished));
+pub session_end : {K : Type 0} (g : Ghosts K) (k0 : K) (left mid now : Option (List ℕ)) (p : Point) (s : Served K) (before : Reading) (count : ℕ) (bs : List ℕ) (n : ℕ) (w0 w ms : Option (List ℕ))
+    → HasServed left mid p (record { written = w0; moments = ms; state = s.state }) before count → KeptOn g p.state.history k0 s.state.history s.keeper → w ≡ w0
+    → mid ≡ prepend_known (take n bs) now → n ≡ 0 → IsAtEnd now → count ≤ 2 ^ 32 → IsUnfinished before.rest → SessionOf g p k0 left now w ms (ended.Closed, next.Go s)
+session_end g k0 left mid now p s before count bs n w0 w ms h kept still read none at few unfinished = record {
+  to = goes s.state;
+  session = record {
+    taken = h.taken;
+    input = took_none left mid now h.taken bs n h.input read none;
+    few = omega (arith, h.counted, few);
+    calls = h.calls;
+    open_still = h.open_still;
+    last = record { written = w0; moments = ms; state = s.state };
+    all = h.all;
+    reading = before;
+    given = h.given;
+    ends = inr ((still, refl, refl), (at, unfinished));
+  };
+  leaves = (refl, kept);
 }
 
 -- a count of faults that rose has risen from before

@@ -2,12 +2,15 @@
 use Rattle.std.specs.Prelude.{◌≡◌, ℕ, List, [], ◌∷◌, ◌++◌, Option, Result, map, unwrap_or, true}
 use Rattle.std.specs.Io.KnownBytes.{append_known}
 use Rattle.reg_outside.specs.Streams.{WritesFront}
+use Rattle.reg_terms.specs.declared.command.Stamped.{Stamped}
 use Rattle.reg_terms.specs.declared.refusal.Refusal.{Refusal}
 use Rattle.reg_terms.specs.declared.request.Request.{Request}
 use Rattle.reg_terms.specs.declared.reply.Reply.{Reply}
 use Rattle.reg_terms.specs.declared.reply.Reply.TheVariants as reply
 use Rattle.reg_machine.specs.History.{State}
-use Rattle.reg_service.specs.Turn.{Turns, last_reply}
+use Rattle.reg_keep.specs.declared.keeper.Keeper.{Ghosts}
+use Rattle.reg_service.specs.Kept.{KeptOn, KeepsNext, Began}
+use Rattle.reg_service.specs.Turn.{turn, Turns, last_reply}
 use Rattle.reg_service.specs.declared.service.Cause.{Cause}
 use Rattle.reg_service.specs.declared.service.Next.{Next}
 use Rattle.reg_service.specs.declared.service.Next.TheVariants as next
@@ -76,10 +79,23 @@ pub record Answered (before : Point) (calls : List Call) (after : Point) : Type 
   pub times : Gives before.moments (times_of answers) after.moments
   pub text : after.written ≡ append_known before.written (responses_of answers)
 
--- what follows a question: the service goes on after a reply, or stops for a cause
-abbrev pub Answers : {K : Type 0} → (old new : Option (List ℕ)) → State → Question → Reply × Next K → Type 0
-Answers old new s q (told, next.Go after) = (at : List ℕ) × Gives old at new × MayReply s q at told after.state
-Answers old new s q (told, next.Stop why keeper) = (told ≡ last_reply why) × ((at : List ℕ) × Gives old at new)
+-- the history to which a message leads, at the moments that are taken for it, where it is carried out
+abbrev pub LeadsTo : State → Question → List ℕ → List Stamped → Type 0
+LeadsTo s (refuses r) at expected = (at ≡ []) × (expected ≡ s.history)
+LeadsTo s (reads reading) at expected = (m : ℕ) × (at ≡ m ∷ []) × (expected ≡ (turn s m reading).1.history)
+
+-- What follows a question: the service goes on after a reply, or stops for a cause; and what is kept then.
+abbrev pub Answers : {K : Type 0} → Ghosts K → K → (old new : Option (List ℕ)) → State → Question → Reply × Next K → Type 0
+Answers g keeper old new s q (told, next.Go after) =
+    (at : List ℕ) × Gives old at new × MayReply s q at told after.state × KeptOn g s.history keeper after.state.history after.keeper
+Answers g keeper old new s q (told, next.Stop why last) =
+    (told ≡ last_reply why) × ((at : List ℕ) × Gives old at new × ((expected : List Stamped) × LeadsTo s q at expected × KeepsNext g s.history expected keeper (next.Stop why last)))
+
+-- Where a connection leaves the registry: it goes on in a state; or the service stopped for a cause, and its keeper may have
+-- this history.
+pub data Outcome : Type 0 where
+  goes : State → Outcome
+  stops : Cause → List Stamped → Outcome
 
 -- a message was answered, and a front of the response was written
 pub record Breaks (before : Point) (call : Call) (written moments : Option (List ℕ)) (after : State) : Type 0 where
@@ -89,24 +105,28 @@ pub record Breaks (before : Point) (call : Call) (written moments : Option (List
   pub given : MayReply before.state (question_of call) at told after
   pub front : WritesFront before.written written (response_to (asked_of call) (closes call) told)
 
--- the service stopped at a message, and a front of the response was written, which says that the connection closes
-pub record StopsAt (before : Point) (call : Call) (written moments : Option (List ℕ)) (why : Cause) : Type 0 where
+-- The service stopped at a message, and a front of the response was written, which says that the connection closes. The
+-- keeper has the history from before, or after a fault perhaps that to which the message leads.
+pub record StopsAt (before : Point) (call : Call) (written moments : Option (List ℕ)) (why : Cause) (after : List Stamped) : Type 0 where
   pub at : List ℕ
   pub told : Reply
   pub times : Gives before.moments at moments
   pub shows : IsShown (last_reply why) told
   pub front : WritesFront before.written written (response_to (asked_of call) true told)
+  pub expected : List Stamped
+  pub leads : LeadsTo before.state (question_of call) at expected
+  pub began : Began why before.state.history expected after
 
 -- How a connection ends at a message: that was answered whole and closes it; or not whole, for a write that failed or for
 -- want of memory; or the service stopped.
-abbrev pub CallEnds : {K : Type 0} → Point → Call → (written moments : Option (List ℕ)) → Ended × Next K → Type 0
-CallEnds p call w ms (ended.Closed, next.Go s) = (closes call ≡ true) × Answered p (call ∷ []) (record { written = w; moments = ms; state = s.state })
-CallEnds p call w ms (ended.Failed, next.Go s) = Breaks p call w ms s.state
-CallEnds p call w ms (ended.NoMemory, next.Go s) = Breaks p call w ms s.state
-CallEnds p call w ms (ended.Stopped, next.Stop why k) = StopsAt p call w ms why
-CallEnds p call w ms (ended.Closed, next.Stop why k) = ⊥
-CallEnds p call w ms (ended.Failed, next.Stop why k) = ⊥
-CallEnds p call w ms (ended.NoMemory, next.Stop why k) = ⊥
-CallEnds p call w ms (ended.Stopped, next.Go s) = ⊥
-CallEnds p call w ms (ended.Bad, n) = ⊥
-CallEnds p call w ms (ended.TooMuch, n) = ⊥
+abbrev pub CallEnds : Point → Call → (written moments : Option (List ℕ)) → Ended → Outcome → Type 0
+CallEnds p call w ms ended.Closed (goes s) = (closes call ≡ true) × Answered p (call ∷ []) (record { written = w; moments = ms; state = s })
+CallEnds p call w ms ended.Failed (goes s) = Breaks p call w ms s
+CallEnds p call w ms ended.NoMemory (goes s) = Breaks p call w ms s
+CallEnds p call w ms ended.Stopped (stops why after) = StopsAt p call w ms why after
+CallEnds p call w ms ended.Closed (stops why after) = ⊥
+CallEnds p call w ms ended.Failed (stops why after) = ⊥
+CallEnds p call w ms ended.NoMemory (stops why after) = ⊥
+CallEnds p call w ms ended.Stopped (goes s) = ⊥
+CallEnds p call w ms ended.Bad to = ⊥
+CallEnds p call w ms ended.TooMuch to = ⊥

@@ -1,4 +1,7 @@
 pub mod Answered
 pub mod Exact
+pub mod Keeping
 pub mod Sent
 pub mod Sessions
+pub mod Visits
+pub mod Whole

@@ -5,7 +5,9 @@ ghost use Rattle.reg_outside.specs.Faults.{Rose};
 ghost use Rattle.reg_http.specs.Messages.{IsUnfinished};
 ghost use Rattle.reg_http.specs.Turns.{start, fed};
 ghost use Rattle.reg_session.specs.Answered.{Point, point};
-ghost use Rattle.reg_serve.specs.Sessions.{EndsTurns, HasServed, Serves, Session};
+ghost use Rattle.reg_service.specs.Kept.{KeptOn};
+ghost use Rattle.reg_serve.specs.Keeping.{EndsTurnsOf, SessionOf};
+ghost use Rattle.reg_serve.specs.Sessions.{HasServed, Serves};
 
 use crate::ended::Ended;
 use crate::serving::serve_turns;
@@ -54,13 +56,15 @@ fn serve_piece<K: Keeper, C: Connection, T: Clock>(
         Serves (point ⟦<C as Sink>⟧ ⟦<T as Clock>⟧ conn.old clock.old service.state) (fed reader.old piece.now) (point ⟦<C as Sink>⟧ ⟦<T as Clock>⟧ conn.new clock.new after.state) reader.new) }
     ensures fault { IfOk result (λ after. reader.new.fault ≡ None) }
     ensures none { IfOk result (λ after. IsUnfinished reader.new.rest) }
+    ensures kept { IfOk result (λ after. KeptOn ⟦<K as Keeper>⟧ service.state.history service.keeper after.state.history after.keeper) }
     ensures ended { IfErr result (λ e.
-        EndsTurns (point ⟦<C as Sink>⟧ ⟦<T as Clock>⟧ conn.old clock.old service.state) (fed reader.old piece.now) (C.written conn.new) (T.moments clock.new) e) }
+        EndsTurnsOf ⟦<K as Keeper>⟧ (point ⟦<C as Sink>⟧ ⟦<T as Clock>⟧ conn.old clock.old service.state) service.keeper (fed reader.old piece.now) (C.written conn.new) (T.moments clock.new) e) }
     ensures failed { IfErr result (λ e. e.0 ≡ Ended.Failed → Rose (C.write_faults conn.old) (C.write_faults conn.new)) }
     ensures left { C.left conn.new ≡ C.left conn.old }
     ensures reads { C.read_faults conn.old ≤ C.read_faults conn.new }
     ensures writes { C.write_faults conn.old ≤ C.write_faults conn.new }
 {
+    service.stays();
     match reader.feed(piece) {
         Err(AllocError) => Err((Ended::NoMemory, Next::Go(service))),
         Ok(()) => serve_turns(alloc, routes, service, reader, conn, clock),
@@ -90,14 +94,17 @@ fn serve_some<K: Keeper, C: Connection, T: Clock>(
         → HasServed left (C.left conn.new) first (point ⟦<C as Sink>⟧ ⟦<T as Clock>⟧ conn.new clock.new after.0.state) reader.new (taken + after.1)) }
     ensures fault { IfOk result (λ after. reader.new.fault ≡ None) }
     ensures none { IfOk result (λ after. IsUnfinished reader.new.rest) }
-    ensures session { IfErr result (λ e. (left : Option (List ℕ)) (first : Point)
+    ensures kept { IfOk result (λ after. KeptOn ⟦<K as Keeper>⟧ service.state.history service.keeper after.0.state.history after.0.keeper) }
+    ensures session { IfErr result (λ e. (left : Option (List ℕ)) (first : Point) (keeper : K)
         → HasServed left (C.left conn.old) first (point ⟦<C as Sink>⟧ ⟦<T as Clock>⟧ conn.old clock.old service.state) reader.old taken
-        → Session first left (C.left conn.new) (C.written conn.new) (T.moments clock.new) e) }
+        → KeptOn ⟦<K as Keeper>⟧ first.state.history keeper service.state.history service.keeper
+        → SessionOf ⟦<K as Keeper>⟧ first keeper left (C.left conn.new) (C.written conn.new) (T.moments clock.new) e) }
     ensures failed { IfErr result (λ e. e.0 ≡ Ended.Failed → Rose (C.read_faults conn.old) (C.read_faults conn.new) ⊎ Rose (C.write_faults conn.old) (C.write_faults conn.new)) }
     ensures reads { C.read_faults conn.old ≤ C.read_faults conn.new }
     ensures writes { C.write_faults conn.old ≤ C.write_faults conn.new }
 {
     turns_are_of_all_bytes();
+    service.stays();
     let count = match read_some(conn, buf, taken) {
         Ok(count) => count,
         Err(Failed) => return Err((Ended::Failed, Next::Go(service))),
@@ -122,7 +129,7 @@ fn serve_bytes<K: Keeper, C: Connection, T: Clock>(
     clock: &mut T,
 ) -> (Ended, Next<K>)
     requires { reader.old ≡ start }
-    ensures session { Session (point ⟦<C as Sink>⟧ ⟦<T as Clock>⟧ conn.old clock.old service.state) (C.left conn.old) (C.left conn.new) (C.written conn.new) (T.moments clock.new) result }
+    ensures session { SessionOf ⟦<K as Keeper>⟧ (point ⟦<C as Sink>⟧ ⟦<T as Clock>⟧ conn.old clock.old service.state) service.keeper (C.left conn.old) (C.left conn.new) (C.written conn.new) (T.moments clock.new) result }
     ensures failed { result.0 ≡ Ended.Failed → Rose (C.read_faults conn.old) (C.read_faults conn.new) ⊎ Rose (C.write_faults conn.old) (C.write_faults conn.new) }
 {
     turns_are_of_all_bytes();
@@ -146,17 +153,18 @@ fn serve_bytes<K: Keeper, C: Connection, T: Clock>(
 }
 
 /// Answers all messages, with a reader of its own.
-fn serve_routed<K: Keeper, C: Connection, T: Clock>(
+pub(crate) fn serve_routed<K: Keeper, C: Connection, T: Clock>(
     alloc: Global,
     routes: &Routes,
     service: Service<K>,
     conn: &mut C,
     clock: &mut T,
 ) -> (Ended, Next<K>)
-    ensures session { Session (point ⟦<C as Sink>⟧ ⟦<T as Clock>⟧ conn.old clock.old service.state) (C.left conn.old) (C.left conn.new) (C.written conn.new) (T.moments clock.new) result }
+    ensures session { SessionOf ⟦<K as Keeper>⟧ (point ⟦<C as Sink>⟧ ⟦<T as Clock>⟧ conn.old clock.old service.state) service.keeper (C.left conn.old) (C.left conn.new) (C.written conn.new) (T.moments clock.new) result }
     ensures failed { result.0 ≡ Ended.Failed → Rose (C.read_faults conn.old) (C.read_faults conn.new) ⊎ Rose (C.write_faults conn.old) (C.write_faults conn.new) }
 {
     turns_are_of_all_bytes();
+    service.stays();
     let Ok(mut reader) = HttpReader::new(alloc) else {
         return (Ended::NoMemory, Next::Go(service));
     };
@@ -166,16 +174,18 @@ fn serve_routed<K: Keeper, C: Connection, T: Clock>(
 /// Answers the messages of a connection, one after another, until it ends, a message closes it, or
 /// there is nothing more to be done with it: a head isn't taken, a call of the connection failed,
 /// 2^32 bytes were read, or there was no memory. Where the service stopped, its keeper is given back.
+/// The keeper has the commands that were accepted; where keeping one failed, that one or not.
 pub fn serve_connection<K: Keeper, C: Connection, T: Clock>(
     alloc: Global,
     service: Service<K>,
     conn: &mut C,
     clock: &mut T,
 ) -> (Ended, Next<K>)
-    ensures session { Session (point ⟦<C as Sink>⟧ ⟦<T as Clock>⟧ conn.old clock.old service.state) (C.left conn.old) (C.left conn.new) (C.written conn.new) (T.moments clock.new) result }
+    ensures session { SessionOf ⟦<K as Keeper>⟧ (point ⟦<C as Sink>⟧ ⟦<T as Clock>⟧ conn.old clock.old service.state) service.keeper (C.left conn.old) (C.left conn.new) (C.written conn.new) (T.moments clock.new) result }
     ensures failed { result.0 ≡ Ended.Failed → Rose (C.read_faults conn.old) (C.read_faults conn.new) ⊎ Rose (C.write_faults conn.old) (C.write_faults conn.new) }
 {
     turns_are_of_all_bytes();
+    service.stays();
     let Ok(routes) = Routes::new(alloc) else {
         return (Ended::NoMemory, Next::Go(service));
     };

@@ -1,4 +1,4 @@
-// How a connection ends.
+// How a connection ends, and how serving does.
 
 /// Why a connection is served no further.
 #[derive(Clone, Copy, Debug, PartialEq, Eq)]
@@ -15,4 +15,15 @@ pub enum Ended {
     NoMemory,
     /// The service stopped.
     Stopped,
+}
+
+/// Why no more connections are served.
+#[derive(Clone, Copy, Debug, PartialEq, Eq)]
+pub enum Ceased {
+    /// A call of the listener failed.
+    Listener,
+    /// There was no memory to go on.
+    Memory,
+    /// The keeper failed.
+    Disk,
 }

@@ -2,11 +2,13 @@
 #![tactic(auto)]
 
 mod connection;
+mod connections;
 mod ended;
 mod laws;
 mod sending;
 mod serving;
 
 pub use connection::serve_connection;
-pub use ended::Ended;
-pub use laws::replies_are_one;
+pub use connections::serve_connections;
+pub use ended::{Ceased, Ended};
+pub use laws::{cutting_changes_no_response, replies_are_one};

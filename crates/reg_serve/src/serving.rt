@@ -5,9 +5,11 @@ ghost use Rattle.reg_calls.specs.Reading.{reading_of};
 ghost use Rattle.reg_session.specs.Answered.{point};
 ghost use Rattle.reg_session.specs.Pending.{ReadsAs, AsksFormed};
 ghost use Rattle.reg_calls.specs.Asked.{asked_of, closes};
-ghost use Rattle.reg_serve.specs.Answered.{Answered, Answers, CallEnds, question_by};
+ghost use Rattle.reg_service.specs.Kept.{KeptOn};
+ghost use Rattle.reg_serve.specs.Answered.{Answered, Answers, question_by};
+ghost use Rattle.reg_serve.specs.Keeping.{EndsTurnsOf, ReadLeaves, TurnLeaves};
 ghost use Rattle.reg_serve.specs.Sent.{Finishes, SentFront};
-ghost use Rattle.reg_serve.specs.Sessions.{EndsTurn, EndsTurns, FaultEnds, Remains, Serves, TurnFails, TurnServed};
+ghost use Rattle.reg_serve.specs.Sessions.{Remains, Serves, TurnServed};
 ghost use Rattle.reg_http.specs.Messages.{IsUnfinished};
 
 use crate::ended::Ended;
@@ -53,7 +55,7 @@ fn answer_routed<K: Keeper, T: Clock>(
     call: &Call,
     clock: &mut T,
 ) -> (Reply, Next<K>)
-    ensures { Answers (T.moments clock.old) (T.moments clock.new) service.state (question_by (Asked.Routed route) call.now) result }
+    ensures { Answers ⟦<K as Keeper>⟧ service.keeper (T.moments clock.old) (T.moments clock.new) service.state (question_by (Asked.Routed route) call.now) result }
 {
     let moment = clock.now();
     let reading = read(alloc, route, call);
@@ -69,8 +71,9 @@ fn answer<K: Keeper, T: Clock>(
     call: &Call,
     clock: &mut T,
 ) -> (Reply, Next<K>)
-    ensures { Answers (T.moments clock.old) (T.moments clock.new) service.state (question_by asked call.now) result }
+    ensures { Answers ⟦<K as Keeper>⟧ service.keeper (T.moments clock.old) (T.moments clock.new) service.state (question_by asked call.now) result }
 {
+    service.stays();
     match asked {
         Asked::NoRoute => (Reply::Refused(no_route()), Next::Go(service)),
         Asked::NoMethod(_) => (Reply::Refused(no_method()), Next::Go(service)),
@@ -131,8 +134,9 @@ pub(crate) fn serve_call<K: Keeper, C: Connection, T: Clock>(
     ensures open { IfOk result (λ after. closes call.now ≡ false) }
     ensures served { IfOk result (λ after.
         Answered (point ⟦<C as Sink>⟧ ⟦<T as Clock>⟧ conn.old clock.old service.state) (call.now ∷ []) (point ⟦<C as Sink>⟧ ⟦<T as Clock>⟧ conn.new clock.new after.state)) }
+    ensures kept { IfOk result (λ after. KeptOn ⟦<K as Keeper>⟧ service.state.history service.keeper after.state.history after.keeper) }
     ensures ended { IfErr result (λ e.
-        CallEnds (point ⟦<C as Sink>⟧ ⟦<T as Clock>⟧ conn.old clock.old service.state) call.now (C.written conn.new) (T.moments clock.new) e) }
+        TurnLeaves ⟦<K as Keeper>⟧ (point ⟦<C as Sink>⟧ ⟦<T as Clock>⟧ conn.old clock.old service.state) service.keeper (Turn.Call call.now) (C.written conn.new) (T.moments clock.new) e) }
     ensures failed { IfErr result (λ e. e.0 ≡ Ended.Failed → Rose (C.write_faults conn.old) (C.write_faults conn.new)) }
     ensures left { C.left conn.new ≡ C.left conn.old }
     ensures reads { C.read_faults conn.old ≤ C.read_faults conn.new }
@@ -157,13 +161,13 @@ fn refuse_head<K: Keeper, C: Connection>(
     conn: &mut C,
 ) -> (Ended, Next<K>)
     ensures ended { (moments : Option (List ℕ)) →
-        FaultEnds (record { written = C.written conn.old; moments = moments; state = service.state }) fault (C.written conn.new) moments result }
-    ensures same { result.1 ≡ Next.Go service }
+        TurnLeaves ⟦<K as Keeper>⟧ (record { written = C.written conn.old; moments = moments; state = service.state }) service.keeper (Turn.Bad fault) (C.written conn.new) moments result }
     ensures failed { result.0 ≡ Ended.Failed → Rose (C.write_faults conn.old) (C.write_faults conn.new) }
     ensures left { C.left conn.new ≡ C.left conn.old }
     ensures reads { C.read_faults conn.old ≤ C.read_faults conn.new }
     ensures writes { C.write_faults conn.old ≤ C.write_faults conn.new }
 {
+    service.stays();
     let reply = Reply::Refused(refusal_of(fault));
     let sent = send_fault(alloc, conn, &reply);
     drop(reply);
@@ -184,13 +188,15 @@ fn take_turn<K: Keeper, C: Connection, T: Clock>(
 ) -> Result<(Service<K>, bool), (Ended, Next<K>)>
     ensures served { IfOk result (λ after.
         TurnServed (point ⟦<C as Sink>⟧ ⟦<T as Clock>⟧ conn.old clock.old service.state) turn (point ⟦<C as Sink>⟧ ⟦<T as Clock>⟧ conn.new clock.new after.0.state) after.1) }
+    ensures kept { IfOk result (λ after. KeptOn ⟦<K as Keeper>⟧ service.state.history service.keeper after.0.state.history after.0.keeper) }
     ensures ended { IfErr result (λ e.
-        TurnFails (point ⟦<C as Sink>⟧ ⟦<T as Clock>⟧ conn.old clock.old service.state) turn (C.written conn.new) (T.moments clock.new) e) }
+        TurnLeaves ⟦<K as Keeper>⟧ (point ⟦<C as Sink>⟧ ⟦<T as Clock>⟧ conn.old clock.old service.state) service.keeper turn (C.written conn.new) (T.moments clock.new) e) }
     ensures failed { IfErr result (λ e. e.0 ≡ Ended.Failed → Rose (C.write_faults conn.old) (C.write_faults conn.new)) }
     ensures left { C.left conn.new ≡ C.left conn.old }
     ensures reads { C.read_faults conn.old ≤ C.read_faults conn.new }
     ensures writes { C.write_faults conn.old ≤ C.write_faults conn.new }
 {
+    service.stays();
     match turn {
         Turn::NeedMore => Ok((service, false)),
         Turn::Bad(fault) => Err(refuse_head(alloc, service, fault, conn)),
@@ -218,14 +224,16 @@ fn serve_turn<K: Keeper, C: Connection, T: Clock>(
     ensures served { IfOk result (λ after.
         Serves (point ⟦<C as Sink>⟧ ⟦<T as Clock>⟧ conn.old clock.old service.state) reader.old (point ⟦<C as Sink>⟧ ⟦<T as Clock>⟧ conn.new clock.new after.0.state) reader.new) }
     ensures more { IfOk result (λ after. Remains reader.old after.1 reader.new) }
+    ensures kept { IfOk result (λ after. KeptOn ⟦<K as Keeper>⟧ service.state.history service.keeper after.0.state.history after.0.keeper) }
     ensures ended { IfErr result (λ e.
-        EndsTurn (point ⟦<C as Sink>⟧ ⟦<T as Clock>⟧ conn.old clock.old service.state) reader.old (C.written conn.new) (T.moments clock.new) e) }
+        ReadLeaves ⟦<K as Keeper>⟧ (point ⟦<C as Sink>⟧ ⟦<T as Clock>⟧ conn.old clock.old service.state) service.keeper reader.old (C.written conn.new) (T.moments clock.new) e) }
     ensures failed { IfErr result (λ e. e.0 ≡ Ended.Failed → Rose (C.write_faults conn.old) (C.write_faults conn.new)) }
     ensures left { C.left conn.new ≡ C.left conn.old }
     ensures reads { C.read_faults conn.old ≤ C.read_faults conn.new }
     ensures writes { C.write_faults conn.old ≤ C.write_faults conn.new }
 {
     turns_are_of_all_bytes();
+    service.stays();
     match reader.next() {
         Err(AllocError) => Err((Ended::NoMemory, Next::Go(service))),
         Ok(turn) => take_turn(alloc, routes, service, turn, conn, clock),
@@ -246,13 +254,15 @@ pub(crate) fn serve_turns<K: Keeper, C: Connection, T: Clock>(
         Serves (point ⟦<C as Sink>⟧ ⟦<T as Clock>⟧ conn.old clock.old service.state) reader.old (point ⟦<C as Sink>⟧ ⟦<T as Clock>⟧ conn.new clock.new after.state) reader.new) }
     ensures fault { IfOk result (λ after. reader.new.fault ≡ None) }
     ensures none { IfOk result (λ after. IsUnfinished reader.new.rest) }
+    ensures kept { IfOk result (λ after. KeptOn ⟦<K as Keeper>⟧ service.state.history service.keeper after.state.history after.keeper) }
     ensures ended { IfErr result (λ e.
-        EndsTurns (point ⟦<C as Sink>⟧ ⟦<T as Clock>⟧ conn.old clock.old service.state) reader.old (C.written conn.new) (T.moments clock.new) e) }
+        EndsTurnsOf ⟦<K as Keeper>⟧ (point ⟦<C as Sink>⟧ ⟦<T as Clock>⟧ conn.old clock.old service.state) service.keeper reader.old (C.written conn.new) (T.moments clock.new) e) }
     ensures failed { IfErr result (λ e. e.0 ≡ Ended.Failed → Rose (C.write_faults conn.old) (C.write_faults conn.new)) }
     ensures left { C.left conn.new ≡ C.left conn.old }
     ensures reads { C.read_faults conn.old ≤ C.read_faults conn.new }
     ensures writes { C.write_faults conn.old ≤ C.write_faults conn.new }
 {
+    service.stays();
     let mut service = service;
     let mut more = true;
     while more {

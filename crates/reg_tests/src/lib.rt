@@ -2,6 +2,10 @@
 #![tactic(auto)]
 
 #[cfg(test)]
+mod chain_tests;
+#[cfg(test)]
 mod journal_tests;
 #[cfg(test)]
 mod outside_tests;
+#[cfg(test)]
+mod serve_tests;

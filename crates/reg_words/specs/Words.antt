@@ -1,10 +1,11 @@
 -- What the program's words ask for. The first word names a command; the words behind it are read as those of one simple
 -- command: positional words in order, options as `--at T` or `--at=T` in any place, each at most once.
-use Rattle.std.specs.Prelude.{List, [], ◌∷◌, Bool, true, false, Option, Some, None, codes, if◌then◌else◌, option_map}
+use Rattle.std.specs.Prelude.{List, [], ◌∷◌, Bool, true, false, Option, Some, None, codes, if◌then◌else◌, option_and_then, option_map}
 use Rattle.std.specs.Str.{bytes_eq}
 use Rattle.clap.specs.Words.{App, Kinds, Row, Rule, Text, fault_of, first_of, matches_of, new_app, new_rule, with_rule}
 use Rattle.clap.specs.Simple.{on_top}
 use Rattle.clap.specs.declared.builder.action.ArgAction.TheVariants.{Set}
+use Rattle.reg_words.specs.Numbers.{connections_in, port_in}
 use Rattle.reg_words.specs.declared.task.Question.TheVariants as question
 use Rattle.reg_words.specs.declared.task.Task.{Task}
 use Rattle.reg_words.specs.declared.task.Task.TheVariants as task
@@ -37,6 +38,10 @@ members = with_option (codes "at") (with_word (codes "name") (bare (codes "membe
 abbrev pub history : App
 history = with_word (codes "name") (bare (codes "history"))
 
+-- `serve PORT [--connections N]`
+abbrev pub serve : App
+serve = with_option (codes "connections") (with_word (codes "port") (bare (codes "serve")))
+
 -- what `members` asks, by what it found
 abbrev pub members_in : List Row → Option Task
 members_in rows = option_map (λ name. task.Ask (question.Members name (first_of (codes "at") rows))) (first_of (codes "name") rows)
@@ -44,6 +49,14 @@ members_in rows = option_map (λ name. task.Ask (question.Members name (first_of
 -- what `history` asks
 abbrev pub history_in : List Row → Option Task
 history_in rows = option_map (λ name. task.Ask (question.History name)) (first_of (codes "name") rows)
+
+-- what `serve` asks, by its words
+abbrev pub serve_of : Text → Option Text → Option Task
+serve_of port connections = option_and_then (λ port. option_map (λ connections. task.Serve port connections) (connections_in connections)) (port_in port)
+
+-- the same by what it found
+abbrev pub serve_in : List Row → Option Task
+serve_in rows = option_and_then (λ port. serve_of port (first_of (codes "connections") rows)) (first_of (codes "port") rows)
 
 abbrev pub is_none : Kinds → Bool
 is_none [] = true
@@ -62,10 +75,11 @@ abbrev pub task_by : Text → List Text → Option Task
 task_by word words =
     if bytes_eq word (codes "init") then read_bare (codes "init") task.Init words
     else (if bytes_eq word (codes "apply") then read_bare (codes "apply") task.Apply words
+    else (if bytes_eq word (codes "serve") then read_by serve serve_in words
     else (if bytes_eq word (codes "check") then read_bare (codes "check") task.Check words
     else (if bytes_eq word (codes "members") then read_by members members_in words
     else (if bytes_eq word (codes "history") then read_by history history_in words
-    else None))))
+    else None)))))
 
 -- what the words ask for
 abbrev pub task_of : List Text → Option Task

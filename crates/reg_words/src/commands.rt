@@ -1,7 +1,7 @@
 // Simple commands for `clap`: how they are made, and what they find.
 ghost use Rattle.std.specs.Prelude.{◌≡◌, ◌≢◌, [], true, IfOk, MatchOption, map, string_bytes};
 ghost use Rattle.clap.specs.Words.{app_of, fault_of, first_of, found_of, is_simple_and_free, matches_of, rows_of};
-ghost use Rattle.reg_words.specs.Words.{bare, with_word, with_option, members, history};
+ghost use Rattle.reg_words.specs.Words.{bare, with_word, with_option, members, history, serve};
 
 use clap::error::ErrorKind;
 use clap::{Arg, ArgAction, ArgMatches, Command};
@@ -54,6 +54,15 @@ pub fn history<'a>(alloc: Global) -> Result<Command<'a>, AllocError>
 {
     let command = bare(alloc, "history");
     with_word(alloc, command, "name")
+}
+
+/// `serve PORT [--connections N]`
+pub fn serve<'a>(alloc: Global) -> Result<Command<'a>, AllocError>
+    ensures { IfOk result (λ c. app_of c ≡ serve) }
+{
+    let command = bare(alloc, "serve");
+    let command = with_word(alloc, command, "port")?;
+    with_option(alloc, command, "connections")
 }
 
 /// What a command finds in the words, of which the first is its own. None where it doesn't take

@@ -2,6 +2,7 @@
 #![tactic(auto)]
 
 mod commands;
+mod numbers;
 mod task;
 mod words;
 

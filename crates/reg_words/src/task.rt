@@ -17,6 +17,8 @@ pub enum Task {
     Init,
     /// Answer the lines of the input.
     Apply,
+    /// Serve so many connections of a port.
+    Serve { port: u16, connections: u64 },
     /// Open the journal.
     Check,
     /// Answer one question.

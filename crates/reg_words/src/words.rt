@@ -1,11 +1,13 @@
 // From the words to what they ask for.
 ghost use Rattle.std.specs.Prelude.{◌≡◌, IfOk, map, string_bytes};
 ghost use Rattle.clap.specs.Words.{found_of, rows_of};
-ghost use Rattle.reg_words.specs.Words.{history, history_in, members, members_in, read_bare, read_by, task_by, task_of};
+ghost use Rattle.reg_words.specs.Words.{history, history_in, members, members_in, read_bare, read_by, serve, serve_in, serve_of, task_by, task_of};
 
-use crate::commands::{bare, found, history, members, value};
+use crate::commands::{bare, found, history, members, serve, value};
+use crate::numbers::{connections_in, port_in};
 use crate::task::{Question, Task};
 use clap::ArgMatches;
+use reg_base::Text;
 use std::alloc::{AllocError, Global};
 
 /// Reads the words of a command that takes none behind its own.
@@ -45,6 +47,27 @@ fn history_in(alloc: Global, matches: &ArgMatches) -> Result<Option<Task>, Alloc
     Ok(Some(Task::Ask(Question::History { name })))
 }
 
+/// What `serve` asks, by its words.
+fn serve_of(port: &Text, connections: &Option<Text>) -> Option<Task>
+    ensures { result ≡ serve_of port.now connections.now }
+{
+    match (port_in(port), connections_in(connections)) {
+        (Some(port), Some(connections)) => Some(Task::Serve { port, connections }),
+        _ => None,
+    }
+}
+
+/// What `serve` asks, by what it found.
+fn serve_in(alloc: Global, matches: &ArgMatches) -> Result<Option<Task>, AllocError>
+    ensures { IfOk result (λ asked. asked ≡ serve_in (rows_of (found_of matches.now))) }
+{
+    let Some(port) = value(alloc, matches, "port")? else {
+        return Ok(None);
+    };
+    let connections = value(alloc, matches, "connections")?;
+    Ok(serve_of(&port, &connections))
+}
+
 /// Reads the words of `members NAME [--at T]`.
 fn read_members(alloc: Global, words: &[String]) -> Result<Option<Task>, AllocError>
     ensures { IfOk result (λ asked. asked ≡ read_by members members_in (map string_bytes words.now)) }
@@ -67,6 +90,17 @@ fn read_history(alloc: Global, words: &[String]) -> Result<Option<Task>, AllocEr
     }
 }
 
+/// Reads the words of `serve PORT [--connections N]`.
+fn read_serve(alloc: Global, words: &[String]) -> Result<Option<Task>, AllocError>
+    ensures { IfOk result (λ asked. asked ≡ read_by serve serve_in (map string_bytes words.now)) }
+{
+    let command = serve(alloc)?;
+    match found(command, words)? {
+        Some(matches) => serve_in(alloc, &matches),
+        None => Ok(None),
+    }
+}
+
 /// Reads the words of the command of this name.
 fn task_by(alloc: Global, word: &str, words: &[String]) -> Result<Option<Task>, AllocError>
     ensures { IfOk result (λ asked. asked ≡ task_by word.now (map string_bytes words.now)) }
@@ -74,6 +108,7 @@ fn task_by(alloc: Global, word: &str, words: &[String]) -> Result<Option<Task>, 
     match word {
         "init" => read_bare(alloc, "init", Task::Init, words),
         "apply" => read_bare(alloc, "apply", Task::Apply, words),
+        "serve" => read_serve(alloc, words),
         "check" => read_bare(alloc, "check", Task::Check, words),
         "members" => read_members(alloc, words),
         "history" => read_history(alloc, words),

@@ -1,7 +1,7 @@
-//! The registry: reads requests line by line, and answers each.
+//! The registry: reads requests, line by line or from connections, and answers each.
 #![tactic(auto)]
 
-use reg_outside::{FileDisk, StdSink, StdSource, SystemClock};
+use reg_outside::{FileDisk, StdSink, StdSource, SystemClock, TcpPort};
 use reg_run::run;
 use std::process::ExitCode;
 use std::{env, io};
@@ -19,6 +19,7 @@ fn over(rt: &HostRuntime, path: &str, words: &[String]) -> u8 {
     let mut notes = StdSink::new(rt.stderr());
     let mut disk = FileDisk::new(rt, path);
     let mut clock = SystemClock::new(rt);
+    let mut net = TcpPort::new(rt);
     run(
         rt.alloc(),
         words,
@@ -27,6 +28,7 @@ fn over(rt: &HostRuntime, path: &str, words: &[String]) -> u8 {
         &mut notes,
         &mut disk,
         &mut clock,
+        &mut net,
     )
 }
 

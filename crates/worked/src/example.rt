@@ -1,6 +1,7 @@
 // One example: its disk, and its runs one after another.
+use crate::bytes::add_hex;
 use crate::objects::play;
-use crate::run::{Run, add_hex};
+use crate::run::Run;
 use std::alloc::{AllocError, Global};
 
 /// An example as far as it was read. Its runs share a disk, which begins empty.

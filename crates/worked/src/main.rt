@@ -2,9 +2,12 @@
 //! each whether it came out as it is written. `data/examples.md` says how a document is written.
 #![tactic(auto)]
 
+mod bytes;
+mod connection;
 mod document;
 mod example;
 mod objects;
+mod responses;
 mod run;
 
 use std::{env, fs, io};

@@ -1,6 +1,8 @@
 // The objects in memory that a run is handed, and what the run came to.
+use crate::connection::Connection;
+use crate::responses::add_responses;
 use crate::run::Run;
-use reg_outside::{ListClock, MemoryDisk, MemorySink, MemorySource};
+use reg_outside::{ListClock, MemoryConn, MemoryDisk, MemoryListener, MemorySink, MemorySource};
 use reg_run::run;
 use std::alloc::{AllocError, Global};
 
@@ -18,6 +20,7 @@ struct Objects {
     notes: MemorySink,
     disk: MemoryDisk,
     clock: ListClock,
+    net: MemoryListener,
 }
 
 fn source_of(alloc: Global, given: &Run, piece: usize) -> Result<MemorySource, AllocError> {
@@ -45,6 +48,21 @@ fn clock_of(alloc: Global, given: &Run) -> Result<ListClock, AllocError> {
     Ok(ListClock::new(moments))
 }
 
+fn conn_of(alloc: Global, connection: &Connection, piece: usize) -> Result<MemoryConn, AllocError> {
+    let bytes = connection.bytes.to_vec(alloc)?;
+    let fail = connection.fail.to_vec(alloc)?;
+    Ok(MemoryConn::new(alloc, bytes, piece.max(1), fail))
+}
+
+fn listener_of(alloc: Global, given: &Run, piece: usize) -> Result<MemoryListener, AllocError> {
+    let fail = given.fail_net.to_vec(alloc)?;
+    let mut conns = Vec::new(alloc);
+    for connection in &given.connections {
+        conns.push(conn_of(alloc, connection, piece)?)?;
+    }
+    MemoryListener::new(alloc, conns, fail)
+}
+
 impl Objects {
     fn new(alloc: Global, given: &Run, disk: &[u8], piece: usize) -> Result<Objects, AllocError> {
         let disk = disk_of(alloc, disk, &given.fail_disk)?;
@@ -52,12 +70,14 @@ impl Objects {
         let input = source_of(alloc, given, piece)?;
         let notes = sink_of(alloc, &given.fail_note)?;
         let out = sink_of(alloc, &given.fail_write)?;
+        let net = listener_of(alloc, given, piece)?;
         Ok(Objects {
             input,
             out,
             notes,
             disk,
             clock,
+            net,
         })
     }
 
@@ -70,6 +90,7 @@ impl Objects {
             &mut self.notes,
             &mut self.disk,
             &mut self.clock,
+            &mut self.net,
         )
     }
 }
@@ -137,6 +158,7 @@ fn lines_of(
     let mut found = String::new(alloc);
     add_lines(&mut found, "< ", objects.out.written())?;
     add_cut(&mut found, objects.out.written())?;
+    add_responses(&mut found, objects.net.closed())?;
     add_lines(&mut found, "note ", objects.notes.written())?;
     add_status(alloc, &mut found, status)?;
     if given.shows_kept {

@@ -1,5 +1,6 @@
 // One run of the program: what it is given, and what is wanted of it.
-use hex::decode;
+use crate::bytes::{add_hex, add_number, fill};
+use crate::connection::Connection;
 use reg_base::Moment;
 use std::alloc::{AllocError, Global};
 
@@ -31,6 +32,9 @@ pub struct Run {
     pub fail_write: Vec<u64>,
     pub fail_note: Vec<u64>,
     pub fail_disk: Vec<u64>,
+    pub fail_net: Vec<u64>,
+    /// The connections that come, in order. What is given behind the first is theirs.
+    pub connections: Vec<Connection>,
     pub wanted: String,
     pub shows_kept: bool,
     pub shows_journal: bool,
@@ -50,29 +54,6 @@ fn copies_of(alloc: Global, words: &[String]) -> Result<Vec<String>, AllocError>
         copies.push(String::from_str(alloc, word.as_str())?)?;
     }
     Ok(copies)
-}
-
-/// Adds a number. False where the text is none.
-fn add_number(numbers: &mut Vec<u64>, text: &str) -> Result<bool, AllocError> {
-    match text.parse::<u64>() {
-        Ok(number) => {
-            numbers.push(number)?;
-            Ok(true)
-        }
-        Err(_) => Ok(false),
-    }
-}
-
-/// Adds the bytes that a text gives in hex, where spaces don't count. False where it isn't hex.
-pub fn add_hex(alloc: Global, bytes: &mut Vec<u8>, text: &str) -> Result<bool, AllocError> {
-    let mut is_read = true;
-    for piece in text.split(' ') {
-        match decode(alloc, piece) {
-            Ok(more) => bytes.extend_from_slice(&more)?,
-            Err(_) => is_read = false,
-        }
-    }
-    Ok(is_read)
 }
 
 /// A number that isn't 0.
@@ -105,6 +86,8 @@ impl Run {
             fail_write: Vec::new(alloc),
             fail_note: Vec::new(alloc),
             fail_disk: Vec::new(alloc),
+            fail_net: Vec::new(alloc),
+            connections: Vec::new(alloc),
             wanted: String::new(alloc),
             shows_kept: false,
             shows_journal: false,
@@ -118,6 +101,9 @@ impl Run {
         run.words = copies_of(alloc, &self.words)?;
         run.moments = self.moments.to_vec(alloc)?;
         run.input = self.input.to_vec(alloc)?;
+        for connection in &self.connections {
+            run.connections.push(connection.again(alloc)?)?;
+        }
         run.now = self.now;
         run.first_piece = self.first_piece;
         run.last_piece = self.last_piece;
@@ -147,28 +133,16 @@ impl Run {
         }
     }
 
-    /// Adds a text to the input so many times.
-    fn fill(&mut self, text: &str) -> Result<bool, AllocError> {
-        let Some((count, text)) = text.split_once(' ') else {
+    /// Sets what the clock says: at the lines that follow, or next, where connections come.
+    fn set_now(&mut self, text: &str) -> Result<bool, AllocError> {
+        let Some(moment) = Moment::parse(text.as_bytes()) else {
             return Ok(false);
         };
-        let Ok(count) = count.parse::<u32>() else {
-            return Ok(false);
-        };
-        for _ in 0..count {
-            self.input.extend_from_slice(text.as_bytes())?;
+        self.now = moment;
+        if !self.connections.is_empty() {
+            self.moments.push(moment)?;
         }
         Ok(true)
-    }
-
-    fn set_now(&mut self, text: &str) -> bool {
-        match Moment::parse(text.as_bytes()) {
-            Some(moment) => {
-                self.now = moment;
-                true
-            }
-            None => false,
-        }
     }
 
     fn set_pieces(&mut self, first: Option<usize>, last: Option<usize>) -> bool {
@@ -193,6 +167,7 @@ impl Run {
             Some(("write", number)) => add_number(&mut self.fail_write, number),
             Some(("note", number)) => add_number(&mut self.fail_note, number),
             Some(("disk", number)) => add_number(&mut self.fail_disk, number),
+            Some(("net", number)) => add_number(&mut self.fail_net, number),
             _ => Ok(false),
         }
     }
@@ -230,13 +205,27 @@ impl Run {
             ">-" => self.add_line(rest),
             "+" => self.add_line_by_system(rest),
             "bytes" => add_hex(alloc, &mut self.input, rest),
-            "fill" => self.fill(rest),
-            "at" => Ok(self.set_now(rest)),
+            "fill" => fill(&mut self.input, rest),
+            "at" => self.set_now(rest),
             "piece" => Ok(self.set_pieces(size_of(rest), size_of(rest))),
             "pieces" => Ok(self.set_pieces(Some(1), size_of(rest))),
             "cuts" => Ok(self.set_cuts(rest)),
             "fail" => self.add_failing(rest),
             _ => Ok(false),
+        }
+    }
+
+    fn add_connection(&mut self, alloc: Global) -> Result<bool, AllocError> {
+        self.connections.push(Connection::new(alloc))?;
+        Ok(true)
+    }
+
+    /// Takes a line of what the last connection is given. False where there is none, or the line
+    /// isn't its.
+    fn take_connected(&mut self, alloc: Global, key: &str, rest: &str) -> Result<bool, AllocError> {
+        match self.connections.last_mut() {
+            Some(connection) => connection.take(alloc, key, rest),
+            None => Ok(false),
         }
     }
 
@@ -246,7 +235,8 @@ impl Run {
             None => (line, ""),
         };
         match key {
-            "<" | "cut" | "note" | "status" => self.want(line),
+            "<" | "reply" | "cut" | "closed" | "note" | "status" => self.want(line),
+            "connection" => self.add_connection(alloc),
             "ok" => self.want_number(rest),
             "kept" => {
                 self.shows_kept = true;
@@ -256,7 +246,10 @@ impl Run {
                 self.shows_journal = true;
                 self.want_journal(rest)
             }
-            _ => self.take_given(alloc, key, rest),
+            _ => {
+                let is_taken = self.take_connected(alloc, key, rest)?;
+                Ok(is_taken || self.take_given(alloc, key, rest)?)
+            }
         }
     }
 

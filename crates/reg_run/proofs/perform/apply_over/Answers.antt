@@ -8,17 +8,18 @@ use Rattle.reg_run.proofs.perform.apply_over.Goals as goal
 
 -- the journal didn't open, so the disk was only read
 pub returns-in-Err-clause-did : goal.returns-in-Err-clause-did
-returns-in-Err-clause-did g c = inl (record {
+returns-in-Err-clause-did g c n = inl (record {
   cause = c.in-Err.ensures.cause;
   input = (refl, refl);
   output = (refl, refl, refl);
   clock = refl;
+  net = refl;
   disk = untouched_same g.D.Disk c.args.disk c.in-Err.disk c.in-Err.ensures.crash_err (g.met.D.Disk.only_now c.args.disk) c.in-Err.ensures.same_err;
 })
 
 -- all lines were answered
 pub returns-in-Ok-answer_input-clause-did : goal.returns-in-Ok-answer_input-clause-did
-returns-in-Ok-answer_input-clause-did g c =
+returns-in-Ok-answer_input-clause-did g c n =
     let from = c.in-Ok.service.state in
     let to = c.in-Ok-answer_input.service.state in
     let mid = disk_of c.in-Ok.service.keeper in
@@ -28,7 +29,7 @@ returns-in-Ok-answer_input-clause-did g c =
     inr (
       from,
       c.in-Ok.ensures.opens,
-      did_apply _ the_end.Done _ _ from a.taken a.input (omega (arith, a.few)) a.cut a.accepted (length to.history - length from.history)
+      did_apply _ the_end.Done _ _ from a.taken a.input (omega (arith, a.few)) a.cut a.accepted (length to.history - length from.history) refl
           (record { to = _; all = a.all; written = refl; moments = refl; flushed = c.in-Ok-answer_input.ensures.flushed; ended = a.ended; few = a.few; opens = c.close.ensures.opens })
           (rw c.close.ensures.disk (survives_kept g.D.Disk from.history to.history to.history a.accepted 0 c.args.disk mid new c.in-Ok.ensures.crash (g.met.D.Disk.only_now c.args.disk) c.in-Ok.ensures.same (g.met.D.Disk.reads_now new)
           a.all.grown (no_shorter from.history to.history a.accepted a.all.grown) (inl refl) (λ is. refl)
@@ -37,7 +38,7 @@ returns-in-Ok-answer_input-clause-did g c =
 
 -- the session stopped
 pub returns-in-Err-answer_input-clause-did : goal.returns-in-Err-answer_input-clause-did
-returns-in-Err-answer_input-clause-did g c =
+returns-in-Err-answer_input-clause-did g c n =
     let from = c.in-Ok.service.state in
     let mid = disk_of c.in-Ok.service.keeper in
     let new = disk_of c.in-Err-answer_input.keeper in
@@ -46,7 +47,7 @@ returns-in-Err-answer_input-clause-did g c =
     rw (c.into_disk.ensures, c.end_of_stop.ensures) (inr (
       from,
       c.in-Ok.ensures.opens,
-      did_apply _ (end_of_stop c.in-Err-answer_input.stop) _ _ from s.taken s.input s.few s.cut h.kept.more (length h.answered - length from.history)
+      did_apply _ (end_of_stop c.in-Err-answer_input.stop) _ _ from s.taken s.input s.few s.cut h.kept.more (length h.answered - length from.history) refl
           (apply_stopped c.in-Err-answer_input.stop from s.taken _ _ h.kept.more (length h.answered - length from.history) h.answered h.after c.in-Err-answer_input.ensures.input c.in-Err-answer_input.ensures.output
           (λ is. omega (arith, c.in-Err-answer_input.ensures.disk is, c.in-Ok.ensures.later)) (answered_front from.history h.answered h.after h.kept.more h.kept.grown h.first h.last) h.kept.grown s.ends)
           (survives_kept g.D.Disk from.history h.answered h.after h.kept.more _ c.args.disk mid new c.in-Ok.ensures.crash (g.met.D.Disk.only_now c.args.disk) c.in-Ok.ensures.same (g.met.D.Disk.reads_now new)

@@ -10,6 +10,7 @@ returns-in-Err-clause-did g c w = inl (record {
   input = (refl, refl);
   output = (refl, refl, refl);
   clock = refl;
+  net = refl;
   disk = untouched_same g.D.Disk c.args.disk c.in-Err.disk c.in-Err.ensures.crash_err (g.met.D.Disk.only_now c.args.disk) c.in-Err.ensures.same_err;
 })
 
@@ -26,6 +27,7 @@ returns-in-Ok-clause-did g c w =
         printed = rw c.machine.ensures at c.print_check-end.ensures;
         input = (refl, refl);
         clock = refl;
+        net = refl;
         same = untouched_same g.D.Disk c.args.disk new c.in-Ok.ensures.crash (g.met.D.Disk.only_now c.args.disk) c.in-Ok.ensures.same;
         disk = survives_none g.D.Disk from.history _ _ c.args.disk new (survives_kept g.D.Disk from.history from.history from.history [] _ c.args.disk new new c.in-Ok.ensures.crash (g.met.D.Disk.only_now c.args.disk) c.in-Ok.ensures.same (g.met.D.Disk.reads_now new)
             same (no_shorter from.history from.history [] same) (inl refl) (λ is. refl)

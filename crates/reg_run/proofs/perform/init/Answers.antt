@@ -17,6 +17,7 @@ returns-in-Ok-clause-did g c w =
       input = (refl, refl);
       output = (refl, refl, refl);
       clock = refl;
+      net = refl;
     })
 
 -- the file is taken
@@ -34,6 +35,7 @@ returns-in-Err-Exists-default-clause-did g c w =
       input = (refl, refl);
       output = (refl, refl, refl);
       clock = refl;
+      net = refl;
     }
 
 -- the disk failed
@@ -51,4 +53,5 @@ returns-in-Err-Fault-default-clause-did g c w =
       input = (refl, refl);
       output = (refl, refl, refl);
       clock = refl;
+      net = refl;
     }

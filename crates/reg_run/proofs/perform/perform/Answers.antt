@@ -1,15 +1,18 @@
-use Rattle.reg_run.specs.World.{world}
+use Rattle.reg_run.specs.World.{net_of, world}
 use Rattle.reg_run.proofs.perform.perform.Goals as goal
 
 -- each task did what its function says
 pub returns-in-Init-clause-did : goal.returns-in-Init-clause-did
-returns-in-Init-clause-did g c = rw c.in-Init.is (c.init.ensures.did (world g.S.Source g.K.Sink g.D.Disk g.C.Clock c.args.input.now c.args.out.now c.args.disk c.args.clock.now))
+returns-in-Init-clause-did g c = rw c.in-Init.is (c.init.ensures.did (world g.S.Source g.K.Sink g.D.Disk g.C.Clock c.args.input.now c.args.out.now c.args.disk c.args.clock.now (net_of g.L.Listener c.args.net.now)))
 
 pub returns-in-Apply-clause-did : goal.returns-in-Apply-clause-did
-returns-in-Apply-clause-did g c = rw c.in-Apply.is c.apply_over.ensures.did
+returns-in-Apply-clause-did g c = rw c.in-Apply.is (c.apply_over.ensures.did (net_of g.L.Listener c.args.net.now))
 
 pub returns-in-Check-clause-did : goal.returns-in-Check-clause-did
-returns-in-Check-clause-did g c = rw c.in-Check.is (c.check_over.ensures.did (world g.S.Source g.K.Sink g.D.Disk g.C.Clock c.args.input.now c.args.out.now c.args.disk c.args.clock.now))
+returns-in-Check-clause-did g c = rw c.in-Check.is (c.check_over.ensures.did (world g.S.Source g.K.Sink g.D.Disk g.C.Clock c.args.input.now c.args.out.now c.args.disk c.args.clock.now (net_of g.L.Listener c.args.net.now)))
 
 pub returns-in-Ask-clause-did : goal.returns-in-Ask-clause-did
-returns-in-Ask-clause-did g c = rw c.in-Ask.is (c.ask_over.ensures.did (world g.S.Source g.K.Sink g.D.Disk g.C.Clock c.args.input.now c.args.out.now c.args.disk c.args.clock.now))
+returns-in-Ask-clause-did g c = rw c.in-Ask.is (c.ask_over.ensures.did (world g.S.Source g.K.Sink g.D.Disk g.C.Clock c.args.input.now c.args.out.now c.args.disk c.args.clock.now (net_of g.L.Listener c.args.net.now)))
+
+pub returns-in-Serve-clause-did : goal.returns-in-Serve-clause-did
+returns-in-Serve-clause-did g c = rw c.in-Serve.is (c.serve_over.ensures.did (world g.S.Source g.K.Sink g.D.Disk g.C.Clock c.args.input.now c.args.out.now c.args.disk c.args.clock.now (net_of g.L.Listener c.args.net.now)))

@@ -1,4 +1,4 @@
-use Rattle.std.proofs.Common.{rules, refl, inl, inr, sym, ◌∙◌, ◌≡◌, Some, None, map, string_bytes}
+use Rattle.std.proofs.Common.{rules, refl, inl, sym, ◌∙◌, ◌≡◌, Some, None, map, string_bytes}
 use Rattle.reg_words.specs.Words.{task_of}
 use Rattle.reg_run.proofs.Usage.{idle_did}
 use Rattle.reg_run.proofs.program.follow.Goals as goal

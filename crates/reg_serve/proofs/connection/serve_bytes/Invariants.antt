@@ -1,5 +1,6 @@
 use Rattle.std.proofs.Common.{◌≡◌, ◌≤◌, ◌-◌, ◌^◌, None}
 use Rattle.reg_http.specs.Messages.{IsUnfinished}
+use Rattle.reg_service.specs.Kept.{KeptOn}
 use Rattle.reg_serve.specs.Sessions.{HasServed}
 use Rattle.reg_serve.proofs.connection.serve_bytes.Given as goal
 
@@ -12,6 +13,7 @@ invariant-loop-taken g l =
     record {
       done : HasServed (left l.fn.conn) (left l.conn) (record { written = written l.fn.conn; moments = moments l.fn.clock; state = l.fn.service.state })
           (record { written = written l.conn; moments = moments l.clock; state = l.service.state }) l.reader l.taken;
+      kept : KeptOn g.K.Keeper l.fn.service.state.history l.fn.service.keeper l.service.state.history l.service.keeper;
       unfinished : IsUnfinished l.reader.rest;
       fault : l.reader.fault ≡ None;
       few : l.taken ≤ 2 ^ 32;

@@ -4,7 +4,7 @@ use Rattle.reg_serve.proofs.connection.serve_piece.Goals as goal
 
 -- there was no memory for the piece
 pub returns-in-Err-clause-ended : goal.returns-in-Err-clause-ended
-returns-in-Err-clause-ended g c = ends_quiet _ _ _ _ _ (refl, refl, refl)
+returns-in-Err-clause-ended g c = ends_quiet g.K.Keeper _ _ _ _ _ c.args.service refl refl refl c.stays.ensures
 
 -- its messages were answered
 pub returns-in-Ok-clause-served : goal.returns-in-Ok-clause-served

@@ -1,20 +1,23 @@
-use Rattle.std.proofs.Common.{refl, arith}
+use Rattle.std.proofs.Common.{arith}
 use Rattle.std.proofs.lemmas.List.{length-take-le}
 use Rattle.reg_serve.proofs.Turning.{served_piece, session_piece, session_still, session_end}
 use Rattle.reg_serve.proofs.connection.serve_some.Goals as goal
 
 -- a read failed
 pub returns-in-Err-clause-session : goal.returns-in-Err-clause-session
-returns-in-Err-clause-session g c left first h = session_still _ _ _ _ _ _ _ _ _ _ h c.in-Err.ensures.same (omega (arith, c.requires.some)) (c.in-Err.ensures.written, refl, refl) (λ taken counted. tt)
+returns-in-Err-clause-session g c left first keeper h kept =
+    session_still g.K.Keeper keeper _ _ _ _ c.args.service _ _ _ _ _ _ h kept c.in-Err.ensures.same c.in-Err.ensures.written (omega (arith, c.requires.some)) (λ taken counted. tt)
 
 -- its bytes ended
 pub returns-then-count-eq0-clause-session : goal.returns-then-count-eq0-clause-session
-returns-then-count-eq0-clause-session g c left first h = session_end _ _ _ _ _ _ _ _ _ _ _ _ h c.in-Ok.ensures.bytes c.if-count-eq0.true (c.in-Ok.ensures.end c.if-count-eq0.true) (omega (arith, c.requires.some)) c.requires.none (c.in-Ok.ensures.written, refl, refl)
+returns-then-count-eq0-clause-session g c left first keeper h kept =
+    session_end g.K.Keeper keeper _ _ _ _ c.args.service _ _ _ _ _ _ _ h kept c.in-Ok.ensures.written c.in-Ok.ensures.bytes c.if-count-eq0.true (c.in-Ok.ensures.end c.if-count-eq0.true) (omega (arith, c.requires.some)) c.requires.none
 
 -- it ended in a piece
 pub returns-in-Err-serve_piece-clause-session : goal.returns-in-Err-serve_piece-clause-session
-returns-in-Err-serve_piece-clause-session g c left first h =
-    rw c.in-Err-serve_piece.ensures.left (session_piece c.turns_are_of_all_bytes.ensures.fed _ _ _ _ _ _ _ _ _ _ _ h c.in-Ok.ensures.bytes (omega (arith, c.in-Ok.ensures.within, length-take-le _ _ c.in-Ok.ensures.filled)) (rw c.in-Ok.ensures.written at c.in-Err-serve_piece.ensures.ended))
+returns-in-Err-serve_piece-clause-session g c left first keeper h kept =
+    rw c.in-Err-serve_piece.ensures.left (session_piece g.K.Keeper keeper c.args.service.keeper c.turns_are_of_all_bytes.ensures.fed _ _ _ _ _ _ _ _ _ _ _ h kept c.in-Ok.ensures.bytes (omega (arith, c.in-Ok.ensures.within, length-take-le _ _ c.in-Ok.ensures.filled))
+    (rw c.in-Ok.ensures.written at c.in-Err-serve_piece.ensures.ended))
 
 -- a piece more was read, and its messages answered
 pub returns-in-Ok-serve_piece-clause-served : goal.returns-in-Ok-serve_piece-clause-served

@@ -1,4 +1,4 @@
-use Rattle.reg_serve.proofs.Answering.{answers_go, answers_stop, finishes_open, finishes_served, finishes_ended, stops_at}
+use Rattle.reg_serve.proofs.Answering.{answers_go, answers_stop, finishes_open, finishes_served, finishes_kept, finishes_ended, stop_leaves}
 use Rattle.reg_serve.proofs.serving.serve_call.Goals as goal
 
 -- the service goes on
@@ -7,16 +7,21 @@ returns-in-Go-clause-open g c = finishes_open _ _ c.in-Go.service c.args.call.no
 
 pub returns-in-Go-clause-served : goal.returns-in-Go-clause-served
 returns-in-Go-clause-served g c =
-    let m = answers_go _ _ _ _ c.answer-reply.result c.in-Go.service (rw c.asked_of-asked.ensures at c.answer-reply.ensures) c.in-Go.is in
+    let m = answers_go _ _ _ _ _ _ c.answer-reply.result c.in-Go.service (rw c.asked_of-asked.ensures at c.answer-reply.ensures) c.in-Go.is in
     finishes_served _ _ _ _ _ c.in-Go.service c.args.call.now m.0 _ c.finish_call.result m.1 m.2 (rw c.asked_of-asked.ensures at c.finish_call.ensures.sends)
+
+pub returns-in-Go-clause-kept : goal.returns-in-Go-clause-kept
+returns-in-Go-clause-kept g c =
+    let m = answers_go _ _ _ _ _ _ c.answer-reply.result c.in-Go.service c.answer-reply.ensures c.in-Go.is in
+    finishes_kept g.K.Keeper _ _ _ _ c.in-Go.service c.asked_of-asked.result c.args.call.now _ c.finish_call.result m.3 c.finish_call.ensures.sends
 
 pub returns-in-Go-clause-ended : goal.returns-in-Go-clause-ended
 returns-in-Go-clause-ended g c =
-    let m = answers_go _ _ _ _ c.answer-reply.result c.in-Go.service (rw c.asked_of-asked.ensures at c.answer-reply.ensures) c.in-Go.is in
-    finishes_ended _ _ _ _ _ c.in-Go.service c.args.call.now m.0 _ c.finish_call.result m.1 m.2 (rw c.asked_of-asked.ensures at c.finish_call.ensures.sends)
+    let m = answers_go _ _ _ _ _ _ c.answer-reply.result c.in-Go.service (rw c.asked_of-asked.ensures at c.answer-reply.ensures) c.in-Go.is in
+    finishes_ended g.K.Keeper c.args.service.keeper _ _ _ _ _ c.in-Go.service c.args.call.now m.0 _ c.finish_call.result m.1 m.2 m.3 (rw c.asked_of-asked.ensures at c.finish_call.ensures.sends)
 
 -- it stopped
 pub returns-in-Stop-clause-ended : goal.returns-in-Stop-clause-ended
 returns-in-Stop-clause-ended g c =
-    let m = answers_stop _ _ _ _ c.answer-reply.result c.in-Stop.cause c.in-Stop.keeper (rw c.asked_of-asked.ensures at c.answer-reply.ensures) c.in-Stop.is in
-    stops_at _ _ _ _ _ _ m.1.0 _ _ m.1.1 m.0 (rw c.asked_of-asked.ensures at c.stop_call.ensures.sends)
+    let m = answers_stop _ _ _ _ _ _ c.answer-reply.result c.in-Stop.cause c.in-Stop.keeper (rw c.asked_of-asked.ensures at c.answer-reply.ensures) c.in-Stop.is in
+    stop_leaves g.K.Keeper c.args.service.keeper c.in-Stop.keeper _ _ _ _ _ _ m.1.0 _ _ m.1.2.0 m.1.1 m.0 (rw c.asked_of-asked.ensures at c.stop_call.ensures.sends) m.1.2.1 m.1.2.2

@@ -1,10 +1,11 @@
 use Rattle.std.proofs.Common.{refl, inr}
+use Rattle.reg_serve.specs.Answered.{goes}
 use Rattle.reg_serve.proofs.Turning.{served_turn, remains, fails_turn, ok_so, err_so}
 use Rattle.reg_serve.proofs.serving.serve_turn.Goals as goal
 
 -- there was no memory
 pub returns-in-Err-clause-ended : goal.returns-in-Err-clause-ended
-returns-in-Err-clause-ended g c = inr ((refl, refl, refl), refl)
+returns-in-Err-clause-ended g c = (goes c.args.service.state, inr ((refl, refl, refl), refl), (refl, c.stays.ensures))
 
 -- a turn was taken
 pub returns-in-Ok-clause-served : goal.returns-in-Ok-clause-served
@@ -14,4 +15,4 @@ pub returns-in-Ok-clause-more : goal.returns-in-Ok-clause-more
 returns-in-Ok-clause-more g c = ok_so _ _ c.take_turn.result c.take_turn.ensures.served (λ after s. remains _ _ _ _ c.in-Ok.turn after.1 c.requires c.in-Ok.ensures.turn s)
 
 pub returns-in-Ok-clause-ended : goal.returns-in-Ok-clause-ended
-returns-in-Ok-clause-ended g c = err_so _ _ c.take_turn.result c.take_turn.ensures.ended (λ e f. fails_turn _ _ _ c.in-Ok.turn _ _ e c.requires c.in-Ok.ensures.turn f)
+returns-in-Ok-clause-ended g c = err_so _ _ c.take_turn.result c.take_turn.ensures.ended (λ e f. fails_turn g.K.Keeper _ _ _ _ c.in-Ok.turn _ _ e c.requires c.in-Ok.ensures.turn f)

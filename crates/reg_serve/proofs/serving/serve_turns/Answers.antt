@@ -1,5 +1,6 @@
 use Rattle.std.proofs.Common.{refl, arith, rules}
-use Rattle.reg_serve.proofs.Turning.{serves_none, serves_more, remains_fault, remains_none}
+use Rattle.reg_session.proofs.Halting.{kept_then}
+use Rattle.reg_serve.proofs.Turning.{ends_behind, serves_none, serves_more, remains_fault, remains_none}
 use Rattle.reg_serve.proofs.serving.serve_turns.Goals as goal
 
 -- nothing was answered yet
@@ -8,6 +9,7 @@ loop-more-init g c = record {
   served = serves_none _ _;
   fault = c.requires;
   none = λ e. absurd (cc);
+  kept = c.stays.ensures;
   left = refl;
   reads = omega arith;
   writes = omega arith;
@@ -22,6 +24,7 @@ loop-more-preserved g c =
       served = serves_more _ _ _ _ _ _ inv.served one.served;
       fault = remains_fault _ _ _ one.more;
       none = λ e. remains_none _ _ _ one.more e;
+      kept = kept_then g.K.Keeper _ _ _ _ _ _ inv.kept one.kept;
       left = search rules;
       reads = search rules;
       writes = search rules;
@@ -29,4 +32,4 @@ loop-more-preserved g c =
 
 -- a message ended the connection
 pub returns-in-Err-clause-ended : goal.returns-in-Err-clause-ended
-returns-in-Err-clause-ended g c = record { last = _; reading = c.loop-more.reader; served = c.loop-more.invariant.served; ends = c.in-Err.ensures.ended }
+returns-in-Err-clause-ended g c = ends_behind g.K.Keeper _ _ _ _ _ _ _ _ _ c.loop-more.invariant.served c.loop-more.invariant.kept c.in-Err.ensures.ended

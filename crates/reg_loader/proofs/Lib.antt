@@ -1,0 +1,5 @@
+pub mod Finding
+pub mod Judging
+pub mod Reaching
+pub mod Takings
+mod Worked

@@ -1,0 +1,4 @@
+pub mod Columns
+pub mod Readings
+pub mod Rows
+pub mod Tables

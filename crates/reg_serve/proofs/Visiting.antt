@@ -1,0 +1,260 @@
+-- From connection to connection of a listener.
+use Rattle.std.proofs.Common.{◌≡◌, ◌≤◌, ◌<◌, ◌+◌, ◌++◌, ◌∷◌, [], List, ℕ, Option, Some, None, Bool, Result, Ok, Err, true, false, if◌then◌else◌, refl, ap, sym, ◌∙◌, append_assoc, append-nil, arith, inl, inr, ◌⊎◌, length, length-append, map, option_map}
+use Rattle.std.specs.Prelude.{IfSome, IfOk, IfErr}
+use Rattle.std.proofs.lemmas.List.{map-append}
+use Rattle.reg_outside.specs.Connections.{Accepts, Connections, HasOpen, Seen, gives_back}
+use Rattle.reg_outside.specs.Faults.{Rose}
+use Rattle.reg_terms.specs.declared.command.Stamped.{Stamped}
+use Rattle.reg_machine.specs.History.{State}
+use Rattle.reg_keep.specs.declared.keeper.Keeper.{Ghosts}
+use Rattle.reg_service.specs.Kept.{Halted, KeptOn, RoseAt}
+use Rattle.reg_service.specs.Opening.{Served}
+use Rattle.reg_service.specs.declared.service.Cause.{Cause}
+use Rattle.reg_service.specs.declared.service.Cause.TheVariants as cause
+use Rattle.reg_service.specs.declared.service.Next.{Next}
+use Rattle.reg_service.specs.declared.service.Next.TheVariants as next
+use Rattle.reg_session.proofs.Halting.{halted_then}
+use Rattle.reg_serve.specs.Answered.{Outcome, goes, stops}
+use Rattle.reg_serve.specs.Keeping.{IsLeft}
+use Rattle.reg_serve.specs.Sessions.{Session, EndsAtMessage, EndsBetween, IsQuiet}
+use Rattle.reg_serve.specs.Visits.{AllServed, BreaksAt, CeasesAt, CeasesNext, CeasesServing, GivesBack, IsVisit, ServedSo, ServesVisits, Sessions, StopsAtLast, Visit, Visited, Visits, ceased_of}
+use Rattle.reg_serve.specs.declared.ended.Ceased.{Ceased}
+use Rattle.reg_serve.specs.declared.ended.Ceased.TheVariants as ceased
+use Rattle.reg_serve.specs.declared.ended.Ended.{Ended}
+use Rattle.reg_serve.specs.declared.ended.Ended.TheVariants as ended
+
+-- ---- what a listener tells
+
+abbrev NoneComes : Option Connections → Type 0
+NoneComes told = IfSome told (λ (c : Connections). c.coming ≡ [])
+
+abbrev IsSteady : Option Connections → Type 0
+IsSteady told = IfSome told (λ (c : Connections). length c.given_back ≤ c.accepted)
+
+-- an accepted connection can be given back
+pub accepted_open : {C E : Type 0} (see : C → Seen) (old new : Option Connections) (conn : C) (r : Result (Option C) E) → IsSteady old → Accepts see old new r → r ≡ Ok (Some conn) → IfSome new HasOpen
+accepted_open {E = E} see old new conn r steady a is = go old new steady (rw is at a)
+  where
+    go : (old new : Option Connections) → IsSteady old → Accepts {E = E} see old new (Ok (Some conn)) → IfSome new HasOpen
+    go None None s a = tt
+    go None (Some n) s a = absurd a
+    go (Some o) None s a = absurd a
+    go (Some o) (Some n) s a = omega (arith, s, a.accepted, ap (λ (l : List Seen). length l) a.given_back)
+
+-- none was accepted: the call failed, or none is to come
+pub failed_told : {C E : Type 0} (see : C → Seen) (old new : Option Connections) (e : E) (r : Result (Option C) E) → Accepts see old new r → r ≡ Err e → Visits old new []
+failed_told {C = C} see old new e r a is = go old new (rw is at a)
+  where
+    go : (old new : Option Connections) → Accepts {C = C} see old new (Err e) → Visits old new []
+    go None None a = tt
+    go None (Some n) a = absurd a
+    go (Some o) None a = absurd a
+    go (Some o) (Some n) a = rw a (record { coming = refl; accepted = omega arith; given_back = sym (append-nil o.given_back) })
+
+pub none_told : {C E : Type 0} (see : C → Seen) (old new : Option Connections) (r : Result (Option C) E) → Accepts see old new r → r ≡ Ok None → Visits old new [] × NoneComes new
+none_told {C = C} {E = E} see old new r a is = go old new (rw is at a)
+  where
+    go : (old new : Option Connections) → Accepts {C = C} {E = E} see old new (Ok None) → Visits old new [] × NoneComes new
+    go None None a = (tt, tt)
+    go None (Some n) a = absurd a
+    go (Some o) None a = absurd a
+    go (Some o) (Some n) a = rw a.1 (record { coming = refl; accepted = omega arith; given_back = sym (append-nil o.given_back) }, a.0)
+
+-- one was, and it was given back
+pub one_told : {C E : Type 0} (see : C → Seen) (old mid new : Option Connections) (conn : C) (back : Seen) (r : Result (Option C) E) → Accepts see old mid r → r ≡ Ok (Some conn) → new ≡ option_map (gives_back back) mid
+    → Visits old new ((record { came = see conn; back = back }) ∷ [])
+one_told {E = E} see old mid new conn back r a is told = rw told (go old mid (rw is at a))
+  where
+    go : (old mid : Option Connections) → Accepts {E = E} see old mid (Ok (Some conn)) → Visits old (option_map (gives_back back) mid) ((record { came = see conn; back = back }) ∷ [])
+    go None None a = tt
+    go None (Some m) a = absurd a
+    go (Some o) None a = absurd a
+    go (Some o) (Some m) a = record { coming = a.coming; accepted = a.accepted; given_back = ap (λ (l : List Seen). l ++ back ∷ []) a.given_back }
+
+-- some visits, and then others
+pub visits_then : (old mid new : Option Connections) (xs ys : List Visit) → Visits old mid xs → Visits mid new ys → Visits old new (xs ++ ys)
+visits_then None None None xs ys a b = tt
+visits_then None None (Some n) xs ys a b = absurd b
+visits_then None (Some m) new xs ys a b = absurd a
+visits_then (Some o) None new xs ys a b = absurd a
+visits_then (Some o) (Some m) None xs ys a b = absurd b
+visits_then (Some o) (Some m) (Some n) xs ys a b = record {
+  coming = a.coming ∙ (ap (λ (l : List Seen). map (λ (v : Visit). v.came) xs ++ l) b.coming
+      ∙ (sym (append_assoc (map (λ (v : Visit). v.came) xs) (map (λ (v : Visit). v.came) ys) n.coming) ∙ ap (λ (l : List Seen). l ++ n.coming) (sym (map-append (λ (v : Visit). v.came) xs ys))));
+  accepted = omega (arith, a.accepted, b.accepted, length-append xs ys);
+  given_back = b.given_back ∙ (ap (λ (l : List Seen). l ++ map (λ (v : Visit). v.back) ys) a.given_back
+      ∙ (append_assoc o.given_back (map (λ (v : Visit). v.back) xs) (map (λ (v : Visit). v.back) ys) ∙ ap (λ (l : List Seen). o.given_back ++ l) (sym (map-append (λ (v : Visit). v.back) xs ys))));
+}
+
+-- ---- sessions
+
+sessions_then : (s mid last : State) (ms between later : Option (List ℕ)) (xs ys : List Visit) → Sessions s ms xs mid between → Sessions mid between ys last later → Sessions s ms (xs ++ ys) last later
+sessions_then s mid last ms between later [] ys a b = rw (← a.0, ← a.1) b
+sessions_then s mid last ms between later (x ∷ xs) ys a b = (a.0, a.1, a.2, a.3, sessions_then a.1 mid last a.2 between later xs ys a.4 b)
+
+-- a session after which the service doesn't go on ended with Stopped
+stopped_only : (p : _) (left now w ms : Option (List ℕ)) (e : Ended) (why : Cause) (after : List Stamped) → Session p left now w ms e (stops why after) → e ≡ ended.Stopped
+stopped_only p left now w ms e why after s = go e s.ends
+  where
+    go : (e : Ended) → EndsAtMessage s.last s.reading.rest w ms e (stops why after) ⊎ (IsQuiet s.last w ms (stops why after) × EndsBetween s.taken now s.reading.rest e) → e ≡ ended.Stopped
+    go ended.Stopped t = refl
+    go ended.Closed (inl (inl m)) = absurd m.3
+    go ended.Closed (inl (inr f)) = absurd f.2
+    go ended.Closed (inr q) = absurd q.0
+    go ended.Bad (inl (inl m)) = absurd m.3
+    go ended.Bad (inl (inr f)) = absurd f.2.0
+    go ended.Bad (inr q) = absurd q.0
+    go ended.Failed (inl (inl m)) = absurd m.3
+    go ended.Failed (inl (inr f)) = absurd f.2.0
+    go ended.Failed (inr q) = absurd q.0
+    go ended.TooMuch (inl (inl m)) = absurd m.3
+    go ended.TooMuch (inl (inr f)) = absurd f.2
+    go ended.TooMuch (inr q) = absurd q.0
+    go ended.NoMemory (inl (inl m)) = absurd m.3
+    go ended.NoMemory (inl (inr f)) = absurd f.2
+    go ended.NoMemory (inr q) = absurd q.0
+
+-- ---- one connection
+
+-- none was served
+pub served_none : (s : State) (ms : Option (List ℕ)) (old new : Option Connections) → Visits old new [] → ServedSo 0 s ms old new s ms
+served_none s ms old new told = record { visits = []; told = told; counted = refl; sessions = (refl, refl) }
+
+-- one was, after which the service goes on
+pub served_one : {C E K : Type 0} (see : C → Seen) (g : Ghosts K) (s : State) (k : K) (ms : Option (List ℕ)) (old mid new : Option Connections) (later : Option (List ℕ)) (conn : C) (r : Result (Option C) E) (n : Next K) (after : Served K)
+    → Accepts see old mid r → r ≡ Ok (Some conn) → GivesBack g s k ms (see conn) mid new later n → n ≡ next.Go after
+    → ServedSo 1 s ms old new after.state later × KeptOn g s.history k after.state.history after.keeper
+served_one see g s k ms old mid new later conn r n after a took b is = go b.to b.is (rw is at b.leaves)
+  where
+    go : (to : Outcome) (v : IsVisit s ms (record { came = see conn; back = b.back }) b.end to later) → IsLeft g s.history k v.session.last.state.history to (next.Go after)
+        → ServedSo 1 s ms old new after.state later × KeptOn g s.history k after.state.history after.keeper
+    go (goes t) v l = (
+      record { visits = (record { came = see conn; back = b.back }) ∷ []; told = one_told see old mid new conn b.back r a took b.told; counted = refl; sessions = (b.end, t, later, v, (l.0, refl)) },
+      rw l.0 l.1,
+    )
+    go (stops why h) v l = absurd l
+
+-- a call of the listener failed, before it or behind it
+pub ceases_listener : {K : Type 0} (g : Ghosts K) (count : ℕ) (s last : State) (k keeper : K) (ms : Option (List ℕ)) (old new : Option Connections) (later : Option (List ℕ)) → ServedSo count s ms old new last later → count ≤ 1
+    → (h : Halted g s.history k keeper) → h.answered ≡ last.history → h.after ≡ last.history → CeasesNext g s k ms old new later ceased.Listener keeper
+ceases_listener g count s last k keeper ms old new later served one h answered after = record {
+  visits = served.visits;
+  told = served.told;
+  few = omega (arith, served.counted, one);
+  halted = h;
+  ends = (last, served.sessions, answered, after);
+}
+
+breaks_stopped : (s : State) (ms : Option (List ℕ)) (visits : List Visit) (later : Option (List ℕ)) (answered after : List Stamped) (why : Cause) → StopsAtLast s ms visits later answered after why
+    → BreaksAt s ms visits later answered after (ceased_of why)
+breaks_stopped s ms visits later answered after cause.Memory t = t
+breaks_stopped s ms visits later answered after cause.Disk t = t
+
+-- the service stopped at it
+stops_at_last : (s : State) (ms : Option (List ℕ)) (v : Visit) (e : Ended) (later : Option (List ℕ)) (why : Cause) (answered after : List Stamped) → e ≡ ended.Stopped → (is : IsVisit s ms v e (stops why after) later)
+    → answered ≡ is.session.last.state.history → StopsAtLast s ms (v ∷ []) later answered after why
+stops_at_last s ms v ended.Stopped later why answered after e is done = record { earlier = []; visit = v; cut = refl; mid = s; between = ms; sessions = (refl, refl); last = is; done = done }
+stops_at_last s ms v ended.Closed later why answered after e is done = absurd (cc)
+stops_at_last s ms v ended.Bad later why answered after e is done = absurd (cc)
+stops_at_last s ms v ended.Failed later why answered after e is done = absurd (cc)
+stops_at_last s ms v ended.TooMuch later why answered after e is done = absurd (cc)
+stops_at_last s ms v ended.NoMemory later why answered after e is done = absurd (cc)
+
+ceases_stopped : {K : Type 0} (g : Ghosts K) (s : State) (k keeper : K) (ms : Option (List ℕ)) (old new : Option Connections) (later : Option (List ℕ)) (visit : Visit) (e : Ended) (why cause : Cause) (after : List Stamped)
+    → (v : IsVisit s ms visit e (stops cause after) later) (h : Halted g s.history k keeper) → why ≡ cause → h.answered ≡ v.session.last.state.history → h.after ≡ after → Visits old new (visit ∷ [])
+    → CeasesNext g s k ms old new later (ceased_of why) keeper
+ceases_stopped g s k keeper ms old new later visit e why cause after v h same answered kept told =
+    let only : e ≡ ended.Stopped = stopped_only _ _ _ _ _ e cause after v.session in
+    record {
+      visits = visit ∷ [];
+      told = told;
+      few = omega arith;
+      halted = h;
+      ends = rw (same, kept) (breaks_stopped s ms (visit ∷ []) later h.answered after cause (stops_at_last s ms visit e later cause h.answered after only v answered));
+    }
+
+pub stopped_one : {C E K : Type 0} (see : C → Seen) (g : Ghosts K) (s : State) (k : K) (ms : Option (List ℕ)) (old mid new : Option Connections) (later : Option (List ℕ)) (conn : C) (r : Result (Option C) E) (n : Next K) (why : Cause) (keeper : K)
+    → Accepts see old mid r → r ≡ Ok (Some conn) → GivesBack g s k ms (see conn) mid new later n → n ≡ next.Stop why keeper → CeasesNext g s k ms old new later (ceased_of why) keeper
+stopped_one see g s k ms old mid new later conn r n why keeper a took b is = go b.to b.is (rw is at b.leaves)
+  where
+    visit : Visit
+    visit = record { came = see conn; back = b.back }
+
+    go : (to : Outcome) (v : IsVisit s ms visit b.end to later) → IsLeft g s.history k v.session.last.state.history to (next.Stop why keeper) → CeasesNext g s k ms old new later (ceased_of why) keeper
+    go (goes t) v l = absurd l
+    go (stops cause after) v l = ceases_stopped g s k keeper ms old new later visit b.end why cause after v l.1.0 l.0 l.1.1 l.1.2 (one_told see old mid new conn b.back r a took b.told)
+
+pub stop_rose : {K : Type 0} (g : Ghosts K) (s : State) (k : K) (ms : Option (List ℕ)) (came : Seen) (old new : Option Connections) (later : Option (List ℕ)) (n : Next K) (why : Cause) (keeper : K) → GivesBack g s k ms came old new later n
+    → n ≡ next.Stop why keeper → ceased_of why ≡ ceased.Disk → Rose (g.keep_faults k) (g.keep_faults keeper)
+stop_rose g s k ms came old new later n why keeper b is disk = at why disk (go b.to b.is (rw is at b.leaves))
+  where
+    go : (to : Outcome) (v : IsVisit s ms (record { came = came; back = b.back }) b.end to later) → IsLeft g s.history k v.session.last.state.history to (next.Stop why keeper) → RoseAt why (g.keep_faults k) (g.keep_faults keeper)
+    go (goes t) v l = absurd l
+    go (stops cause after) v l = l.2
+
+    at : (why : Cause) → ceased_of why ≡ ceased.Disk → RoseAt why (g.keep_faults k) (g.keep_faults keeper) → Rose (g.keep_faults k) (g.keep_faults keeper)
+    at cause.Memory e rose = absurd (cc)
+    at cause.Disk e rose = rose
+
+-- ---- one after another
+
+pub served_then : (m n : ℕ) (s mid last : State) (ms between later : Option (List ℕ)) (old told new : Option Connections) → ServedSo m s ms old told mid between → ServedSo n mid between told new last later → ServedSo (m + n) s ms old new last later
+served_then m n s mid last ms between later old told new a b = record {
+  visits = a.visits ++ b.visits;
+  told = visits_then old told new a.visits b.visits a.told b.told;
+  counted = omega (arith, length-append a.visits b.visits, a.counted, b.counted);
+  sessions = sessions_then s mid last ms between later a.visits b.visits a.sessions b.sessions;
+}
+
+-- as many as were to be served, or all that were to come
+pub serves_all : (count limit : ℕ) (s last : State) (ms later : Option (List ℕ)) (old new : Option Connections) → ServedSo count s ms old new last later → count ≤ limit → (count ≡ limit) ⊎ NoneComes new → ServesVisits limit s ms old new last later
+serves_all count limit s last ms later old new a few done = record { visits = a.visits; told = a.told; few = omega (arith, a.counted, few); done = ends done; sessions = a.sessions }
+  where
+    ends : (count ≡ limit) ⊎ NoneComes new → (length a.visits ≡ limit) ⊎ NoneComes new
+    ends (inl e) = inl (a.counted ∙ e)
+    ends (inr none) = inr none
+
+stops_then : (s mid : State) (ms between later : Option (List ℕ)) (xs ys : List Visit) (answered after : List Stamped) (why : Cause) → Sessions s ms xs mid between → StopsAtLast mid between ys later answered after why
+    → StopsAtLast s ms (xs ++ ys) later answered after why
+stops_then s mid ms between later xs ys answered after why a b = record {
+  earlier = xs ++ b.earlier;
+  visit = b.visit;
+  cut = ap (λ (l : List Visit). xs ++ l) b.cut ∙ sym (append_assoc xs b.earlier (b.visit ∷ []));
+  mid = b.mid;
+  between = b.between;
+  sessions = sessions_then s mid b.mid ms between b.between xs b.earlier a b.sessions;
+  last = b.last;
+  done = b.done;
+}
+
+breaks_then : (s mid : State) (ms between later : Option (List ℕ)) (xs ys : List Visit) (answered after : List Stamped) (why : Ceased) → Sessions s ms xs mid between → BreaksAt mid between ys later answered after why
+    → CeasesAt s ms (xs ++ ys) later answered after why
+breaks_then s mid ms between later xs ys answered after ceased.Listener a b = (b.0, sessions_then s mid b.0 ms between later xs ys a b.1, b.2, b.3)
+breaks_then s mid ms between later xs ys answered after ceased.Memory a b = inr (stops_then s mid ms between later xs ys answered after cause.Memory a b)
+breaks_then s mid ms between later xs ys answered after ceased.Disk a b = stops_then s mid ms between later xs ys answered after cause.Disk a b
+
+-- no more were
+pub ceases_then : {K : Type 0} (g : Ghosts K) (count limit : ℕ) (s mid : State) (k0 k1 keeper : K) (ms between later : Option (List ℕ)) (old told new : Option Connections) (why : Ceased) → ServedSo count s ms old told mid between
+    → KeptOn g s.history k0 mid.history k1 → count < limit → CeasesNext g mid k1 between told new later why keeper → CeasesServing g limit s k0 ms old new later why keeper
+ceases_then g count limit s mid k0 k1 keeper ms between later old told new why a kept few b = record {
+  visits = a.visits ++ b.visits;
+  told = visits_then old told new a.visits b.visits a.told b.told;
+  few = omega (arith, length-append a.visits b.visits, a.counted, b.few, few);
+  halted = halted_then g s.history mid.history k0 k1 keeper kept b.halted;
+  ends = breaks_then s mid ms between later a.visits b.visits b.halted.answered b.halted.after why a.sessions b.ends;
+}
+
+-- there was no memory before the first
+pub same_told : (told : Option Connections) → Visits told told []
+same_told None = tt
+same_told (Some c) = record { coming = refl; accepted = omega arith; given_back = sym (append-nil c.given_back) }
+
+pub ceases_first : {K : Type 0} (g : Ghosts K) (limit : ℕ) (s : State) (k keeper : K) (ms : Option (List ℕ)) (told : Option Connections) (h : Halted g s.history k keeper) → h.answered ≡ s.history → h.after ≡ s.history
+    → CeasesServing g limit s k ms told told ms ceased.Memory keeper
+ceases_first g limit s k keeper ms told h answered after = record {
+  visits = [];
+  told = same_told told;
+  few = omega arith;
+  halted = h;
+  ends = inl (refl, (s, (refl, refl), answered, after));
+}

@@ -1,0 +1,143 @@
+// Connections, one after another.
+ghost use Rattle.std.specs.Prelude.{◌≡◌, ◌≤◌, [], Option, is_some, true, false, if◌then◌else◌, IfOk, IfErr, IfSome};
+ghost use Rattle.reg_outside.specs.Connections.{HasOpen, seen};
+ghost use Rattle.reg_outside.specs.Faults.{HasCause, Rose};
+ghost use Rattle.reg_service.specs.Kept.{KeptOn};
+ghost use Rattle.reg_serve.specs.Visits.{CeasesNext, CeasesServing, GivesBack, ServedSo, ServesVisits, ceased_of};
+
+use crate::connection::serve_routed;
+use crate::ended::Ceased;
+use reg_http::Routes;
+use reg_keep::Keeper;
+use reg_outside::{Clock, Failed, Listener, Sink, Source};
+use reg_service::{Cause, Next, Service};
+use std::alloc::Global;
+
+/// A service's cause as serving's.
+fn ceased_of(cause: Cause) -> Ceased
+    ensures { result ≡ ceased_of cause }
+{
+    match cause {
+        Cause::Memory => Ceased::Memory,
+        Cause::Disk => Ceased::Disk,
+    }
+}
+
+/// Serves an accepted connection, and gives it back however it ended. It says how that went.
+fn serve_accepted<K: Keeper, L: Listener, T: Clock>(
+    alloc: Global,
+    routes: &Routes,
+    service: Service<K>,
+    net: &mut L,
+    conn: L::Conn,
+    clock: &mut T,
+) -> (Next<K>, Result<(), Failed>)
+    requires { IfSome (L.connections net.old) HasOpen }
+    ensures back { GivesBack ⟦<K as Keeper>⟧ service.state service.keeper (T.moments clock.old) (seen ⟦<L::Conn as Source>⟧ ⟦<L::Conn as Sink>⟧ conn) (L.connections net.old) (L.connections net.new) (T.moments clock.new) result.0 }
+    ensures cause { HasCause (L.listener_faults net.old) (L.listener_faults net.new) result.1 }
+    ensures port { L.listens net.new ≡ L.listens net.old }
+{
+    let mut conn = conn;
+    let (_ended, next) = serve_routed(alloc, routes, service, &mut conn, clock);
+    let closed = net.close(conn);
+    (next, closed)
+}
+
+/// Accepts a connection and serves it, and says whether there was one.
+fn serve_next<K: Keeper, L: Listener, T: Clock>(
+    alloc: Global,
+    routes: &Routes,
+    service: Service<K>,
+    net: &mut L,
+    clock: &mut T,
+) -> Result<(Service<K>, bool), (Ceased, K)>
+    requires { is_some (L.listens net.old) ≡ true }
+    ensures served { IfOk result (λ after. ServedSo (if after.1 then 1 else 0) service.state (T.moments clock.old) (L.connections net.old) (L.connections net.new) after.0.state (T.moments clock.new)) }
+    ensures none { IfOk result (λ after. after.1 ≡ false → IfSome (L.connections net.new) (λ told. told.coming ≡ [])) }
+    ensures kept { IfOk result (λ after. KeptOn ⟦<K as Keeper>⟧ service.state.history service.keeper after.0.state.history after.0.keeper) }
+    ensures ceased { IfErr result (λ e. CeasesNext ⟦<K as Keeper>⟧ service.state service.keeper (T.moments clock.old) (L.connections net.old) (L.connections net.new) (T.moments clock.new) e.0 e.1) }
+    ensures listener { IfErr result (λ e. e.0 ≡ Ceased.Listener → Rose (L.listener_faults net.old) (L.listener_faults net.new)) }
+    ensures disk { IfErr result (λ e. e.0 ≡ Ceased.Disk → Rose (K.keep_faults service.keeper) (K.keep_faults e.1)) }
+    ensures port { L.listens net.new ≡ L.listens net.old }
+    ensures count { L.listener_faults net.old ≤ L.listener_faults net.new }
+{
+    service.stays();
+    let accepted = match net.accept() {
+        Ok(accepted) => accepted,
+        Err(Failed) => return Err((Ceased::Listener, service.into_keeper())),
+    };
+    let conn = match accepted {
+        Some(conn) => conn,
+        None => return Ok((service, false)),
+    };
+    let (next, closed) = serve_accepted(alloc, routes, service, net, conn, clock);
+    match next {
+        Next::Stop(cause, keeper) => Err((ceased_of(cause), keeper)),
+        Next::Go(service) => match closed {
+            Ok(()) => Ok((service, true)),
+            Err(Failed) => Err((Ceased::Listener, service.into_keeper())),
+        },
+    }
+}
+
+/// Serves connections one after another, over one table of routes.
+fn serve_all<K: Keeper, L: Listener, T: Clock>(
+    alloc: Global,
+    routes: &Routes,
+    service: Service<K>,
+    net: &mut L,
+    clock: &mut T,
+    limit: u64,
+) -> Result<Service<K>, (Ceased, K)>
+    requires { is_some (L.listens net.old) ≡ true }
+    ensures served { IfOk result (λ to. ServesVisits limit service.state (T.moments clock.old) (L.connections net.old) (L.connections net.new) to.state (T.moments clock.new)) }
+    ensures kept { IfOk result (λ to. KeptOn ⟦<K as Keeper>⟧ service.state.history service.keeper to.state.history to.keeper) }
+    ensures ceased { IfErr result (λ e. CeasesServing ⟦<K as Keeper>⟧ limit service.state service.keeper (T.moments clock.old) (L.connections net.old) (L.connections net.new) (T.moments clock.new) e.0 e.1) }
+    ensures listener { IfErr result (λ e. e.0 ≡ Ceased.Listener → Rose (L.listener_faults net.old) (L.listener_faults net.new)) }
+    ensures disk { IfErr result (λ e. e.0 ≡ Ceased.Disk → Rose (K.keep_faults service.keeper) (K.keep_faults e.1)) }
+    ensures port { L.listens net.new ≡ L.listens net.old }
+    ensures count { L.listener_faults net.old ≤ L.listener_faults net.new }
+{
+    service.stays();
+    let mut service = service;
+    let mut served: u64 = 0;
+    while served < limit {
+        match serve_next(alloc, routes, service, net, clock) {
+            Err(end) => return Err(end),
+            Ok((after, another)) => {
+                if !another {
+                    return Ok(after);
+                }
+                service = after;
+                served += 1;
+            }
+        }
+    }
+    Ok(service)
+}
+
+/// Serves connections one after another, at most so many, until none is to come, and gives each back
+/// however it ended. A connection that fails doesn't end it: that does a call of the listener that
+/// failed, and a service that stopped. Then the keeper is given back.
+pub fn serve_connections<K: Keeper, L: Listener, T: Clock>(
+    alloc: Global,
+    service: Service<K>,
+    net: &mut L,
+    clock: &mut T,
+    limit: u64,
+) -> Result<Service<K>, (Ceased, K)>
+    requires listening { is_some (L.listens net.old) ≡ true }
+    ensures served { IfOk result (λ to. ServesVisits limit service.state (T.moments clock.old) (L.connections net.old) (L.connections net.new) to.state (T.moments clock.new)) }
+    ensures kept { IfOk result (λ to. KeptOn ⟦<K as Keeper>⟧ service.state.history service.keeper to.state.history to.keeper) }
+    ensures ceased { IfErr result (λ e. CeasesServing ⟦<K as Keeper>⟧ limit service.state service.keeper (T.moments clock.old) (L.connections net.old) (L.connections net.new) (T.moments clock.new) e.0 e.1) }
+    ensures listener { IfErr result (λ e. e.0 ≡ Ceased.Listener → Rose (L.listener_faults net.old) (L.listener_faults net.new)) }
+    ensures disk { IfErr result (λ e. e.0 ≡ Ceased.Disk → Rose (K.keep_faults service.keeper) (K.keep_faults e.1)) }
+    ensures port { L.listens net.new ≡ L.listens net.old }
+    ensures count { L.listener_faults net.old ≤ L.listener_faults net.new }
+{
+    service.stays();
+    match Routes::new(alloc) {
+        Ok(routes) => serve_all(alloc, &routes, service, net, clock, limit),
+        Err(_) => Err((Ceased::Memory, service.into_keeper())),
+    }
+}

@@ -1,0 +1,50 @@
+// Numbers in words.
+ghost use Rattle.std.specs.Prelude.{◌≡◌, ◌≤◌};
+ghost use Rattle.reg_words.specs.Numbers.{connections_in, number_in, port_in};
+
+use reg_base::Text;
+
+/// How many connections are served at most.
+const MOST_CONNECTIONS: u64 = 1_000_000;
+
+/// The number from `least` to `most` that 1 to 20 digits give; None for any other text.
+fn number_in(text: &[u8], least: u64, most: u64) -> Option<u64>
+    requires { most ≤ 1000000 }
+    ensures { result ≡ number_in least most text.now }
+{
+    if text.is_empty() || text.len() > 20 {
+        return None;
+    }
+    let mut number: u64 = 0;
+    for digit in text {
+        if !digit.is_ascii_digit() {
+            return None;
+        }
+        number = number * 10 + u64::from(*digit - b'0');
+        if number > most {
+            return None;
+        }
+    }
+    if number < least { None } else { Some(number) }
+}
+
+/// The port that a word names: a number from 0 to 65,535.
+pub fn port_in(word: &Text) -> Option<u16>
+    ensures { result ≡ port_in word.now }
+{
+    match number_in(word.bytes(), 0, 65_535) {
+        Some(port) => Some(port as u16),
+        None => None,
+    }
+}
+
+/// How many connections a word asks for: a number from 1 to 1,000,000, which is also what is meant
+/// without a word.
+pub fn connections_in(word: &Option<Text>) -> Option<u64>
+    ensures { result ≡ connections_in word.now }
+{
+    match word {
+        Some(word) => number_in(word.bytes(), 1, MOST_CONNECTIONS),
+        None => Some(MOST_CONNECTIONS),
+    }
+}
