@@ -1,0 +1,113 @@
+"""Runs nginx as docs/serving/nginx.conf has it, before a served registry, for the benchmarks beside this file: on another
+port, with certificates of its own. It needs nginx and openssl."""
+import multiprocessing
+import os
+import socket
+import ssl
+import subprocess
+import time
+
+from serving import Answers, free_port
+
+CONFIG = os.path.join(os.path.dirname(os.path.dirname(os.path.abspath(__file__))), "docs/serving/nginx.conf")
+CURVE = ["-newkey", "ec", "-pkeyopt", "ec_paramgen_curve:P-256", "-nodes"]
+# nginx closes a connection after so many messages; a client opens another before
+MESSAGES = 900
+
+
+class FrontEnd:
+    """nginx before the registry on a port. The client's certificate is that of `uni/ann`."""
+
+    def __init__(self, folder, registry):
+        self.folder, self.port = os.path.join(folder, "front"), free_port()
+        os.makedirs(self.folder)
+        # its workers may be another user
+        for place in (folder, self.folder):
+            os.chmod(place, 0o755)
+        self.certificates()
+        self.configure(registry)
+        self.process = subprocess.Popen(["nginx", "-p", self.folder, "-c", self.folder + "/nginx.conf", "-e", "error.log"])
+        while True:
+            try:
+                self.connect().close()
+                return
+            except OSError:
+                if self.process.poll() is not None:
+                    raise SystemExit("nginx ended with status %d" % self.process.returncode)
+                time.sleep(0.05)
+
+    def openssl(self, *words):
+        subprocess.run(["openssl", *words], cwd=self.folder, check=True, stderr=subprocess.DEVNULL)
+
+    def certificates(self):
+        self.openssl("req", "-x509", *CURVE, "-subj", "/CN=localhost", "-addext", "subjectAltName=DNS:localhost",
+                     "-keyout", "server.key", "-out", "server.pem")
+        self.openssl("req", "-x509", *CURVE, "-subj", "/CN=Trial authority", "-keyout", "clients.key", "-out", "clients.pem")
+        self.openssl("req", *CURVE, "-subj", "/CN=ann", "-keyout", "ann.key", "-out", "ann.csr")
+        self.openssl("x509", "-req", "-in", "ann.csr", "-CA", "clients.pem", "-CAkey", "clients.key", "-CAcreateserial",
+                     "-out", "ann.pem")
+
+    def configure(self, registry):
+        with open(CONFIG) as file:
+            text = file.read()
+        for old, new in (("listen 443 ", "listen 127.0.0.1:%d " % self.port), ("127.0.0.1:8080", "127.0.0.1:%d" % registry),
+                         ("/etc/nginx/registry/", self.folder + "/"), ("/var/log/nginx/", self.folder + "/")):
+            if old not in text:
+                raise SystemExit("docs/serving/nginx.conf has no %r" % old)
+            text = text.replace(old, new)
+        open(self.folder + "/passwords", "w").close()
+        with open(self.folder + "/nginx.conf", "w") as file:
+            file.write("daemon off;\nworker_processes 2;\npid %s/pid;\nevents { worker_connections 1024; }\n"
+                       "http {\n%s}\n" % (self.folder, text))
+
+    def connect(self, certificate=True):
+        context = ssl.create_default_context(cafile=self.folder + "/server.pem")
+        if certificate:
+            context.load_cert_chain(self.folder + "/ann.pem", self.folder + "/ann.key")
+        conn = socket.create_connection(("127.0.0.1", self.port), 30)
+        conn.setsockopt(socket.IPPROTO_TCP, socket.TCP_NODELAY, 1)
+        return context.wrap_socket(conn, server_hostname="localhost")
+
+    def message(self, method, target):
+        return ("%s %s HTTP/1.1\r\nHost: localhost\r\n\r\n" % (method, target)).encode()
+
+    def ask(self, sent):
+        with self.connect() as conn:
+            conn.sendall(sent)
+            return Answers(conn).next()
+
+    def client(self, sent, body, count, found):
+        """Asks so often, and tells how long each answer took and whether all were the same."""
+        times, same = [], True
+        for start in range(0, count, MESSAGES):
+            with self.connect() as conn:
+                answers = Answers(conn)
+                for _ in range(min(MESSAGES, count - start)):
+                    before = time.perf_counter()
+                    conn.sendall(sent)
+                    response = answers.next()
+                    times.append(time.perf_counter() - before)
+                    same = same and (response.status, response.body) == (200, body)
+        found.put((times, same))
+
+    def load(self, clients, sent, first, count):
+        """So many clients at once, each asking so often: the seconds, the times, and whether all answers were the first."""
+        if first.status != 200:
+            raise SystemExit("the front end answers %r" % first.bytes)
+        found = multiprocessing.SimpleQueue()
+        running = [multiprocessing.Process(target=self.client, args=(sent, first.body, count, found)) for _ in range(clients)]
+        before = time.perf_counter()
+        for process in running:
+            process.start()
+        told = [found.get() for _ in running]
+        seconds = time.perf_counter() - before
+        for process in running:
+            process.join()
+        return seconds, [t for times, _ in told for t in times], all(same for _, same in told)
+
+    def __enter__(self):
+        return self
+
+    def __exit__(self, *_):
+        self.process.terminate()
+        self.process.wait()
