@@ -1,0 +1,10 @@
+pub mod Alive
+pub mod Spending
+pub mod Rounds
+pub mod Losing
+pub mod Outcomes
+pub mod Acting
+pub mod Gone
+pub mod Happening
+pub mod Carried
+pub mod Worked
