@@ -1,11 +1,12 @@
 #!/usr/bin/env python3
 """A registry and its standby, in two folders with a server on each. A client writes to the first without a pause.
-docs/serving/follow.py copies what is new to the second folder, and is killed and started again meanwhile. Again and again a
-snapshot of the copy is taken and served, in turn on two ports, in place of the one before. Each has to open, to a front of the
-first one's history: its bytes are the first one's, its commands are as many as `check` says, the last person of the front is
-answered and the next one isn't. Prints how far each is behind, and how long it takes until it answers. Beside each a backup
-is taken by `cp` of the journal that is written, and has to open to a front too. At last the first server is killed while it writes, and another opens its journal, as a second machine would that has the same disk: every
-acknowledged command has to be there. Build the program first (./quickstart.sh). Words: how many snapshots."""
+docs/serving/follow.py copies what is new to the second folder, and is killed and started again meanwhile. Again and
+again a snapshot of the copy is taken and served, in turn on two ports, in place of the one before. Each has to open, to
+a front of the first one's history: its bytes are the first one's, its commands are as many as `check` says, the last
+person of the front is answered and the next one isn't. Prints how far each is behind, and how long it takes until it
+answers. Beside each a backup is taken by `cp` of the journal that is written, and has to open to a front too. At last
+the first server is killed while it writes, and another opens its journal, as a second machine would that has the same
+disk: every acknowledged command has to be there. Build the program first (./quickstart.sh). Words: how many snapshots."""
 import json
 import os
 import random
