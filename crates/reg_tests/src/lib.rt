@@ -2,8 +2,6 @@
 #![tactic(auto)]
 
 #[cfg(test)]
-mod chain_tests;
-#[cfg(test)]
 mod journal_tests;
 #[cfg(test)]
 mod outside_tests;
