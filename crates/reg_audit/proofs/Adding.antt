@@ -19,7 +19,7 @@ use Rattle.reg_audit.specs.Consumers.{places_after}
 use Rattle.reg_audit.specs.Kept.{life_in, name_in, named_in}
 use Rattle.reg_audit.specs.Lines.{turn_line}
 use Rattle.reg_audit.specs.Lives.{begun, ended, first_life, life_of, leaving, all_gone, groups_of, gone_of, last_name, gone_name, last_named, gone_named}
-use Rattle.reg_audit.specs.Notes.{StepNotes, notes_of}
+use Rattle.reg_audit.specs.Notes.{StepNotes, acted_notes, notes_of}
 use Rattle.reg_audit.specs.Steps.{Step, FollowsOn, facts_of, consumers_by}
 use Rattle.reg_audit.specs.Touched.{KnowsTouched}
 use Rattle.reg_audit.specs.declared.audit.Audit.{Audit}
@@ -51,7 +51,7 @@ pub record Noted (notes : StepNotes) (turned : List (ℕ × ℕ × Bool)) (after
   pub last : NotedBy notes.at new.past
 
 pub audit_more : (old new : Audit) (turned : List (ℕ × ℕ × Bool)) (touched : List Object) (steps : List Step) (step : Step) → ((L N : Live) (x y : ℕ) → after_turns (turns L N) x y (member L x y) ≡ member N x y)
-    → IsAudit steps old → FollowsOn steps step → turned ≡ turns step.live step.live_after → KnowsTouched step.before step.after touched → Noted (notes_of step.at step.before step.events) turned step.after touched old new → IsAudit (steps ++ step ∷ []) new
+    → IsAudit steps old → FollowsOn steps step → turned ≡ turns step.live step.live_after → KnowsTouched step.before step.after touched → Noted (acted_notes (notes_of step.at step.before step.events) step.actions) turned step.after touched old new → IsAudit (steps ++ step ∷ []) new
 unfolding life_of gone_of gone_name gone_named
 audit_more old new turned touched steps step law h f e knows n = record {
   log = n.log ∙ rw (h.log, e) (sym (log_more steps step));

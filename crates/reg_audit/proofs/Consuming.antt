@@ -6,7 +6,7 @@ use Rattle.std.specs.List.{cons_option}
 use Rattle.std.specs.Option.{option_or}
 use Rattle.std.specs.Str.{bytes_eq}
 use Rattle.reg_terms.specs.declared.event.Event.{Event}
-use Rattle.reg_terms.specs.declared.event.Event.TheVariants.{FolderMade, FolderRenamed, FolderMoved, FolderGone, SubjectMade, GroupMade, GroupRenamed, GroupMoved, GroupGone, RowAdded, RowRemoved, RowRedated, Composed, Decomposed, GrantAdded, GrantRemoved, InheritAdded, InheritRemoved, ConsumerAdded, ConsumerAcked}
+use Rattle.reg_terms.specs.declared.event.Event.TheVariants.{FolderMade, FolderRenamed, FolderMoved, FolderGone, SubjectMade, GroupMade, GroupRenamed, GroupMoved, GroupGone, RowAdded, RowRemoved, RowRedated, Composed, Decomposed, GrantAdded, GrantRemoved, InheritAdded, InheritRemoved, RuleMade, RuleGone, ConsumerAdded, ConsumerAcked}
 use Rattle.reg_terms.specs.declared.rows.ConsumerRow.{ConsumerRow}
 use Rattle.reg_facts.specs.Consumers.{consumer_place, acknowledged}
 use Rattle.reg_facts.specs.Events.{happened, all_happened}
@@ -69,6 +69,8 @@ one_event n (GrantAdded row) f = refl
 one_event n (GrantRemoved row) f = refl
 one_event n (InheritAdded row) f = refl
 one_event n (InheritRemoved row) f = refl
+one_event n (RuleMade row) f = refl
+one_event n (RuleGone id) f = refl
 one_event n (ConsumerAdded row) f = one_more n f.consumers row
 one_event n (ConsumerAcked name seq) f = one_moved n name seq f.consumers
 

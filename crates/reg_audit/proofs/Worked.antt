@@ -1,5 +1,5 @@
 -- Worked examples computed: the log of a membership that begins, ends and begins again at one moment, a deleted group's
--- entries, life and last name, and a root that was always there.
+-- entries, life and last name, a root that was always there, and what rules did with their numbers.
 use Rattle.std.proofs.Common.{◌≡◌, ◌++◌, ℕ, List, [], ◌∷◌, Some, None, codes, map, refl}
 use Rattle.reg_terms.specs.declared.event.Event.{Event}
 use Rattle.reg_terms.specs.declared.event.Event.TheVariants.{SubjectMade, GroupMade, GroupGone, RowAdded, RowRemoved}
@@ -13,14 +13,22 @@ use Rattle.reg_effect.specs.Changes.{nothing}
 use Rattle.reg_effect.specs.Member.{member}
 use Rattle.reg_effect.specs.Turned.{turns}
 use Rattle.reg_log.specs.declared.entries.Line.{Line}
-use Rattle.reg_terms.specs.declared.entry_kinds.EntryKind.TheVariants.{SubjectAdd, GroupAdd, GroupDelete, RowAdd, RowRemove, MemberBegin, MemberEnd}
+use Rattle.reg_rules.specs.declared.actions.Action.{Action}
+use Rattle.reg_rules.specs.declared.actions.Action.TheVariants.{Removed, Ended}
+use Rattle.reg_rules.specs.Actions.{all_done}
+use Rattle.reg_terms.specs.declared.entry_kinds.EntryKind.{EntryKind}
+use Rattle.reg_terms.specs.declared.entry_kinds.EntryKind.TheVariants.{SubjectAdd, GroupAdd, GroupDelete, RowAdd, RowRemove, RowWindow, MemberBegin, MemberEnd}
 use Rattle.reg_audit.specs.Lines.{log_of}
 use Rattle.reg_audit.specs.Lives.{life_of, gone_of, gone_name, gone_named}
 use Rattle.reg_audit.specs.Steps.{Step}
 
--- a step of these events, which leads from live data to live data
+-- a step of these events and of what rules do after them, which leads from live data to live data
+abbrev pub acted_step : ℕ → Lists → List Event → List Action → Live → Live → Step
+acted_step at before events actions live live_after = record { at = at; before = before; events = events; actions = actions; after = all_done actions (all_happened events before); live = live; live_after = live_after }
+
+-- and one after which rules do nothing
 pub step : ℕ → Lists → List Event → Live → Live → Step
-step at before events live live_after = record { at = at; before = before; events = events; after = all_happened events before; live = live; live_after = live_after }
+step at before events live live_after = acted_step at before events [] live live_after
 
 -- ann (1) is in the group staff (1)
 pub with_ann : Live
@@ -91,3 +99,21 @@ name_kept = refl
 pub found_by_name : gone_named (codes "staff") deleted ≡ Some 1
 unfolding gone_named deleted step staff group_goes name_of extensions placed path with_staff ann row_comes
 found_by_name = refl
+
+-- who stops being in staff (1) loses the row of guests (2) by the rule 3, and has an end for that of friends (3) by the rule 4
+pub with_others : Live
+with_others = record { rows = (1, Person 1) ∷ (2, Person 1) ∷ (3, Person 1) ∷ []; composites = [] }
+
+pub with_friends : Live
+with_friends = record { rows = (3, Person 1) ∷ []; composites = [] }
+
+pub rules_act : List Action
+rules_act = Removed 3 2 1 ∷ Ended 4 3 1 20 ∷ []
+
+pub acted : List Step
+acted = acted_step 9 (all_happened row_comes with_staff) row_goes rules_act with_others with_friends ∷ []
+
+-- what they did is told with their numbers, behind what was done and before the memberships that end
+pub rules_told : map {B = EntryKind × ℕ} (λ (l : Line). (l.kind, l.number)) (log_of acted) ≡ (RowRemove, 0) ∷ (RowRemove, 3) ∷ (RowWindow, 4) ∷ (MemberEnd, 0) ∷ (MemberEnd, 0) ∷ []
+unfolding log_of turns member acted row_goes rules_act with_others with_friends
+rules_told = refl

@@ -1,10 +1,11 @@
--- The entries that a step makes in the change log: what was changed directly, and the memberships that began and ended.
+-- The entries that a step makes in the change log: what was changed directly, what rules did, and the memberships that began and
+-- ended.
 use Rattle.std.specs.Prelude.{ℕ, ◌||◌, List, ◌++◌, Bool, not, Option, Some, None, map, filter, filter_map, flat_map, if◌then◌else◌}
 use Rattle.std.specs.List.{list_any}
 use Rattle.reg_base.specs.declared.privilege.Privilege.{Privilege}
 use Rattle.reg_terms.specs.Privileges.{code}
 use Rattle.reg_terms.specs.declared.event.Event.{Event}
-use Rattle.reg_terms.specs.declared.event.Event.TheVariants.{FolderMade, FolderRenamed, FolderMoved, FolderGone, SubjectMade, GroupMade, GroupRenamed, GroupMoved, GroupGone, RowAdded, RowRemoved, RowRedated, Composed, Decomposed, GrantAdded, GrantRemoved, InheritAdded, InheritRemoved, ConsumerAdded, ConsumerAcked}
+use Rattle.reg_terms.specs.declared.event.Event.TheVariants.{FolderMade, FolderRenamed, FolderMoved, FolderGone, SubjectMade, GroupMade, GroupRenamed, GroupMoved, GroupGone, RowAdded, RowRemoved, RowRedated, Composed, Decomposed, GrantAdded, GrantRemoved, InheritAdded, InheritRemoved, RuleMade, RuleGone, ConsumerAdded, ConsumerAcked}
 use Rattle.reg_terms.specs.declared.kinds.Holder.{Holder}
 use Rattle.reg_terms.specs.declared.kinds.Holder.TheVariants as holder
 use Rattle.reg_terms.specs.declared.kinds.Member.{Member}
@@ -13,6 +14,8 @@ use Rattle.reg_terms.specs.declared.kinds.Object.{Object}
 use Rattle.reg_terms.specs.declared.kinds.Object.TheVariants as object
 use Rattle.reg_effect.specs.declared.live.Live.{Live}
 use Rattle.reg_effect.specs.Turned.{turns}
+use Rattle.reg_rules.specs.declared.actions.Action.{Action}
+use Rattle.reg_rules.specs.declared.actions.Action.TheVariants.{Removed, Ended}
 use Rattle.reg_log.specs.declared.entries.Line.{Line}
 use Rattle.reg_terms.specs.declared.entry_kinds.EntryKind.{EntryKind}
 use Rattle.reg_terms.specs.declared.entry_kinds.EntryKind.TheVariants as kind
@@ -36,6 +39,10 @@ row_line at k g m = record { at = at; kind = k; object = Some (object.Group g); 
 abbrev pub grant_line : ℕ → EntryKind → Object → Holder → Privilege → Line
 grant_line at k o h p = record { at = at; kind = k; object = Some o; entity = Some h; number = code p }
 
+-- an entry of a rule
+abbrev pub rule_line : ℕ → EntryKind → ℕ → Line
+rule_line at k id = record { at = at; kind = k; object = None; entity = None; number = id }
+
 -- the entry of an event, if it makes one
 abbrev pub line_of : ℕ → Event → Option Line
 line_of at (FolderMade row) = Some (object_line at kind.FolderAdd (object.Folder row.id))
@@ -56,6 +63,8 @@ line_of at (GrantAdded row) = Some (grant_line at kind.GrantAdd row.object row.h
 line_of at (GrantRemoved row) = Some (grant_line at kind.GrantRemove row.object row.holder row.privilege)
 line_of at (InheritAdded row) = Some (grant_line at kind.InheritAdd (object.Folder row.folder) row.holder row.privilege)
 line_of at (InheritRemoved row) = Some (grant_line at kind.InheritRemove (object.Folder row.folder) row.holder row.privilege)
+line_of at (RuleMade row) = Some (rule_line at kind.RuleAdd row.id)
+line_of at (RuleGone id) = Some (rule_line at kind.RuleDelete id)
 line_of at (ConsumerAdded row) = None
 line_of at (ConsumerAcked consumer seq) = None
 
@@ -68,6 +77,19 @@ is_told deletion e = is_deletion e || not deletion
 abbrev pub direct_lines : ℕ → List Event → List Line
 direct_lines at events = filter_map (line_of at) (filter (is_told (list_any is_deletion events)) events)
 
+-- an entry of what a rule did to a person's row of a group, with the rule's number
+abbrev pub acted_line : ℕ → EntryKind → ℕ → ℕ → ℕ → Line
+acted_line at k rule g s = record (row_line at k g (member.Person s)) { number = rule }
+
+-- the entry of what a rule did: a row that it took away, or one to which it gave an end
+abbrev pub action_line : ℕ → Action → Line
+action_line at (Removed rule g s) = acted_line at kind.RowRemove rule g s
+action_line at (Ended rule g s until) = acted_line at kind.RowWindow rule g s
+
+-- what rules did, one after another
+abbrev pub action_lines : ℕ → List Action → List Line
+action_lines at actions = map (action_line at) actions
+
 -- a membership begins or ends
 abbrev pub turn_line : ℕ → ℕ × ℕ × Bool → Line
 turn_line at turn = row_line at (if turn.2 then kind.MemberBegin else kind.MemberEnd) turn.0 (member.Person turn.1)
@@ -76,9 +98,9 @@ turn_line at turn = row_line at (if turn.2 then kind.MemberBegin else kind.Membe
 abbrev pub turn_lines : ℕ → Live → Live → List Line
 turn_lines at L N = map (turn_line at) (turns L N)
 
--- the entries of a step
+-- the entries of a step: what was changed directly, then what rules did, and then the memberships
 abbrev pub lines_of : Step → List Line
-lines_of step = direct_lines step.at step.events ++ turn_lines step.at step.live step.live_after
+lines_of step = direct_lines step.at step.events ++ action_lines step.at step.actions ++ turn_lines step.at step.live step.live_after
 
 -- the change log: the entries of each step, one step after another; an entry's number is its place, from 1
 unfoldable pub log_of : List Step → List Line

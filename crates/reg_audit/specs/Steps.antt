@@ -8,12 +8,15 @@ use Rattle.reg_facts.specs.Lists.{Lists, start}
 use Rattle.reg_effect.specs.declared.live.Live.{Live}
 use Rattle.reg_effect.specs.Changes.{nothing}
 use Rattle.reg_effect.specs.Member.{member}
+use Rattle.reg_rules.specs.declared.actions.Action.{Action}
 
--- one step: its moment, the facts before it, what happens to them in order, the facts after it, and the live data before and after
+-- one step: its moment, the facts before it, what happens to them in order, what rules do after that, in order, the facts after all
+-- of it, and the live data before and after
 pub record Step : Type 0 where
   pub at : ℕ
   pub before : Lists
   pub events : List Event
+  pub actions : List Action
   pub after : Lists
   pub live : Live
   pub live_after : Live

@@ -14,7 +14,7 @@ ghost use Rattle.reg_terms.specs.declared.kinds.Holder.{Holder};
 ghost use Rattle.reg_terms.specs.declared.kinds.Object.{Object};
 ghost use Rattle.reg_audit.specs.Lines.{log_of};
 ghost use Rattle.reg_audit.specs.Lives.{life_of, gone_of, gone_name, gone_named};
-ghost use Rattle.reg_audit.specs.Notes.{notes_of};
+ghost use Rattle.reg_audit.specs.Notes.{acted_notes, notes_of};
 ghost use Rattle.reg_audit.specs.Steps.{Step, FollowsOn, consumers_by, facts_by, live_by, last_moment};
 ghost use Rattle.reg_audit.specs.Touched.{KnowsTouched};
 
@@ -50,9 +50,9 @@ impl Audit {
         }
     }
 
-    /// One step more, by what it changes itself, the memberships that it turns, the facts after it,
-    /// and the objects whose grants it may change. Of each of these it costs what was ever noted of
-    /// it and what holds on it. Out of memory all is given up.
+    /// One step more, by what it changes itself and what rules do after that, the memberships that
+    /// it turns, the facts after it, and the objects whose grants it may change. Of each of these
+    /// it costs what was ever noted of it and what holds on it. Out of memory all is given up.
     pub fn note(
         self,
         alloc: Global,
@@ -62,7 +62,7 @@ impl Audit {
         touched: &[Object],
     ) -> Result<Audit, AllocError>
         requires { NotedBy notes.at self.past }
-        ensures { IfOk result (λ audit. (steps : List Step) (step : Step) → IsAudit steps self → FollowsOn steps step → notes ≡ notes_of step.at step.before step.events → turned.now ≡ turns step.live step.live_after → facts.now ≡ step.after → KnowsTouched step.before step.after touched.now → IsAudit (steps ++ step ∷ []) audit) }
+        ensures { IfOk result (λ audit. (steps : List Step) (step : Step) → IsAudit steps self → FollowsOn steps step → notes ≡ acted_notes (notes_of step.at step.before step.events) step.actions → turned.now ≡ turns step.live step.live_after → facts.now ≡ step.after → KnowsTouched step.before step.after touched.now → IsAudit (steps ++ step ∷ []) audit) }
     {
         reg_effect::law_turns();
         let Audit { mut records, past } = self;

@@ -1,10 +1,11 @@
-// The entry of an event.
+// The entries of events, of what rules did, and of memberships that begin or end.
 ghost use Rattle.std.specs.Prelude.{◌≡◌};
-ghost use Rattle.reg_audit.specs.Lines.{line_of, object_line, row_line, grant_line, entity_of, turn_line};
+ghost use Rattle.reg_audit.specs.Lines.{acted_line, action_line, line_of, object_line, row_line, rule_line, grant_line, entity_of, turn_line};
 ghost use Rattle.reg_terms.specs.declared.kinds.Object.TheVariants as object;
 
-use reg_base::{FolderId, GroupId, Moment, Privilege, SubjectId};
+use reg_base::{FolderId, GroupId, Moment, Privilege, RuleId, SubjectId};
 use reg_log::{EntryKind, Line};
+use reg_rules::Action;
 use reg_terms::{Event, GrantRow, Holder, InheritRow, Member, Object, privilege_code};
 
 /// An entry of an object alone.
@@ -96,6 +97,19 @@ fn inherit_line(at: Moment, kind: EntryKind, row: &InheritRow) -> Line
     )
 }
 
+/// An entry of a rule.
+fn rule_line(at: Moment, kind: EntryKind, id: RuleId) -> Line
+    ensures { result ≡ rule_line at kind id }
+{
+    Line {
+        at,
+        kind,
+        object: None,
+        entity: None,
+        number: id.number() as u64,
+    }
+}
+
 /// The entry of an event, if it makes one.
 pub fn line_of(at: Moment, event: &Event) -> Option<Line>
     ensures { result ≡ line_of at event.now }
@@ -123,9 +137,43 @@ pub fn line_of(at: Moment, event: &Event) -> Option<Line>
         Event::GrantRemoved { row } => grant_line(at, EntryKind::GrantRemove, row),
         Event::InheritAdded { row } => inherit_line(at, EntryKind::InheritAdd, row),
         Event::InheritRemoved { row } => inherit_line(at, EntryKind::InheritRemove, row),
+        Event::RuleMade { row } => rule_line(at, EntryKind::RuleAdd, row.id),
+        Event::RuleGone { rule } => rule_line(at, EntryKind::RuleDelete, *rule),
         Event::ConsumerAdded { .. } | Event::ConsumerAcked { .. } => return None,
     };
     Some(line)
+}
+
+/// An entry of what a rule did to a person's row of a group, with the rule's number.
+fn acted_line(at: Moment, kind: EntryKind, rule: RuleId, group: GroupId, person: SubjectId) -> Line
+    ensures { result ≡ acted_line at kind rule group person }
+{
+    Line {
+        at,
+        kind,
+        object: Some(Object::Group(group)),
+        entity: Some(Holder::Person(person)),
+        number: rule.number() as u64,
+    }
+}
+
+/// The entry of what a rule did.
+pub fn action_line(at: Moment, action: &Action) -> Line
+    ensures { result ≡ action_line at action.now }
+{
+    match action {
+        Action::Removed {
+            rule,
+            group,
+            subject,
+        } => acted_line(at, EntryKind::RowRemove, *rule, *group, *subject),
+        Action::Ended {
+            rule,
+            group,
+            subject,
+            ..
+        } => acted_line(at, EntryKind::RowWindow, *rule, *group, *subject),
+    }
 }
 
 /// The entry of a membership that begins or ends.

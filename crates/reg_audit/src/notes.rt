@@ -1,26 +1,28 @@
 // What a step changes itself.
-ghost use Rattle.std.specs.Prelude.{◌≡◌, IfOk, map, filter_map, Some};
+ghost use Rattle.std.specs.Prelude.{◌≡◌, ◌++◌, ◌∷◌, [], IfOk, OnOk, map, filter_map, Some};
 ghost use Rattle.reg_terms.specs.Kinds.{as_group};
 ghost use Rattle.reg_facts.specs.Naming.{name_of};
 ghost use Rattle.std.specs.List.{list_any};
-ghost use Rattle.reg_audit.specs.Lines.{direct_lines, is_told};
+ghost use Rattle.reg_audit.specs.Lines.{action_lines, direct_lines, is_told};
 ghost use Rattle.reg_audit.specs.Lives.{gone_from, leaving};
 ghost use Rattle.reg_audit.specs.Notes.{notes_of};
 ghost use Rattle.reg_audit.specs.Objects.{object_made, object_gone, is_deletion, made_by, gone_by};
 
 use crate::consumers::consumer_notes;
-use crate::lines::line_of;
+use crate::lines::{action_line, line_of};
 use crate::{ConsumerNote, Gone};
 use reg_base::{Moment, Text};
 use reg_facts::Facts;
-use reg_log::Line;
+use reg_log::{EntryKind, Line};
 use reg_names::name_of;
-use reg_terms::{Event, Object};
+use reg_rules::Action;
+use reg_terms::{Event, Holder, Object};
 use std::alloc::{AllocError, Global};
 use std::marker::Model;
 
 /// What a step changes itself, taken before it is carried out: its moment, the entries of what it
-/// changes directly, what it makes, what goes with its names, and what it does to consumers.
+/// changes directly, what it makes, what goes with its names, and what it does to consumers. What
+/// rules do after it is put to the entries once they acted.
 #[derive(Drop)]
 pub struct Notes {
     pub(crate) at: Moment,
@@ -42,6 +44,60 @@ impl Model for Notes {
       gone = n.gone.items;
       consumers = n.consumers.items;
     } };
+}
+
+impl Notes {
+    ghost use Rattle.reg_audit.specs.Notes.{acted_notes};
+
+    /// These, and the entries of what rules did after the step's events. Where they did nothing it
+    /// takes no memory. The only error is out of memory, and all is given up then.
+    pub fn with_actions(self, alloc: Global, actions: &[Action]) -> Result<Notes, AllocError>
+        ensures { IfOk result (λ notes. notes ≡ acted_notes self actions.now) }
+    {
+        let mut notes = self;
+        add_actions(&mut notes.lines, notes.at, actions)?;
+        Ok(notes)
+    }
+}
+
+/// Puts an entry at the end. Its parts are passed one by one: only then do the signature's types
+/// have all that an entry consists of, which the proof of `push` needs.
+fn add_line(
+    lines: &mut Vec<Line>,
+    at: Moment,
+    kind: EntryKind,
+    object: Option<Object>,
+    entity: Option<Holder>,
+    number: u64,
+) -> Result<(), AllocError>
+    ensures { OnOk result (lines.new.items ≡ lines.old.items ++ record { at = at; kind = kind; object = object; entity = entity; number = number } ∷ []) }
+{
+    lines.push(Line {
+        at,
+        kind,
+        object,
+        entity,
+        number,
+    })?;
+    Ok(())
+}
+
+/// Puts the entries of what rules did at the end.
+fn add_actions(lines: &mut Vec<Line>, at: Moment, actions: &[Action]) -> Result<(), AllocError>
+    ensures { OnOk result (lines.new.items ≡ lines.old.items ++ action_lines at actions.now) }
+{
+    for action in actions {
+        let line = action_line(at, action);
+        add_line(
+            lines,
+            line.at,
+            line.kind,
+            line.object,
+            line.entity,
+            line.number,
+        )?;
+    }
+    Ok(())
 }
 
 /// The object that an event makes.

@@ -1,14 +1,14 @@
 // The wheel group after a step.
-ghost use Rattle.std.specs.Prelude.{◌≡◌, ℕ, nat_le, IfOk, Option, None, Some, true, if◌then◌else◌};
+ghost use Rattle.std.specs.Prelude.{◌≡◌, ℕ, nat_le, Decides, IfOk, Option, None, Some, if◌then◌else◌};
 ghost use Rattle.reg_pit.specs.Past.{wheel_at, NotedBy, KeepsMembers, KeepsGrants};
 
 use reg_base::{GroupId, Moment};
 use reg_pit::Past;
 use std::alloc::AllocError;
 
-/// Whether two are one group, or there is none.
+/// Whether two are one group, or both are none.
 fn is_same(group: &Option<GroupId>, other: &Option<GroupId>) -> bool
-    ensures { result ≡ true → group.now ≡ other.now }
+    ensures { Decides result (group.now ≡ other.now) }
 {
     match group {
         Some(id) => match other {

@@ -33,7 +33,7 @@ refusal_status _ = 409
 
 -- the status of a reply
 abbrev pub status_of : Reply → ℕ
-status_of (reply.Number n) = 200
+status_of (reply.Number n id) = 200
 status_of (reply.Answer a) = 200
 status_of (reply.Refused r) = refusal_status r
 status_of reply.NoMemory = 503

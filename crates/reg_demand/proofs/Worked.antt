@@ -6,7 +6,7 @@ use Rattle.reg_base.specs.declared.entity.Entity.{Entity}
 use Rattle.reg_base.specs.declared.entity.Entity.TheVariants as entity
 use Rattle.reg_base.specs.declared.privilege.Privilege.TheVariants as privilege
 use Rattle.reg_terms.specs.declared.command.Command.{Command}
-use Rattle.reg_terms.specs.declared.command.Command.TheVariants.{FolderAdd, FolderRename, FolderMove, GroupAdd, GroupRename, SubjectAdd, MemberAdd, MemberRemove, GrantAdd, GrantRemove, InheritAdd, ConsumerAdd, ConsumerAck}
+use Rattle.reg_terms.specs.declared.command.Command.TheVariants.{FolderAdd, FolderRename, FolderMove, GroupAdd, GroupRename, SubjectAdd, MemberAdd, MemberRemove, GrantAdd, GrantRemove, InheritAdd, RuleVeto, RuleDelete, ConsumerAdd, ConsumerAck}
 use Rattle.reg_terms.specs.declared.kinds.InheritKind.TheVariants as kind
 use Rattle.reg_terms.specs.declared.kinds.Scope.TheVariants as scope
 use Rattle.reg_terms.specs.declared.refusal.Refusal.{Refusal}
@@ -127,6 +127,19 @@ root_finds_it = refl
 pub root_finds_no_other : refused (live_of 0 fed.rows fed.composites) fed entity.System (ConsumerAck (codes "none") 0) ≡ Some (NotFound (codes "none"))
 unfolding fed folders bob ann events_of object_of resolve placed lies_in member extension_of folder_of
 root_finds_no_other = refl
+
+-- rules are for root alone, and what they name is looked for first
+pub rule_is_for_root : of_bob folders (RuleVeto (codes "app:web:admins") (codes "app:web:admins")) ≡ Some (Denied (codes ":") (codes "ROOT"))
+unfolding folders bob ann events_of object_of resolve placed lies_in member extension_of folder_of
+rule_is_for_root = refl
+
+pub unseen_before_root : of_bob hidden (RuleVeto (codes "old:web:admins") (codes "old:web:admins")) ≡ Some (NotFound (codes "old:web:admins"))
+unfolding hidden folders bob ann events_of object_of resolve placed lies_in member extension_of folder_of
+unseen_before_root = refl
+
+pub rule_goes_by_root : of_bob folders (RuleDelete 1) ≡ Some (Denied (codes ":") (codes "ROOT"))
+unfolding folders bob ann events_of object_of resolve placed lies_in member extension_of folder_of
+rule_goes_by_root = refl
 
 -- who doesn't stand is told nothing
 pub no_caller : refused (live_of 0 folders.rows folders.composites) folders (entity.Person (codes "uni/eve")) (GroupRename (codes "none") (codes "x")) ≡ Some NoCaller

@@ -7,7 +7,7 @@ use Rattle.reg_base.specs.declared.entity.Entity.TheVariants as entity
 use Rattle.reg_base.specs.declared.privilege.Privilege.{Privilege}
 use Rattle.reg_base.specs.declared.privilege.Privilege.TheVariants.{Admin, Update, Read, Optin, Optout, StemAdmin, Create, AttrAdmin}
 use Rattle.reg_terms.specs.declared.command.Command.{Command}
-use Rattle.reg_terms.specs.declared.command.Command.TheVariants.{FolderAdd, FolderRename, FolderMove, FolderDelete, SubjectAdd, GroupAdd, GroupRename, GroupMove, GroupDelete, MemberAdd, MemberRemove, MemberWindow, CompositeSet, CompositeClear, GrantAdd, GrantRemove, InheritAdd, InheritRemove, ConsumerAdd, ConsumerAck}
+use Rattle.reg_terms.specs.declared.command.Command.TheVariants.{FolderAdd, FolderRename, FolderMove, FolderDelete, SubjectAdd, GroupAdd, GroupRename, GroupMove, GroupDelete, MemberAdd, MemberRemove, MemberWindow, CompositeSet, CompositeClear, GrantAdd, GrantRemove, InheritAdd, InheritRemove, RuleRemoveLost, RuleEndLost, RuleVeto, RuleOnCreate, RuleDelete, ConsumerAdd, ConsumerAck}
 use Rattle.reg_terms.specs.declared.kinds.Object.{Object}
 use Rattle.reg_terms.specs.declared.kinds.Object.TheVariants as object
 use Rattle.reg_facts.specs.Edits.{the_id}
@@ -95,5 +95,10 @@ demands by (GrantAdd object privilege holder) f = on_object object f ∷ []
 demands by (GrantRemove object privilege holder) f = on_object object f ∷ []
 demands by (InheritAdd folder kind scope privilege holder) f = on_folder folder StemAdmin f ∷ []
 demands by (InheritRemove folder kind scope privilege holder) f = on_folder folder StemAdmin f ∷ []
+demands by (RuleRemoveLost check owner) f = Root ∷ []
+demands by (RuleEndLost check owner days) f = Root ∷ []
+demands by (RuleVeto owner condition) f = Root ∷ []
+demands by (RuleOnCreate folder scope privilege holder) f = Root ∷ []
+demands by (RuleDelete id) f = Root ∷ []
 demands by (ConsumerAdd consumer) f = Root ∷ []
 demands by (ConsumerAck consumer seq) f = Root ∷ []

@@ -6,7 +6,7 @@ use Rattle.reg_base.specs.declared.entity.Entity.TheVariants as entity
 use Rattle.reg_base.specs.declared.privilege.Privilege.TheVariants.{View}
 use Rattle.reg_terms.specs.Privileges.{line_of}
 use Rattle.reg_terms.specs.declared.command.Command.{Command}
-use Rattle.reg_terms.specs.declared.command.Command.TheVariants.{FolderAdd, FolderRename, FolderMove, FolderDelete, SubjectAdd, GroupAdd, GroupRename, GroupMove, GroupDelete, MemberAdd, MemberRemove, MemberWindow, CompositeSet, CompositeClear, GrantAdd, GrantRemove, InheritAdd, InheritRemove, ConsumerAdd, ConsumerAck}
+use Rattle.reg_terms.specs.declared.command.Command.TheVariants.{FolderAdd, FolderRename, FolderMove, FolderDelete, SubjectAdd, GroupAdd, GroupRename, GroupMove, GroupDelete, MemberAdd, MemberRemove, MemberWindow, CompositeSet, CompositeClear, GrantAdd, GrantRemove, InheritAdd, InheritRemove, RuleRemoveLost, RuleEndLost, RuleVeto, RuleOnCreate, RuleDelete, ConsumerAdd, ConsumerAck}
 use Rattle.reg_terms.specs.declared.kinds.Object.{Object}
 use Rattle.reg_terms.specs.declared.kinds.Object.TheVariants as object
 use Rattle.reg_terms.specs.declared.refusal.Refusal.{Refusal}
@@ -134,6 +134,11 @@ not_found L f c (GrantAdd object privilege holder) = no_object L f c object ∷ 
 not_found L f c (GrantRemove object privilege holder) = no_object L f c object ∷ no_entity_but (grant_stands (grant_of object privilege holder f) f) L f c holder ∷ []
 not_found L f c (InheritAdd folder kind scope privilege holder) = no_folder folder f ∷ no_entity L f c holder ∷ []
 not_found L f c (InheritRemove folder kind scope privilege holder) = no_folder folder f ∷ no_entity_but (inherit_stands (inherit_of folder kind scope privilege holder f) f) L f c holder ∷ []
+not_found L f c (RuleRemoveLost check owner) = no_group L f c check ∷ no_group L f c owner ∷ []
+not_found L f c (RuleEndLost check owner days) = no_group L f c check ∷ no_group L f c owner ∷ []
+not_found L f c (RuleVeto owner condition) = no_group L f c owner ∷ no_group L f c condition ∷ []
+not_found L f c (RuleOnCreate folder scope privilege holder) = no_folder folder f ∷ no_entity L f c holder ∷ []
+not_found L f c (RuleDelete id) = []
 not_found L f c (ConsumerAdd consumer) = []
 not_found L f c (ConsumerAck consumer seq) = no_consumer L f c consumer ∷ []
 

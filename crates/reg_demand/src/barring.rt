@@ -9,6 +9,7 @@ use crate::grants::{grant_add, grant_remove};
 use crate::groups::{group_delete, group_move, group_rename};
 use crate::inherits::{inherit_add, inherit_remove};
 use crate::memberships::{member_add, member_remove, member_window};
+use crate::rules::{rule_of_groups, rule_on_create};
 use crate::subjects::demand_root;
 use reg_base::Entity;
 use reg_effect::Kept;
@@ -93,6 +94,19 @@ pub fn barred<K: Kept>(
         } => inherit_remove(
             alloc, facts, kept, by, who, folder, *kind, *scope, *privilege, holder,
         ),
+        Command::RuleRemoveLost { check, owner } => {
+            rule_of_groups(alloc, facts, kept, who, check, owner)
+        }
+        Command::RuleEndLost { check, owner, .. } => {
+            rule_of_groups(alloc, facts, kept, who, check, owner)
+        }
+        Command::RuleVeto { owner, condition } => {
+            rule_of_groups(alloc, facts, kept, who, owner, condition)
+        }
+        Command::RuleOnCreate { folder, holder, .. } => {
+            rule_on_create(alloc, facts, kept, who, folder, holder)
+        }
+        Command::RuleDelete { .. } => demand_root(alloc, facts, kept, who),
         Command::ConsumerAdd { .. } => demand_root(alloc, facts, kept, who),
         Command::ConsumerAck { consumer, seq } => {
             consumer_ack(alloc, facts, kept, by, who, consumer, *seq)

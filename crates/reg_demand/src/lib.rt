@@ -13,6 +13,7 @@ mod inherits;
 mod lacking;
 mod memberships;
 mod refusals;
+mod rules;
 mod subjects;
 
 pub use barring::{barred, refused};

@@ -1,5 +1,5 @@
 -- No two subjects share a text, and who holds a grant or an inherit stands: at the start, and after each event that suits.
-use Rattle.std.proofs.Common.{◌≡◌, ◌==◌, ◌||◌, ◌+◌, ℕ, List, [], ◌∷◌, ◌++◌, Bool, true, false, not, Option, Some, None, inl, inr, refl, sym, ap, subst, ◌∙◌, map, filter, arith}
+use Rattle.std.proofs.Common.{◌≡◌, ◌==◌, ◌||◌, ◌+◌, ℕ, List, [], ◌∷◌, ◌++◌, Bool, true, false, not, Option, Some, None, inl, inr, refl, sym, subst, ◌∙◌, arith}
 use Rattle.std.specs.Prelude.{if◌then◌else◌}
 use Rattle.std.specs.List.{AllByRecursion, list_any}
 use Rattle.std.specs.Str.{bytes_eq}
@@ -7,7 +7,7 @@ use Rattle.std.proofs.lemmas.Bool.{cases_Bool, or_parts, or_left, true≢false}
 use Rattle.std.proofs.lemmas.List.Folds.{list_any-append}
 use Rattle.std.proofs.lemmas.Slice.Eq.{bytes_eq-Decides}
 use Rattle.reg_terms.specs.declared.event.Event.{Event}
-use Rattle.reg_terms.specs.declared.event.Event.TheVariants.{FolderMade, FolderRenamed, FolderMoved, FolderGone, SubjectMade, GroupMade, GroupRenamed, GroupMoved, GroupGone, RowAdded, RowRemoved, RowRedated, Composed, Decomposed, GrantAdded, GrantRemoved, InheritAdded, InheritRemoved, ConsumerAdded, ConsumerAcked}
+use Rattle.reg_terms.specs.declared.event.Event.TheVariants.{FolderMade, FolderRenamed, FolderMoved, FolderGone, SubjectMade, GroupMade, GroupRenamed, GroupMoved, GroupGone, RowAdded, RowRemoved, RowRedated, Composed, Decomposed, GrantAdded, GrantRemoved, InheritAdded, InheritRemoved, RuleMade, RuleGone, ConsumerAdded, ConsumerAcked}
 use Rattle.reg_terms.specs.declared.kinds.Holder.{Holder}
 use Rattle.reg_terms.specs.declared.kinds.Holder.TheVariants as holder
 use Rattle.reg_terms.specs.declared.kinds.Object.{Object}
@@ -63,27 +63,27 @@ texts_more (s ∷ ss) row once new =
     (none_more ss s.text row once.0 (text_other s.text row.text parts.0), texts_more ss row once.1 parts.1)
 
 -- who stands stands among more
-abbrev MoreSubjects : List SubjectRow → List SubjectRow → Type 0
+abbrev pub MoreSubjects : List SubjectRow → List SubjectRow → Type 0
 MoreSubjects old new = (s : ℕ) → has_subject s old ≡ true → has_subject s new ≡ true
 
-abbrev MoreGroups : List GroupRow → List GroupRow → Type 0
+abbrev pub MoreGroups : List GroupRow → List GroupRow → Type 0
 MoreGroups old new = (g : ℕ) → has_group g old ≡ true → has_group g new ≡ true
 
 abbrev MoreMade : Made → Made → Type 0
 MoreMade old new = (o : Object) → WasMade old o → WasMade new o
 
-holder_of_more : (ss ss' : List SubjectRow) (gs gs' : List GroupRow) (h : Holder) → MoreSubjects ss ss' → MoreGroups gs gs' → HolderStands ss gs h → HolderStands ss' gs' h
+pub holder_of_more : (ss ss' : List SubjectRow) (gs gs' : List GroupRow) (h : Holder) → MoreSubjects ss ss' → MoreGroups gs gs' → HolderStands ss gs h → HolderStands ss' gs' h
 holder_of_more ss ss' gs gs' holder.Everyone subjects groups stands = tt
 holder_of_more ss ss' gs gs' (holder.Person s) subjects groups stands = subjects s stands
 holder_of_more ss ss' gs gs' (holder.Group x) subjects groups stands = groups x stands
 
-subject_more : (ss : List SubjectRow) (new : SubjectRow) → MoreSubjects ss (ss ++ new ∷ [])
+pub subject_more : (ss : List SubjectRow) (new : SubjectRow) → MoreSubjects ss (ss ++ new ∷ [])
 subject_more ss new s h = list_any-append (λ (r : SubjectRow). r.id == s) ss (new ∷ []) ∙ or_left (has_subject s ss) ((new.id == s) || false) h
 
-same_subjects : (ss : List SubjectRow) → MoreSubjects ss ss
+pub same_subjects : (ss : List SubjectRow) → MoreSubjects ss ss
 same_subjects ss s h = h
 
-same_groups : (gs : List GroupRow) → MoreGroups gs gs
+pub same_groups : (gs : List GroupRow) → MoreGroups gs gs
 same_groups gs g h = h
 
 same_made : (made : Made) → MoreMade made made
@@ -127,8 +127,15 @@ subject_made made id next (object.Def a) h = h
 subject_made made id next (object.Attr a) h = h
 subject_made made id next (object.Subject s) h = omega (arith, next, h)
 
+rule_made : (made : Made) (id : ℕ) → MoreMade made (record made { rules = id })
+rule_made made id (object.Folder d) h = h
+rule_made made id (object.Group g) h = h
+rule_made made id (object.Def a) h = h
+rule_made made id (object.Attr a) h = h
+rule_made made id (object.Subject s) h = h
+
 -- a group less that holds nothing
-holder_less : (id : ℕ) (ss : List SubjectRow) (gs : List GroupRow) (h : Holder) → same_holder h (holder.Group id) ≡ false → HolderStands ss gs h → HolderStands ss (groups_less id gs) h
+pub holder_less : (id : ℕ) (ss : List SubjectRow) (gs : List GroupRow) (h : Holder) → same_holder h (holder.Group id) ≡ false → HolderStands ss gs h → HolderStands ss (groups_less id gs) h
 holder_less id ss gs holder.Everyone other stands = tt
 holder_less id ss gs (holder.Person s) other stands = stands
 holder_less id ss gs (holder.Group x) other stands = still id x gs other stands
@@ -193,5 +200,7 @@ happened_held (GrantAdded row) f suits h = notes_held f (f.grants ++ row ∷ [])
 happened_held (GrantRemoved row) f suits h = notes_held f _ f.inherits (all_filter (λ (r : GrantRow). GrantStands f.made f.subjects f.groups r) (λ (other : GrantRow). not (same_grant row other)) f.grants h.grants_stand) h.inherits_stand h
 happened_held (InheritAdded row) f suits h = notes_held f f.grants (f.inherits ++ row ∷ []) h.grants_stand (all_push (λ (r : InheritRow). HolderStands f.subjects f.groups r.holder) f.inherits row h.inherits_stand suits.0) h
 happened_held (InheritRemoved row) f suits h = notes_held f f.grants _ h.grants_stand (all_filter (λ (r : InheritRow). HolderStands f.subjects f.groups r.holder) (λ (other : InheritRow). not (same_inherit row other)) f.inherits h.inherits_stand) h
+happened_held (RuleMade row) f suits h = held_still f (happened (RuleMade row) f) h.texts_once (rule_made f.made row.id) (same_subjects f.subjects) (same_groups f.groups) refl refl h
+happened_held (RuleGone id) f suits h = others_held f (happened (RuleGone id) f) refl refl refl refl refl h
 happened_held (ConsumerAdded row) f suits h = others_held f (happened (ConsumerAdded row) f) refl refl refl refl refl h
 happened_held (ConsumerAcked name seq) f suits h = others_held f (happened (ConsumerAcked name seq) f) refl refl refl refl refl h

@@ -3,9 +3,9 @@ use Rattle.std.specs.Prelude.{ℕ, ◌+◌, ◌==◌, List, [], ◌∷◌, ◌++
 use Rattle.reg_base.specs.NameParts.{extension_of}
 use Rattle.reg_base.specs.declared.entity.Entity.{Entity}
 use Rattle.reg_terms.specs.declared.command.Command.{Command}
-use Rattle.reg_terms.specs.declared.command.Command.TheVariants.{FolderAdd, FolderRename, FolderMove, FolderDelete, SubjectAdd, GroupAdd, GroupRename, GroupMove, GroupDelete, MemberAdd, MemberRemove, MemberWindow, CompositeSet, CompositeClear, GrantAdd, GrantRemove, InheritAdd, InheritRemove, ConsumerAdd, ConsumerAck}
+use Rattle.reg_terms.specs.declared.command.Command.TheVariants.{FolderAdd, FolderRename, FolderMove, FolderDelete, SubjectAdd, GroupAdd, GroupRename, GroupMove, GroupDelete, MemberAdd, MemberRemove, MemberWindow, CompositeSet, CompositeClear, GrantAdd, GrantRemove, InheritAdd, InheritRemove, RuleRemoveLost, RuleEndLost, RuleVeto, RuleOnCreate, RuleDelete, ConsumerAdd, ConsumerAck}
 use Rattle.reg_terms.specs.declared.event.Event.{Event}
-use Rattle.reg_terms.specs.declared.event.Event.TheVariants.{FolderMade, FolderRenamed, FolderMoved, FolderGone, SubjectMade, GroupMade, GroupRenamed, GroupMoved, GroupGone, RowAdded, RowRemoved, RowRedated, Composed, Decomposed, GrantAdded, GrantRemoved, InheritAdded, InheritRemoved, ConsumerAdded, ConsumerAcked}
+use Rattle.reg_terms.specs.declared.event.Event.TheVariants.{FolderMade, FolderRenamed, FolderMoved, FolderGone, SubjectMade, GroupMade, GroupRenamed, GroupMoved, GroupGone, RowAdded, RowRemoved, RowRedated, Composed, Decomposed, GrantAdded, GrantRemoved, InheritAdded, InheritRemoved, RuleMade, RuleGone, ConsumerAdded, ConsumerAcked}
 use Rattle.reg_terms.specs.declared.kinds.Member.{Member}
 use Rattle.reg_terms.specs.declared.kinds.Object.TheVariants.{Folder, Group}
 use Rattle.reg_terms.specs.declared.rows.FolderRow.{FolderRow}
@@ -15,11 +15,14 @@ use Rattle.reg_terms.specs.declared.rows.MemberRow.{MemberRow}
 use Rattle.reg_terms.specs.declared.rows.CompositeRow.{CompositeRow}
 use Rattle.reg_terms.specs.declared.rows.GrantRow.{GrantRow}
 use Rattle.reg_terms.specs.declared.rows.InheritRow.{InheritRow}
+use Rattle.reg_terms.specs.declared.rows.RuleRow.{RuleRow}
+use Rattle.reg_terms.specs.declared.kinds.RuleForm.{RuleForm}
 use Rattle.reg_base.specs.declared.privilege.Privilege.TheVariants.{Admin, StemAdmin}
 use Rattle.reg_facts.specs.Edits.{member_of, is_row, is_composite, the_id, person_text, from_or, folder_renamed, folder_moved, group_renamed, group_moved, windowed, without_notes}
 use Rattle.reg_facts.specs.Consumers.{acknowledged}
 use Rattle.reg_facts.specs.Grants.{same_grant, same_inherit, grant_of, inherit_of, makers_grant}
 use Rattle.reg_facts.specs.Lists.{Lists}
+use Rattle.reg_facts.specs.Rules.{creation_grants, form_of, not_yet}
 use Rattle.reg_facts.specs.Naming.{folder_id, group_id, home_id}
 use Rattle.reg_facts.specs.RowOrder.{rows_of}
 
@@ -43,6 +46,8 @@ happened (GrantAdded row) f = record f { grants = f.grants ++ row ∷ [] }
 happened (GrantRemoved row) f = record f { grants = filter (λ (other : GrantRow). not (same_grant row other)) f.grants }
 happened (InheritAdded row) f = record f { inherits = f.inherits ++ row ∷ [] }
 happened (InheritRemoved row) f = record f { inherits = filter (λ (other : InheritRow). not (same_inherit row other)) f.inherits }
+happened (RuleMade row) f = record f { rules = f.rules ++ row ∷ []; made = record f.made { rules = row.id } }
+happened (RuleGone id) f = record f { rules = filter (λ (row : RuleRow). not (row.id == id)) f.rules }
 happened (ConsumerAdded row) f = record f { consumers = f.consumers ++ row ∷ [] }
 happened (ConsumerAcked name seq) f = record f { consumers = map (acknowledged name seq) f.consumers }
 
@@ -64,6 +69,15 @@ on_grant event (Some row) = event row ∷ []
 abbrev pub on_inherit : (InheritRow → Event) → Option InheritRow → List Event
 on_inherit event None = []
 on_inherit event (Some row) = event row ∷ []
+
+-- and so does a rule that a command makes
+abbrev pub on_rule : ℕ → Option RuleForm → List Event
+on_rule id None = []
+on_rule id (Some form) = RuleMade (record { id = id; form = form }) ∷ []
+
+-- grants are made, one after another
+abbrev pub grants_added : List GrantRow → List Event
+grants_added rows = map (λ row. GrantAdded row) rows
 
 -- a row goes
 abbrev pub row_gone : MemberRow → Event
@@ -87,14 +101,21 @@ new_subject subject display f = record { id = f.made.subjects + 1; text = person
 abbrev pub new_group : List ℕ → List ℕ → Lists → GroupRow
 new_group group display f = record { id = f.made.groups + 1; folder = the_id (home_id group f); extension = extension_of group; display = display }
 
+-- the grants on a group that is made: that of its maker, and those of rules by id, each once
+abbrev pub new_groups_grants : Entity → List ℕ → Lists → List GrantRow
+new_groups_grants by group f =
+    let id = f.made.groups + 1 in
+    let makers = makers_grant by (Group id) Admin f in
+    makers ++ not_yet makers (creation_grants id (the_id (home_id group f)) f.folders f.rules)
+
 -- the events of a command that acts at a moment, by a caller, in order
 unfoldable pub events_of : ℕ → Entity → Command → Lists → List Event
-events_of at by (FolderAdd folder display) f = FolderMade (new_folder folder display f) ∷ makers_grant by (Folder (f.made.folders + 1)) StemAdmin f
+events_of at by (FolderAdd folder display) f = FolderMade (new_folder folder display f) ∷ grants_added (makers_grant by (Folder (f.made.folders + 1)) StemAdmin f)
 events_of at by (FolderRename folder extension) f = FolderRenamed (the_id (folder_id folder f)) extension ∷ []
 events_of at by (FolderMove folder to) f = FolderMoved (the_id (folder_id folder f)) (the_id (folder_id to f)) ∷ []
 events_of at by (FolderDelete folder) f = FolderGone (the_id (folder_id folder f)) ∷ []
 events_of at by (SubjectAdd subject display) f = SubjectMade (new_subject subject display f) ∷ []
-events_of at by (GroupAdd group display) f = GroupMade (new_group group display f) ∷ makers_grant by (Group (f.made.groups + 1)) Admin f
+events_of at by (GroupAdd group display) f = GroupMade (new_group group display f) ∷ grants_added (new_groups_grants by group f)
 events_of at by (GroupRename group extension) f = GroupRenamed (the_id (group_id group f)) extension ∷ []
 events_of at by (GroupMove group to) f = GroupMoved (the_id (group_id group f)) (the_id (folder_id to f)) ∷ []
 events_of at by (GroupDelete group) f = group_gone (the_id (group_id group f)) f
@@ -107,6 +128,11 @@ events_of at by (GrantAdd object privilege holder) f = on_grant (λ row. GrantAd
 events_of at by (GrantRemove object privilege holder) f = on_grant (λ row. GrantRemoved row) (grant_of object privilege holder f)
 events_of at by (InheritAdd folder kind scope privilege holder) f = on_inherit (λ row. InheritAdded row) (inherit_of folder kind scope privilege holder f)
 events_of at by (InheritRemove folder kind scope privilege holder) f = on_inherit (λ row. InheritRemoved row) (inherit_of folder kind scope privilege holder f)
+events_of at by (RuleRemoveLost check owner) f = on_rule (f.made.rules + 1) (form_of (RuleRemoveLost check owner) f)
+events_of at by (RuleEndLost check owner days) f = on_rule (f.made.rules + 1) (form_of (RuleEndLost check owner days) f)
+events_of at by (RuleVeto owner condition) f = on_rule (f.made.rules + 1) (form_of (RuleVeto owner condition) f)
+events_of at by (RuleOnCreate folder scope privilege holder) f = on_rule (f.made.rules + 1) (form_of (RuleOnCreate folder scope privilege holder) f)
+events_of at by (RuleDelete id) f = RuleGone id ∷ []
 events_of at by (ConsumerAdd consumer) f = ConsumerAdded (record { name = consumer; place = 0 }) ∷ []
 events_of at by (ConsumerAck consumer seq) f = ConsumerAcked consumer seq ∷ []
 

@@ -7,8 +7,6 @@ use Rattle.reg_base.specs.declared.entity.Entity.TheVariants as entity
 use Rattle.reg_base.specs.declared.privilege.Privilege.{Privilege}
 use Rattle.reg_terms.specs.Kinds.{same_object, same_holder, same_scope, same_kind}
 use Rattle.reg_terms.specs.Privileges.{same_privilege}
-use Rattle.reg_terms.specs.declared.event.Event.{Event}
-use Rattle.reg_terms.specs.declared.event.Event.TheVariants.{GrantAdded}
 use Rattle.reg_terms.specs.declared.kinds.Holder.{Holder}
 use Rattle.reg_terms.specs.declared.kinds.Holder.TheVariants as holder
 use Rattle.reg_terms.specs.declared.kinds.InheritKind.{InheritKind}
@@ -99,13 +97,13 @@ inherit_of folder k s p e f = inherit_for (folder_id folder f) k s p (holder_of 
 
 -- ---- who makes something
 
--- the person that is granted a privilege on an object
-abbrev pub grant_to : Object → Privilege → Option ℕ → List Event
+-- the grant of a privilege on an object to a person, if there is one
+abbrev pub grant_to : Object → Privilege → Option ℕ → List GrantRow
 grant_to o p None = []
-grant_to o p (Some s) = GrantAdded (record { object = o; privilege = p; holder = holder.Person s }) ∷ []
+grant_to o p (Some s) = (record { object = o; privilege = p; holder = holder.Person s }) ∷ []
 
 -- a person who makes an object is granted its administration; the registry itself is granted nothing
-abbrev pub makers_grant : Entity → Object → Privilege → Lists → List Event
+abbrev pub makers_grant : Entity → Object → Privilege → Lists → List GrantRow
 makers_grant (entity.Person text) o p f = grant_to o p (subject_id text f.subjects)
 makers_grant (entity.Group name) o p f = []
 makers_grant entity.System o p f = []

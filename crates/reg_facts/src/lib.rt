@@ -8,6 +8,7 @@ mod child_names;
 mod children;
 mod climbing;
 mod consumers;
+mod creation;
 mod editing;
 mod facts;
 mod grant_rows;
@@ -20,6 +21,9 @@ mod memberships;
 mod naming;
 mod nest;
 mod numbered;
+mod rule_editing;
+mod rule_rows;
+mod rules;
 mod tables;
 mod taking;
 mod text_index;
@@ -32,6 +36,6 @@ pub use naming::{extension_of, home_of, name_in, name_length};
 pub use reg_terms::{
     AssignRow, AttrValue, AttrValues, AttributeRow, Command, CompositeRow, ConsumerRow, DefKind,
     DefinitionRow, Event, FolderRow, GrantRow, GroupRow, Holder, InheritKind, InheritRow, JobRow,
-    Made, Member, MemberRow, Object, Owners, Refusal, RuleForm, RuleRow, Scope, SetOp, Stamped,
-    SubjectRow, Texts,
+    Made, Member, MemberRow, Object, Owners, Refusal, RuleForm, RuleKey, RuleRow, Scope, SetOp,
+    Stamped, SubjectRow, Texts,
 };

@@ -1,22 +1,23 @@
 // The lists of the facts.
-ghost use Rattle.std.specs.Prelude.{◌≡◌, IfOk, OnOk, List, ℕ, Some, false};
+ghost use Rattle.std.specs.Prelude.{◌≡◌, ◌++◌, ◌∷◌, [], IfOk, OnOk, List, ℕ, Some, false};
 ghost use Rattle.reg_facts.specs.Lists.{Lists, start};
 ghost use Rattle.reg_facts.specs.Edits.{has_row, is_composite};
 ghost use Rattle.reg_facts.specs.Grants.{has_grant, has_inherit};
 ghost use Rattle.reg_facts.specs.Events.{happened};
-ghost use Rattle.reg_terms.specs.declared.event.Event.TheVariants.{FolderMade, FolderRenamed, FolderMoved, FolderGone, SubjectMade, GroupMade, GroupRenamed, GroupMoved, GroupGone, RowAdded, RowRemoved, RowRedated, Composed, Decomposed, GrantAdded, GrantRemoved, InheritAdded, InheritRemoved, ConsumerAdded, ConsumerAcked};
-ghost use Rattle.reg_facts.specs.Ascending.{FoldersAscend, GroupsAscend};
+ghost use Rattle.reg_terms.specs.declared.event.Event.TheVariants.{FolderMade, FolderRenamed, FolderMoved, FolderGone, SubjectMade, GroupMade, GroupRenamed, GroupMoved, GroupGone, RowAdded, RowRemoved, RowRedated, Composed, Decomposed, GrantAdded, GrantRemoved, InheritAdded, InheritRemoved, RuleMade, RuleGone, ConsumerAdded, ConsumerAcked};
+ghost use Rattle.reg_facts.specs.Ascending.{FoldersAscend, GroupsAscend, RulesAscend};
 
 use crate::consumers::acknowledge;
 use crate::grant_rows::GrantRows;
 use crate::inherit_rows::InheritRows;
 use crate::member_rows::MemberRows;
 use crate::numbered::remove_by_id;
+use crate::rule_rows::RuleRows;
 use crate::{
     AssignRow, AttributeRow, CompositeRow, ConsumerRow, DefinitionRow, FolderRow, GrantRow,
     GroupRow, InheritRow, JobRow, Made, Member, MemberRow, Object, RuleRow, SubjectRow, list_edits,
 };
-use reg_base::{FolderId, GroupId, Moment, SubjectId, Text};
+use reg_base::{FolderId, GroupId, Moment, RuleId, SubjectId, Text};
 use reg_table::Table;
 use std::alloc::{AllocError, Global};
 use std::marker::Model;
@@ -34,7 +35,7 @@ pub struct Tables {
     pub definition_rows: Vec<DefinitionRow>,
     pub attribute_rows: Vec<AttributeRow>,
     pub assign_rows: Vec<AssignRow>,
-    pub rule_rows: Vec<RuleRow>,
+    pub rule_rows: RuleRows,
     pub job_rows: Vec<JobRow>,
     pub consumer_rows: Vec<ConsumerRow>,
     pub counts: Made,
@@ -56,7 +57,7 @@ impl Model for Tables {
       definitions = t.definition_rows.items;
       attributes = t.attribute_rows.items;
       assigns = t.assign_rows.items;
-      rules = t.rule_rows.items;
+      rules = t.rule_rows;
       jobs = t.job_rows.items;
       consumers = t.consumer_rows.items;
       made = t.counts;
@@ -101,7 +102,7 @@ impl Tables {
             definition_rows: Vec::new(alloc),
             attribute_rows: Vec::new(alloc),
             assign_rows: Vec::new(alloc),
-            rule_rows: Vec::new(alloc),
+            rule_rows: RuleRows::new(alloc),
             job_rows: Vec::new(alloc),
             consumer_rows: Vec::new(alloc),
             counts: none_made(),
@@ -267,6 +268,25 @@ impl Tables {
         ensures { self.new ≡ happened (InheritRemoved row.now) self.old }
     {
         self.inherit_rows.remove(row);
+    }
+
+    /// The lists with a rule more, of the next id. Where there is no memory they are gone.
+    pub fn with_rule(self, row: RuleRow) -> Result<Tables, AllocError>
+        requires { RulesAscend (self.rules ++ row ∷ []) }
+        ensures { IfOk result (λ t. t ≡ happened (RuleMade row) self) }
+    {
+        let number = row.id.number();
+        let mut tables = self;
+        tables.rule_rows = tables.rule_rows.with(row)?;
+        tables.counts.rules = number;
+        Ok(tables)
+    }
+
+    /// Takes a rule away.
+    pub fn remove_rule(&mut self, id: RuleId)
+        ensures { self.new ≡ happened (RuleGone id) self.old }
+    {
+        self.rule_rows.remove(id);
     }
 
     /// Adds a consumer of the change log.

@@ -2,13 +2,13 @@
 ghost use Rattle.std.specs.Prelude.{◌≡◌, IfOk, Some, true, false};
 ghost use Rattle.reg_facts.specs.Events.{happened};
 ghost use Rattle.reg_facts.specs.Suiting.{Suits};
-ghost use Rattle.reg_terms.specs.declared.event.Event.TheVariants.{FolderMade, FolderRenamed, FolderMoved, FolderGone, SubjectMade, GroupMade, GroupRenamed, GroupMoved, GroupGone, RowAdded, RowRemoved, RowRedated, Composed, Decomposed, GrantAdded, GrantRemoved, InheritAdded, InheritRemoved, ConsumerAdded, ConsumerAcked};
+ghost use Rattle.reg_terms.specs.declared.event.Event.TheVariants.{FolderMade, FolderRenamed, FolderMoved, FolderGone, SubjectMade, GroupMade, GroupRenamed, GroupMoved, GroupGone, RowAdded, RowRemoved, RowRedated, Composed, Decomposed, GrantAdded, GrantRemoved, InheritAdded, InheritRemoved, RuleMade, RuleGone, ConsumerAdded, ConsumerAcked};
 
 use crate::{
     CompositeRow, ConsumerRow, Event, Facts, FolderRow, GrantRow, GroupRow, InheritRow, Member,
-    MemberRow, Object, SubjectRow,
+    MemberRow, Object, RuleRow, SubjectRow,
 };
-use reg_base::{FolderId, GroupId, Moment, Text};
+use reg_base::{FolderId, GroupId, Moment, RuleId, Text};
 use std::alloc::{AllocError, Global};
 
 impl Facts {
@@ -43,6 +43,8 @@ impl Facts {
             Event::GrantRemoved { row } => Ok(self.grant_removed(&row)),
             Event::InheritAdded { row } => self.inherit_added(row),
             Event::InheritRemoved { row } => Ok(self.inherit_removed(&row)),
+            Event::RuleMade { row } => self.rule_made(row),
+            Event::RuleGone { rule } => Ok(self.rule_gone(rule)),
             Event::ConsumerAdded { row } => self.consumer_added(row),
             Event::ConsumerAcked { consumer, seq } => Ok(self.consumer_acked(&consumer, seq)),
         }
@@ -296,6 +298,24 @@ impl Facts {
     {
         let mut facts = self;
         facts.tables.remove_inherit(row);
+        facts
+    }
+
+    fn rule_made(self, row: RuleRow) -> Result<Facts, AllocError>
+        requires { Suits (RuleMade row) self }
+        ensures { IfOk result (λ f. f ≡ happened (RuleMade row) self) }
+    {
+        let mut facts = self;
+        facts.tables = facts.tables.with_rule(row)?;
+        Ok(facts)
+    }
+
+    fn rule_gone(self, rule: RuleId) -> Facts
+        requires { Suits (RuleGone rule) self }
+        ensures { result ≡ happened (RuleGone rule) self }
+    {
+        let mut facts = self;
+        facts.tables.remove_rule(rule);
         facts
     }
 

@@ -34,9 +34,9 @@ use Rattle.reg_terms.specs.declared.reply.Reply.TheVariants as reply
 use Rattle.reg_json.specs.Fields.{composite_kind}
 use Rattle.reg_json.specs.Flat.{moment_data}
 use Rattle.reg_json.specs.Refusals.{refusal_data, refused}
-use Rattle.reg_json.specs.Replies.{strings, row_data, row_items, kind_word, factors_data, grant_data, names_of, span_data, entry_data, answer_data, reply_data, text}
-use Rattle.reg_json.specs.Taking.{has, text_in, name_in, number_in, moment_in, moment_or_null, optional_moment_in, items_in, all_of, texts_in, row_from, kind_in, factors_from, factors_or_null, privilege_from, grant_from, span_from, entry_kind_in, entry_from, group_from, listing_from, members_from, memberships_from, groups_from, grants_from, may_from, history_from, log_from, list_from, answer_from, bare_refusal, http_refusal, field_refusal, object_refusal, denied_from, future_from, place_from, full_from, limit_from, named_from, with_object, with_field, with_nothing, other_refusal, refusal_from, fault_from, reply_from, reply_of}
-use Rattle.reg_json.specs.Writable.{is_u64, row_fits, span_fits, entry_fits, answer_fits, refusal_fits, reply_fits, IsWritable}
+use Rattle.reg_json.specs.Replies.{accepted_data, strings, row_data, row_items, kind_word, factors_data, grant_data, names_of, span_data, entry_data, answer_data, reply_data, text}
+use Rattle.reg_json.specs.Taking.{has, text_in, name_in, number_in, optional_number_in, moment_in, moment_or_null, optional_moment_in, items_in, all_of, texts_in, row_from, kind_in, factors_from, factors_or_null, privilege_from, grant_from, span_from, entry_kind_in, entry_from, group_from, listing_from, members_from, memberships_from, groups_from, grants_from, may_from, history_from, log_from, list_from, answer_from, bare_refusal, http_refusal, field_refusal, object_refusal, denied_from, future_from, place_from, full_from, limit_from, named_from, with_object, with_field, with_nothing, other_refusal, refusal_from, accepted_from, fault_from, reply_from, reply_of}
+use Rattle.reg_json.specs.Writable.{is_u64, is_optional_u64, row_fits, span_fits, entry_fits, answer_fits, refusal_fits, reply_fits, IsWritable}
 use Rattle.reg_json.proofs.Plain.{is_plain, are_plain, plain_read, all_plain, all_flat}
 
 -- ---- what stands under a key
@@ -223,6 +223,7 @@ refusal_again (refusal.InUse used) h = refl
 refusal_again refusal.NotEmpty h = refl
 refusal_again (refusal.Place kept last) h = refl
 refusal_again (refusal.Full kind limit) h = refl
+refusal_again (refusal.Vetoed rule) h = refl
 refusal_again refusal.NoRoute h = refl
 refusal_again refusal.NoMethod h = refl
 refusal_again refusal.NoLength h = refl
@@ -255,6 +256,7 @@ fault_again (refusal.InUse used) = refl
 fault_again refusal.NotEmpty = refl
 fault_again (refusal.Place kept last) = refl
 fault_again (refusal.Full kind limit) = refl
+fault_again (refusal.Vetoed rule) = refl
 fault_again refusal.NoRoute = refl
 fault_again refusal.NoMethod = refl
 fault_again refusal.NoLength = refl
@@ -275,9 +277,10 @@ answer_goes (answer.May privileges) = refl
 answer_goes (answer.History history) = refl
 answer_goes (answer.Log entries last place) = refl
 
-number_again : (n : ℕ) → reply_from (reply_data (reply.Number n)) ≡ Some (reply.Number n)
-unfolding reply_from reply_data has number_in
-number_again n = refl
+number_again : (n : ℕ) (id : Option ℕ) → reply_from (reply_data (reply.Number n id)) ≡ Some (reply.Number n id)
+unfolding reply_from reply_data has accepted_from number_in optional_number_in
+number_again n None = refl
+number_again n (Some id) = refl
 
 memory_again : reply_from (reply_data reply.NoMemory) ≡ Some reply.NoMemory
 unfolding reply_from reply_data has fault_from text_in
@@ -289,7 +292,7 @@ disk_again = refl
 
 reply_again : (r : Reply) → reply_fits r ≡ true → reply_from (reply_data r) ≡ Some r
 unfolding reply_data
-reply_again (reply.Number n) h = number_again n
+reply_again (reply.Number n id) h = number_again n id
 reply_again (reply.Answer a) h = answer_goes a ∙ ap (option_map (λ v. reply.Answer v)) (answer_again a h)
 reply_again (reply.Refused r) h = fault_again r ∙ ap (option_map (λ v. reply.Refused v)) (refusal_again r h)
 reply_again reply.NoMemory h = memory_again
@@ -370,6 +373,7 @@ refusal_plain (refusal.Place kept last) h =
     let both = and_parts (is_u64 kept) (is_u64 last) h in
     rw (both.0, both.1) refl
 refusal_plain (refusal.Full kind limit) h = rw h refl
+refusal_plain (refusal.Vetoed rule) h = rw h refl
 refusal_plain (refusal.Future asked clock) h = refl
 refusal_plain (refusal.BadRequest field) h = refl
 refusal_plain (refusal.BadName field) h = refl
@@ -417,6 +421,7 @@ refusal_flat (refusal.InUse used) = lit≤ tt
 refusal_flat refusal.NotEmpty = lit≤ tt
 refusal_flat (refusal.Place kept last) = lit≤ tt
 refusal_flat (refusal.Full kind limit) = lit≤ tt
+refusal_flat (refusal.Vetoed rule) = lit≤ tt
 refusal_flat refusal.NoRoute = lit≤ tt
 refusal_flat refusal.NoMethod = lit≤ tt
 refusal_flat refusal.NoLength = lit≤ tt
@@ -425,9 +430,19 @@ refusal_flat refusal.HeadTooLong = lit≤ tt
 refusal_flat refusal.NoCallerHeader = lit≤ tt
 refusal_flat refusal.BadHead = lit≤ tt
 
+accepted_plain : (n : ℕ) (id : Option ℕ) → (is_u64 n && is_optional_u64 id) ≡ true → is_plain (accepted_data n id) ≡ true
+accepted_plain n None h = rw (and_parts (is_u64 n) true h).0 refl
+accepted_plain n (Some id) h =
+    let both = and_parts (is_u64 n) (is_u64 id) h in
+    rw (both.0, both.1) refl
+
+accepted_flat : (n : ℕ) (id : Option ℕ) → depth (accepted_data n id) ≤ 127
+accepted_flat n None = lit≤ tt
+accepted_flat n (Some id) = lit≤ tt
+
 reply_plain : (r : Reply) → reply_fits r ≡ true → is_plain (reply_data r) ≡ true
 unfolding reply_data
-reply_plain (reply.Number n) h = rw h refl
+reply_plain (reply.Number n id) h = accepted_plain n id h
 reply_plain (reply.Answer a) h = answer_plain a h
 reply_plain (reply.Refused r) h = refusal_plain r h
 reply_plain reply.NoMemory h = refl
@@ -435,7 +450,7 @@ reply_plain reply.KeepFault h = refl
 
 reply_flat : (r : Reply) → depth (reply_data r) ≤ 127
 unfolding reply_data
-reply_flat (reply.Number n) = lit≤ tt
+reply_flat (reply.Number n id) = accepted_flat n id
 reply_flat (reply.Answer a) = answer_flat a
 reply_flat (reply.Refused r) = refusal_flat r
 reply_flat reply.NoMemory = lit≤ tt

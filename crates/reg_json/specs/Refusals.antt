@@ -8,7 +8,7 @@ use Rattle.reg_terms.specs.declared.refusal.Refusal.TheVariants as refusal
 
 -- what a refusal carries: nothing, a limit, a field or an object by its text, an object and the privilege that is
 -- demanded on it, the moment asked of and the clock's by their texts, a use, a kind of which there would be more than
--- its limit, or the number that a consumer had and the log's last
+-- its limit, the rule that forbids, or the number that a consumer had and the log's last
 pub data Carries : Type 0 where
   nothing : Carries
   limit : ℕ → Carries
@@ -19,6 +19,7 @@ pub data Carries : Type 0 where
   count : List ℕ → ℕ → Carries
   moments : List ℕ → List ℕ → Carries
   places : ℕ → ℕ → Carries
+  rule : ℕ → Carries
 
 -- a refusal by its number, its word and what it carries
 unfoldable pub refused : ℕ → List ℕ → Carries → Data
@@ -31,6 +32,7 @@ refused code word (used text) = json.object (member (codes "code") (number (unsi
 refused code word (count kind n) = json.object (member (codes "code") (number (unsigned code)) (member (codes "kind") (string kind) (member (codes "limit") (number (unsigned n)) (member (codes "refused") (string word) no_members))))
 refused code word (moments asked clock) = json.object (member (codes "asked") (string asked) (member (codes "clock") (string clock) (member (codes "code") (number (unsigned code)) (member (codes "refused") (string word) no_members))))
 refused code word (places kept last) = json.object (member (codes "code") (number (unsigned code)) (member (codes "kept") (number (unsigned kept)) (member (codes "last") (number (unsigned last)) (member (codes "refused") (string word) no_members))))
+refused code word (rule id) = json.object (member (codes "code") (number (unsigned code)) (member (codes "refused") (string word) (member (codes "rule") (number (unsigned id)) no_members)))
 
 -- each refusal as JSON data
 unfoldable pub refusal_data : Refusal → Data
@@ -52,6 +54,7 @@ refusal_data refusal.HasMembers = refused 15 (codes "HasMembers") nothing
 refusal_data (refusal.Circular name) = refused 16 (codes "Circular") (object name)
 refusal_data (refusal.InUse text) = refused 17 (codes "InUse") (used text)
 refusal_data refusal.NotEmpty = refused 18 (codes "NotEmpty") nothing
+refusal_data (refusal.Vetoed id) = refused 22 (codes "Vetoed") (rule id)
 refusal_data (refusal.Place kept last) = refused 25 (codes "Place") (places kept last)
 refusal_data (refusal.Full kind n) = refused 26 (codes "Full") (count kind n)
 refusal_data refusal.NoRoute = refused 30 (codes "NoRoute") nothing

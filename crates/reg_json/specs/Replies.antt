@@ -83,9 +83,14 @@ answer_data (answer.May privileges) = object (member (codes "ok") (boolean true)
 answer_data (answer.History history) = object (member (codes "history") (array (span_items history)) (member (codes "ok") (boolean true) no_members))
 answer_data (answer.Log entries last place) = object (member (codes "entries") (array (entry_items entries)) (member (codes "last") (number (unsigned last)) (member (codes "ok") (boolean true) (member (codes "place") (number (unsigned place)) no_members))))
 
+-- an accepted command's number as JSON data, with the id of what it made where there is one
+abbrev pub accepted_data : ℕ → Option ℕ → Data
+accepted_data n None = object (member (codes "number") (number (unsigned n)) (member (codes "ok") (boolean true) no_members))
+accepted_data n (Some id) = object (member (codes "id") (number (unsigned id)) (member (codes "number") (number (unsigned n)) (member (codes "ok") (boolean true) no_members)))
+
 -- a reply as JSON data
 unfoldable pub reply_data : Reply → Data
-reply_data (reply.Number n) = object (member (codes "number") (number (unsigned n)) (member (codes "ok") (boolean true) no_members))
+reply_data (reply.Number n id) = accepted_data n id
 reply_data (reply.Answer a) = answer_data a
 reply_data (reply.Refused r) = refusal_data r
 reply_data reply.NoMemory = object (member (codes "fault") (string (codes "memory")) no_members)

@@ -45,6 +45,10 @@ name_in key d = do
 unfoldable pub number_in : List ℕ → Data → Option ℕ
 number_in key d = option_and_then whole_number (get key d)
 
+-- and one that may be left out
+unfoldable pub optional_number_in : List ℕ → Data → Option (Option ℕ)
+optional_number_in key d = if has key d then option_map (λ n. Some n) (number_in key d) else Some None
+
 -- a moment, by its text
 unfoldable pub moment_in : List ℕ → Data → Option ℕ
 moment_in key d = do
@@ -323,7 +327,8 @@ unfoldable pub other_refusal : ℕ → Data → Option Refusal
 other_refusal code d =
     if has (codes "limit") d then limit_from d else
     (if has (codes "asked") d then future_from d else
-    (if has (codes "kept") d then place_from d else with_nothing code))
+    (if has (codes "kept") d then place_from d else
+    (if has (codes "rule") d then option_map (λ v. refusal.Vetoed v) (number_in (codes "rule") d) else with_nothing code)))
 
 -- a refusal, by its number and what it carries
 unfoldable pub refusal_from : Data → Option Refusal
@@ -342,12 +347,19 @@ fault_from d = do
   if bytes_eq word (codes "memory") then Some reply.NoMemory else
       (if bytes_eq word (codes "disk") then Some reply.KeepFault else None)
 
+-- an accepted command's number, and the id of what it made
+unfoldable pub accepted_from : Data → Option Reply
+accepted_from d = do
+  number ← number_in (codes "number") d
+  id ← optional_number_in (codes "id") d
+  Some (reply.Number number id)
+
 -- a reply, by a key that none of those behind it has
 unfoldable pub reply_from : Data → Option Reply
 reply_from d =
     if has (codes "fault") d then fault_from d else
     (if has (codes "refused") d then option_map (λ v. reply.Refused v) (refusal_from d) else
-    (if has (codes "number") d then option_map (λ v. reply.Number v) (number_in (codes "number") d) else option_map (λ v. reply.Answer v) (answer_from d)))
+    (if has (codes "number") d then accepted_from d else option_map (λ v. reply.Answer v) (answer_from d)))
 
 -- what a text says that is JSON
 unfoldable pub reply_of : List ℕ → Option Reply

@@ -1,5 +1,5 @@
 -- Which replies have a text: all that the program can hold.
-use Rattle.std.specs.Prelude.{◌≡◌, ℕ, Bool, true, ◌&&◌, nat_lt}
+use Rattle.std.specs.Prelude.{◌≡◌, ℕ, Bool, true, ◌&&◌, nat_lt, Option, Some, None}
 use Rattle.std.specs.List.{list_all}
 use Rattle.std.specs.Str.{IsUtf8}
 use Rattle.reg_base.specs.Names.{is_name}
@@ -18,6 +18,11 @@ use Rattle.reg_json.specs.Replies.{text}
 -- a number of 64 bits
 abbrev pub is_u64 : ℕ → Bool
 is_u64 n = nat_lt n 18446744073709551616
+
+-- a number of 64 bits, where there is one
+abbrev pub is_optional_u64 : Option ℕ → Bool
+is_optional_u64 None = true
+is_optional_u64 (Some n) = is_u64 n
 
 -- the moments of a membership are at most the greatest
 abbrev pub row_fits : RowShown → Bool
@@ -45,11 +50,12 @@ refusal_fits (refusal.TooLong limit) = is_u64 limit
 refusal_fits (refusal.Future asked clock) = is_moment asked && is_moment clock
 refusal_fits (refusal.Place kept last) = is_u64 kept && is_u64 last
 refusal_fits (refusal.Full kind limit) = is_u64 limit
+refusal_fits (refusal.Vetoed rule) = is_u64 rule
 refusal_fits _ = true
 
 -- and those of a reply
 abbrev pub reply_fits : Reply → Bool
-reply_fits (reply.Number number) = is_u64 number
+reply_fits (reply.Number number id) = is_u64 number && is_optional_u64 id
 reply_fits (reply.Answer a) = answer_fits a
 reply_fits (reply.Refused r) = refusal_fits r
 reply_fits _ = true

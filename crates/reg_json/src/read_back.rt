@@ -5,13 +5,13 @@ ghost use Rattle.serde_json.specs.View.{view};
 ghost use Rattle.reg_terms.specs.declared.reply.Reply.{Reply};
 ghost use Rattle.reg_json.specs.Replies.{text};
 ghost use Rattle.reg_json.specs.Takes.{Takes};
-ghost use Rattle.reg_json.specs.Taking.{fault_from, reply_from, reply_of};
+ghost use Rattle.reg_json.specs.Taking.{accepted_from, fault_from, reply_from, reply_of};
 ghost use Rattle.reg_json.specs.Writable.{IsWritable};
 
 use crate::reply::append_reply;
 use crate::taken_answer::answer_from;
 use crate::taken_refusal::refusal_from;
-use crate::taking::{TakeFault, has, number_in, str_in};
+use crate::taking::{TakeFault, has, number_in, optional_number_in, str_in};
 use reg_terms::Reply;
 use serde_json::Value;
 use std::alloc::{AllocError, Global};
@@ -28,6 +28,15 @@ fn fault_from(value: &Value) -> Result<Reply, TakeFault>
     }
 }
 
+#[tactic(auto, unfolding(crate::specs::Taking::accepted_from))]
+fn accepted_from(value: &Value) -> Result<Reply, TakeFault>
+    ensures { Takes (λ r. r) result (accepted_from (view value.now)) }
+{
+    let number = number_in(value, "number")?;
+    let id = optional_number_in(value, "id")?;
+    Ok(Reply::Number { number, id })
+}
+
 #[tactic(auto, unfolding(crate::specs::Taking::reply_from))]
 fn reply_from(alloc: Global, value: &Value) -> Result<Reply, TakeFault>
     ensures { Takes (λ r. r) result (reply_from (view value.now)) }
@@ -38,8 +47,7 @@ fn reply_from(alloc: Global, value: &Value) -> Result<Reply, TakeFault>
         let refusal = refusal_from(alloc, value)?;
         Ok(Reply::Refused(refusal))
     } else if has(value, "number") {
-        let number = number_in(value, "number")?;
-        Ok(Reply::Number { number })
+        accepted_from(value)
     } else {
         let answer = answer_from(alloc, value)?;
         Ok(Reply::Answer(answer))

@@ -38,6 +38,7 @@ fn said(refusal: &Refusal) -> Said<'_>
         Refusal::Circular { object } => Said::new(16, "Circular", Carried::Object(object)),
         Refusal::InUse { used } => Said::new(17, "InUse", Carried::Use(used)),
         Refusal::NotEmpty => Said::new(18, "NotEmpty", Carried::Nothing),
+        Refusal::Vetoed { rule } => Said::new(22, "Vetoed", Carried::Rule(*rule)),
         Refusal::Place { kept, last } => Said::new(25, "Place", Carried::Places(*kept, *last)),
         Refusal::Full { kind, limit } => Said::new(26, "Full", Carried::Count(kind, *limit)),
         Refusal::NoRoute => Said::new(30, "NoRoute", Carried::Nothing),

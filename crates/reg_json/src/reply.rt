@@ -5,7 +5,7 @@ ghost use Rattle.json.specs.Tree.{json_tokens};
 ghost use Rattle.serde_json.specs.Written.{compact_text, outline};
 ghost use Rattle.reg_terms.specs.declared.query.Answer.TheVariants as answer;
 ghost use Rattle.reg_json.specs.Arrays.{is_plain};
-ghost use Rattle.reg_json.specs.Replies.{answer_data, reply_data, text};
+ghost use Rattle.reg_json.specs.Replies.{accepted_data, answer_data, reply_data, text};
 
 use crate::answer::{put_answer, put_members};
 use crate::array::{append_array, is_plain};
@@ -15,16 +15,25 @@ use json::Writer;
 use reg_terms::{Answer, Reply, Texts};
 use std::alloc::{AllocError, Global};
 
+fn put_accepted(out: &mut Writer, number: u64, id: Option<u64>) -> Result<(), AllocError>
+    ensures ok { OnOk result (out.new.tokens ≡ out.old.tokens ++ json_tokens (outline (accepted_data number id))) }
+    ensures before { out.new.before ≡ out.old.before }
+{
+    let number = ("number", Scalar::Number(number));
+    let accepted = ("ok", Scalar::Flag(true));
+    match id {
+        Some(id) => put_object(out, &[("id", Scalar::Number(id)), number, accepted]),
+        None => put_object(out, &[number, accepted]),
+    }
+}
+
 #[tactic(auto, unfolding(crate::specs::Replies::reply_data))]
 fn put_reply(out: &mut Writer, reply: &Reply) -> Result<(), AllocError>
     ensures ok { OnOk result (out.new.tokens ≡ out.old.tokens ++ json_tokens (outline (reply_data reply.now))) }
     ensures before { out.new.before ≡ out.old.before }
 {
     match reply {
-        Reply::Number { number } => {
-            let number = ("number", Scalar::Number(*number));
-            put_object(out, &[number, ("ok", Scalar::Flag(true))])
-        }
+        Reply::Number { number, id } => put_accepted(out, *number, *id),
         Reply::Answer(answer) => put_answer(out, answer),
         Reply::Refused(refusal) => put_refusal(out, refusal),
         Reply::NoMemory => put_object(out, &[("fault", Scalar::Text("memory"))]),

@@ -36,6 +36,8 @@ pub enum Carried<'a> {
     Moments(&'a Moment, &'a Moment),
     /// The number that a consumer has, and the log's last.
     Places(u64, u64),
+    /// The rule that forbids.
+    Rule(u64),
 }
 
 impl<'a> Said<'a> {
@@ -186,6 +188,17 @@ fn put_places(
     put_object(out, &[code, kept, last, word])
 }
 
+#[tactic(auto, unfolding(crate::specs::Refusals::refused))]
+fn put_rule(out: &mut Writer, code: u64, word: &str, rule: u64) -> Result<(), AllocError>
+    ensures ok { OnOk result (out.new.tokens ≡ out.old.tokens ++ json_tokens (outline (refused code word.now (say.rule rule)))) }
+    ensures before { out.new.before ≡ out.old.before }
+{
+    let code = ("code", Scalar::Number(code));
+    let word = ("refused", Scalar::Text(word));
+    let rule = ("rule", Scalar::Number(rule));
+    put_object(out, &[code, word, rule])
+}
+
 /// Writes what a refusal says. The only error is out of memory.
 pub fn put_said(out: &mut Writer, said: &Said<'_>) -> Result<(), AllocError>
     ensures ok { OnOk result (out.new.tokens ≡ out.old.tokens ++ json_tokens (outline (said_data said.now))) }
@@ -208,5 +221,6 @@ pub fn put_said(out: &mut Writer, said: &Said<'_>) -> Result<(), AllocError>
         Carried::Count(kind, limit) => put_count(out, code, word, kind.as_str(), *limit),
         Carried::Moments(asked, clock) => put_moments(out, code, word, **asked, **clock),
         Carried::Places(kept, last) => put_places(out, code, word, *kept, *last),
+        Carried::Rule(rule) => put_rule(out, code, word, *rule),
     }
 }

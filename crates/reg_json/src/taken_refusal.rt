@@ -162,6 +162,9 @@ fn other_refusal(alloc: Global, code: u64, value: &Value) -> Result<Refusal, Tak
         future_from(value)
     } else if has(value, "kept") {
         place_from(value)
+    } else if has(value, "rule") {
+        let rule = number_in(value, "rule")?;
+        Ok(Refusal::Vetoed { rule })
     } else {
         with_nothing(code)
     }

@@ -3,7 +3,7 @@ ghost use Rattle.std.specs.Prelude.{◌≡◌};
 ghost use Rattle.serde_json.specs.Find.{get, as_str};
 ghost use Rattle.serde_json.specs.View.{view, items_view};
 ghost use Rattle.reg_json.specs.Takes.{Takes};
-ghost use Rattle.reg_json.specs.Taking.{has, text_in, name_in, number_in, moment_in, moment_or_null, optional_moment_in, items_in, all_of, texts_in};
+ghost use Rattle.reg_json.specs.Taking.{has, text_in, name_in, number_in, optional_number_in, moment_in, moment_or_null, optional_moment_in, items_in, all_of, texts_in};
 
 use reg_base::{Moment, Name, Text};
 use reg_terms::Texts;
@@ -87,6 +87,19 @@ pub fn number_in(value: &Value, key: &str) -> Result<u64, TakeFault>
     match value.get(key).and_then(Value::as_u64) {
         Some(number) => Ok(number),
         None => Err(TakeFault::Unlike),
+    }
+}
+
+/// The whole number under a key, or none where nothing stands there.
+#[tactic(auto, unfolding(crate::specs::Taking::optional_number_in))]
+pub fn optional_number_in(value: &Value, key: &str) -> Result<Option<u64>, TakeFault>
+    ensures { Takes (λ n. n) result (optional_number_in key.now (view value.now)) }
+{
+    if has(value, key) {
+        let number = number_in(value, key)?;
+        Ok(Some(number))
+    } else {
+        Ok(None)
     }
 }
 

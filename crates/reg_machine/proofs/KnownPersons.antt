@@ -1,5 +1,5 @@
 -- Who was a member of a group at a moment up to the clock is a person that stands.
-use Rattle.std.proofs.Common.{◌≡◌, ◌≤◌, ◌<◌, ◌==◌, ◌&&◌, ℕ, zero, suc, List, [], ◌∷◌, ◌++◌, Bool, true, false, None, Some, nat_le, arith, refl, sym, ◌∙◌, subst, inl, inr, eqb-true, eq-eqb}
+use Rattle.std.proofs.Common.{◌≡◌, ◌≤◌, ◌<◌, ◌==◌, ◌&&◌, ◌||◌, ℕ, zero, suc, List, [], ◌∷◌, ◌++◌, Bool, true, false, None, Some, nat_le, arith, refl, sym, ◌∙◌, ap, subst, inl, inr, eqb-true, eq-eqb}
 use Rattle.std.proofs.lemmas.Bool.{cases_Bool, and_parts, or_cases, or_left, or_right}
 use Rattle.std.proofs.lemmas.Bool.Decides.{nat_tests}
 use Rattle.std.specs.List.{list_any, AllByRecursion}
@@ -7,7 +7,7 @@ use Rattle.reg_base.specs.declared.entity.Entity.{Entity}
 use Rattle.reg_terms.specs.declared.command.Stamped.{Stamped}
 use Rattle.reg_terms.specs.declared.command.Command.{Command}
 use Rattle.reg_terms.specs.declared.event.Event.{Event}
-use Rattle.reg_terms.specs.declared.event.Event.TheVariants.{FolderMade, FolderRenamed, FolderMoved, FolderGone, GroupMade, GroupRenamed, GroupMoved, GroupGone, RowAdded, RowRemoved, RowRedated, Composed, Decomposed, GrantAdded, GrantRemoved, InheritAdded, InheritRemoved, ConsumerAdded, ConsumerAcked, SubjectMade}
+use Rattle.reg_terms.specs.declared.event.Event.TheVariants.{FolderMade, FolderRenamed, FolderMoved, FolderGone, GroupMade, GroupRenamed, GroupMoved, GroupGone, RowAdded, RowRemoved, RowRedated, Composed, Decomposed, GrantAdded, GrantRemoved, InheritAdded, InheritRemoved, RuleMade, RuleGone, ConsumerAdded, ConsumerAcked, SubjectMade}
 use Rattle.reg_terms.specs.declared.kinds.Member.{Member}
 use Rattle.reg_terms.specs.declared.kinds.Member.TheVariants.{Person, Group}
 use Rattle.reg_terms.specs.declared.kinds.SetOp.{SetOp}
@@ -17,20 +17,23 @@ use Rattle.reg_terms.specs.declared.rows.MemberRow.{MemberRow}
 use Rattle.reg_terms.specs.declared.rows.SubjectRow.{SubjectRow}
 use Rattle.reg_terms.specs.Kinds.{same_member}
 use Rattle.reg_facts.specs.Edits.{is_composite, is_row}
-use Rattle.reg_facts.specs.Events.{all_happened, events_of, happened}
+use Rattle.reg_facts.specs.Events.{all_happened, edit, events_of, happened}
 use Rattle.reg_facts.specs.Lists.{Lists}
 use Rattle.reg_facts.specs.Sound.{has_subject, IsKnown, IsSound}
 use Rattle.reg_effect.specs.declared.live.Live.{Live}
+use Rattle.reg_effect.specs.Deltas.{ended}
 use Rattle.reg_effect.specs.Member.{combine, gives, in_rows, in_factors, member_in, member, entries}
 use Rattle.reg_effect.specs.Order.{has_live_row}
-use Rattle.reg_machine.specs.Dates.{due, is_on, pass}
-use Rattle.reg_machine.specs.History.{facts}
-use Rattle.reg_machine.specs.Invariant.{IsBy, IsOpen}
+use Rattle.reg_effect.proofs.LiveOf.{rows_on_has}
+use Rattle.reg_rules.specs.Settling.{settle}
+use Rattle.reg_machine.specs.Dates.{date_passed, due, pass, without_ended}
+use Rattle.reg_machine.specs.History.{acted, facts}
+use Rattle.reg_machine.specs.Invariant.{IsBy}
 use Rattle.reg_machine.specs.Live.{live}
-use Rattle.reg_machine.specs.Past.{AreKnown, was_member}
+use Rattle.reg_machine.specs.Past.{AreKnown}
 use Rattle.reg_machine.proofs.Lived.{facts_earlier, none_before, none_within, still}
-use Rattle.reg_machine.proofs.Moments.{date_comes, facts_push, none_comes}
-use Rattle.reg_machine.proofs.Windows.{on_later}
+use Rattle.reg_machine.proofs.Moments.{facts_push, next_comes, none_comes}
+use Rattle.reg_machine.proofs.Settled.{settle_is}
 
 -- ---- a member is named by a row
 
@@ -96,18 +99,23 @@ person_known : (s : ℕ) (m : Member) (ss : List SubjectRow) → same_member m (
 person_known s (Person p) ss e h = let same = eqb-true p s e in rw same at h
 person_known s (Group g) ss e h = cc
 
-row_known : (u g s : ℕ) (rows : List MemberRow) (ss : List SubjectRow) → list_any (λ (row : MemberRow). is_row g (Person s) row && is_on u row) rows ≡ true → AllByRecursion (λ (row : MemberRow). IsKnown ss row.member) rows → has_subject s ss ≡ true
+row_known : (u g s : ℕ) (rows : List MemberRow) (ss : List SubjectRow) → list_any (λ (row : MemberRow). nat_le row.from u && is_row g (Person s) row) rows ≡ true → AllByRecursion (λ (row : MemberRow). IsKnown ss row.member) rows → has_subject s ss ≡ true
 row_known u g s [] ss h known = cc
-row_known u g s (row ∷ rows) ss h known = elim (or_cases (is_row g (Person s) row && is_on u row) (list_any (λ (row : MemberRow). is_row g (Person s) row && is_on u row) rows) h) [
-  | inl one ↦ person_known s row.member ss (and_parts (row.group == g) (same_member row.member (Person s)) (and_parts (is_row g (Person s) row) (is_on u row) one).0).1 known.0
+row_known u g s (row ∷ rows) ss h known = elim (or_cases (nat_le row.from u && is_row g (Person s) row) (list_any (λ (row : MemberRow). nat_le row.from u && is_row g (Person s) row) rows) h) [
+  | inl one ↦ person_known s row.member ss (and_parts (row.group == g) (same_member row.member (Person s)) (and_parts (nat_le row.from u) (is_row g (Person s) row) one).1).1 known.0
   | inr more ↦ row_known u g s rows ss more known.1
 ]
 
 -- at the moment itself
-pub known_at : (history : List Stamped) (t g s : ℕ) → AllByRecursion (IsBy t) history → AllByRecursion (IsOpen t) (facts history t).rows → IsSound (facts history t) → was_member history t g s ≡ true → has_subject s (facts history t).subjects ≡ true
-known_at history t g s by opens sound h =
-    let found = named_live s (live t (facts history t)).rows (member_named (live t (facts history t)) g s h) in
-    row_known t found.0 s (facts history t).rows (facts history t).subjects (sym (on_later t t found.0 (Person s) history by opens (omega arith)) ∙ found.1) sound.known
+known_at : (t g s : ℕ) (f : Lists) → IsSound f → member (live t f) g s ≡ true → has_subject s f.subjects ≡ true
+known_at t g s f sound h =
+    let found = named_live s (live t f).rows (member_named (live t f) g s h) in
+    let any = list_any (λ (row : MemberRow). nat_le row.from t && is_row found.0 (Person s) row) f.rows in
+    row_known t found.0 s f.rows f.subjects (sym (neither any) ∙ (sym (rows_on_has t found.0 (Person s) f.rows []) ∙ found.1)) sound.known
+  where
+    neither : (x : Bool) → (x || false) ≡ x
+    neither true = refl
+    neither false = refl
 
 -- ---- persons stay
 
@@ -137,12 +145,24 @@ stays (GrantAdded row) f s h = h
 stays (GrantRemoved row) f s h = h
 stays (InheritAdded row) f s h = h
 stays (InheritRemoved row) f s h = h
+stays (RuleMade row) f s h = h
+stays (RuleGone id) f s h = h
 stays (ConsumerAdded row) f s h = h
 stays (ConsumerAcked name seq) f s h = h
 
 all_stay : (es : List Event) (f : Lists) (s : ℕ) → has_subject s f.subjects ≡ true → has_subject s (all_happened es f).subjects ≡ true
 all_stay [] f s h = h
 all_stay (e ∷ es) f s h = all_stay es (happened e f) s (stays e f s h)
+
+-- and so they do when rules act
+settle_subjects : (pairs : List (ℕ × ℕ)) (at : ℕ) (f : Lists) → (settle pairs at f).subjects ≡ f.subjects
+settle_subjects pairs at f = ap (λ (x : Lists). x.subjects) (settle_is pairs at f)
+
+date_subjects : (a d : ℕ) (f : Lists) → (date_passed a d f).subjects ≡ f.subjects
+date_subjects a d f = settle_subjects (ended (live a f) (live d (without_ended d f))) d (without_ended d f)
+
+acted_subjects : (at : ℕ) (by : Entity) (command : Command) (f : Lists) → (acted at by command f).subjects ≡ (edit at by command f).subjects
+acted_subjects at by command f = settle_subjects (ended (live at f) (live at (edit at by command f))) at (edit at by command f)
 
 -- ---- who was a member stands
 
@@ -156,14 +176,15 @@ known_later history t u by h w none v g s x was = rw (none_comes t u history by 
 ])
 
 -- the next date
-pub known_next : (history : List Stamped) (t d : ℕ) → AllByRecursion (IsBy t) history → AllByRecursion (IsBy d) history → AreKnown history t → due t d (facts history t).rows ≡ Some d → AllByRecursion (IsOpen d) (facts history d).rows → IsSound (facts history d) → AreKnown history d
-known_next history t d by by_then h first opens sound v g s x was = elim (cases_Bool (nat_le d v)) [
+pub known_next : (history : List Stamped) (t d : ℕ) → AllByRecursion (IsBy t) history → AreKnown history t → due t d (facts history t).rows ≡ Some d → IsSound (facts history d) → AreKnown history d
+known_next history t d by h first sound v g s x was = elim (cases_Bool (nat_le d v)) [
   | inl y ↦
       let same : v ≡ d = grind (arith, nat_tests, y, x) in
-      known_at history d g s by_then opens sound (rw same at was)
+      known_at d g s (facts history d) sound (rw same at was)
   | inr n ↦
       let less : v < d = grind (arith, nat_tests, n) in
-      rw (date_comes t d d history by first) (elim (cases_Bool (nat_le v t)) [
+      let kept : (facts history d).subjects ≡ (facts history t).subjects = ap (λ (f : Lists). f.subjects) (next_comes t d d history by first) ∙ date_subjects t d (facts history t) in
+      subst (λ ss. has_subject s ss ≡ true) (sym kept) (elim (cases_Bool (nat_le v t)) [
         | inl y ↦ h v g s (grind (arith, nat_tests, y)) was
         | inr m ↦
             let later : t ≤ v = grind (arith, nat_tests, m) in
@@ -172,15 +193,17 @@ known_next history t d by by_then h first opens sound v g s x was = elim (cases_
 ]
 
 -- a command more
-pub known_push : (history : List Stamped) (at : ℕ) (by : Entity) (command : Command) → AllByRecursion (IsBy at) history → AllByRecursion (IsBy at) (history ++ (record { at = at; by = by; command = command }) ∷ []) → AreKnown history at
-    → AllByRecursion (IsOpen at) (facts (history ++ (record { at = at; by = by; command = command }) ∷ []) at).rows → IsSound (facts (history ++ (record { at = at; by = by; command = command }) ∷ []) at) → AreKnown (history ++ (record { at = at; by = by; command = command }) ∷ []) at
-known_push history at by command are more h opens sound v g s x was = elim (cases_Bool (nat_le at v)) [
+pub known_push : (history : List Stamped) (at : ℕ) (by : Entity) (command : Command) → AllByRecursion (IsBy at) history → AreKnown history at
+    → IsSound (facts (history ++ (record { at = at; by = by; command = command }) ∷ []) at) → AreKnown (history ++ (record { at = at; by = by; command = command }) ∷ []) at
+known_push history at by command are h sound v g s x was = elim (cases_Bool (nat_le at v)) [
   | inl y ↦
       let same : v ≡ at = grind (arith, nat_tests, y, x) in
-      known_at (history ++ (record { at = at; by = by; command = command }) ∷ []) at g s more opens sound (rw same at was)
+      known_at at g s (facts (history ++ (record { at = at; by = by; command = command }) ∷ []) at) sound (rw same at was)
   | inr n ↦
       let less : v < at = grind (arith, nat_tests, n) in
-      rw (facts_push at by command history are) (all_stay (events_of at by command (facts history at)) (facts history at) s (h v g s (omega (arith, less)) (subst (λ (f : Lists). member (live v f) g s ≡ true) (facts_earlier history at v by command less) was)))
+      let f : Lists = facts history at in
+      let kept : (facts (history ++ (record { at = at; by = by; command = command }) ∷ []) at).subjects ≡ (edit at by command f).subjects = ap (λ (k : Lists). k.subjects) (facts_push at by command history are) ∙ acted_subjects at by command f in
+      subst (λ ss. has_subject s ss ≡ true) (sym kept) (all_stay (events_of at by command f) f s (h v g s (omega (arith, less)) (subst (λ (k : Lists). member (live v k) g s ≡ true) (facts_earlier history at v by command less) was)))
 ]
 
 pub known_start : AreKnown [] 0

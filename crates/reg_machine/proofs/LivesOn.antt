@@ -4,7 +4,7 @@ use Rattle.std.proofs.lemmas.Bool.{cases_Bool}
 use Rattle.std.proofs.lemmas.Bool.Decides.{nat_tests}
 use Rattle.reg_terms.specs.Kinds.{same_object}
 use Rattle.reg_terms.specs.declared.event.Event.{Event}
-use Rattle.reg_terms.specs.declared.event.Event.TheVariants.{FolderMade, FolderRenamed, FolderMoved, FolderGone, GroupMade, GroupRenamed, GroupMoved, GroupGone, RowAdded, RowRemoved, RowRedated, Composed, Decomposed, GrantAdded, GrantRemoved, InheritAdded, InheritRemoved, ConsumerAdded, ConsumerAcked, SubjectMade}
+use Rattle.reg_terms.specs.declared.event.Event.TheVariants.{FolderMade, FolderRenamed, FolderMoved, FolderGone, GroupMade, GroupRenamed, GroupMoved, GroupGone, RowAdded, RowRemoved, RowRedated, Composed, Decomposed, GrantAdded, GrantRemoved, InheritAdded, InheritRemoved, RuleMade, RuleGone, ConsumerAdded, ConsumerAcked, SubjectMade}
 use Rattle.reg_terms.specs.declared.kinds.Object.{Object}
 use Rattle.reg_terms.specs.declared.kinds.Object.TheVariants.{Folder, Group, Def, Attr, Subject}
 use Rattle.reg_terms.specs.declared.rows.Made.{Made}
@@ -69,12 +69,20 @@ module _ (at : ℕ) (f g : Lists) (o x : Object) (life : Life) (h : IsLived at f
   ]
 
   -- nothing is made and nothing goes
-  still_lived : KeptAll f g → g.made ≡ f.made → IsLived at g o life
+  still_lived : KeptAll f g → was_made g.made o ≡ was_made f.made o → IsLived at g o life
   still_lived all same = record {
     now = all o ∙ h.now;
-    new = λ k. h.new (subst (λ (m : Made). was_made m o ≡ false) same k);
+    new = λ k. h.new (sym same ∙ k);
     by = h.by;
   }
+
+-- a rule is no object
+no_object : (made : Made) (n : ℕ) (o : Object) → was_made (record made { rules = n }) o ≡ was_made made o
+no_object made n (Folder d) = refl
+no_object made n (Group g) = refl
+no_object made n (Def a) = refl
+no_object made n (Attr a) = refl
+no_object made n (Subject s) = refl
 
 over : (a at : ℕ) → lives_at at (Some (a, Some at)) ≡ false
 over a at = let no : nat_lt at at ≡ false = grind (arith, nat_tests) in rw no (never (nat_le a at))
@@ -195,6 +203,8 @@ event_lived at (GrantAdded row) f o life s suits h = (still_lived at f (happened
 event_lived at (GrantRemoved row) f o life s suits h = (still_lived at f (happened (GrantRemoved row) f) o o life h (rest_still f (happened (GrantRemoved row) f) refl refl) refl, λ v w. refl)
 event_lived at (InheritAdded row) f o life s suits h = (still_lived at f (happened (InheritAdded row) f) o o life h (rest_still f (happened (InheritAdded row) f) refl refl) refl, λ v w. refl)
 event_lived at (InheritRemoved row) f o life s suits h = (still_lived at f (happened (InheritRemoved row) f) o o life h (rest_still f (happened (InheritRemoved row) f) refl refl) refl, λ v w. refl)
+event_lived at (RuleMade row) f o life s suits h = (still_lived at f (happened (RuleMade row) f) o o life h (rest_still f (happened (RuleMade row) f) refl refl) (no_object f.made row.id o), λ v w. refl)
+event_lived at (RuleGone id) f o life s suits h = (still_lived at f (happened (RuleGone id) f) o o life h (rest_still f (happened (RuleGone id) f) refl refl) refl, λ v w. refl)
 event_lived at (ConsumerAdded row) f o life s suits h = (still_lived at f (happened (ConsumerAdded row) f) o o life h (rest_still f (happened (ConsumerAdded row) f) refl refl) refl, λ v w. refl)
 event_lived at (ConsumerAcked name seq) f o life s suits h = (still_lived at f (happened (ConsumerAcked name seq) f) o o life h (rest_still f (happened (ConsumerAcked name seq) f) refl refl) refl, λ v w. refl)
 
@@ -247,6 +257,8 @@ never_again (GrantAdded row ∷ es) f o was suit = never_again es (happened (Gra
 never_again (GrantRemoved row ∷ es) f o was suit = never_again es (happened (GrantRemoved row) f) o was suit.1
 never_again (InheritAdded row ∷ es) f o was suit = never_again es (happened (InheritAdded row) f) o was suit.1
 never_again (InheritRemoved row ∷ es) f o was suit = never_again es (happened (InheritRemoved row) f) o was suit.1
+never_again (RuleMade row ∷ es) f o was suit = never_again es (happened (RuleMade row) f) o was suit.1
+never_again (RuleGone id ∷ es) f o was suit = never_again es (happened (RuleGone id) f) o was suit.1
 never_again (ConsumerAdded row ∷ es) f o was suit = never_again es (happened (ConsumerAdded row) f) o was suit.1
 never_again (ConsumerAcked name seq ∷ es) f o was suit = never_again es (happened (ConsumerAcked name seq) f) o was suit.1
 
@@ -311,6 +323,8 @@ in_turn at (GrantAdded row) es f o life suits rest h = refl
 in_turn at (GrantRemoved row) es f o life suits rest h = refl
 in_turn at (InheritAdded row) es f o life suits rest h = refl
 in_turn at (InheritRemoved row) es f o life suits rest h = refl
+in_turn at (RuleMade row) es f o life suits rest h = refl
+in_turn at (RuleGone id) es f o life suits rest h = refl
 in_turn at (ConsumerAdded row) es f o life suits rest h = refl
 in_turn at (ConsumerAcked name seq) es f o life suits rest h = refl
 

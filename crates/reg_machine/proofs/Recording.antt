@@ -1,5 +1,4 @@
 -- The machine stays in step and records its steps: with a date that comes, with a later clock, and with a command.
-use Rattle.std.specs.List.{AllByRecursion}
 use Rattle.std.proofs.Common.{◌≡◌, ◌≤◌, ◌++◌, ◌∷◌, [], ℕ, List, map, None, Some, arith, refl, sym, ◌∙◌, ap, subst}
 use Rattle.reg_base.specs.declared.entity.Entity.{Entity}
 use Rattle.reg_terms.specs.declared.command.Stamped.{Stamped}
@@ -15,19 +14,22 @@ use Rattle.reg_effect.specs.declared.live.Live.{Live}
 use Rattle.reg_effect.specs.Member.{member}
 use Rattle.reg_audit.specs.Audit.{IsAudit}
 use Rattle.reg_audit.specs.Steps.{Step, FollowsOn, left_by}
-use Rattle.reg_machine.specs.Dates.{due, ending, pair_gone, without_ended}
+use Rattle.reg_effect.specs.Deltas.{ended}
+use Rattle.reg_rules.specs.Settling.{settle}
+use Rattle.reg_machine.specs.Dates.{date_passed, due, ending, pair_gone, without_ended}
 use Rattle.reg_machine.specs.History.{facts}
 use Rattle.reg_machine.specs.Holding.{AllHold}
-use Rattle.reg_machine.specs.Invariant.{IsInStep, IsOpen, Now}
+use Rattle.reg_machine.specs.Invariant.{IsInStep, Now}
 use Rattle.reg_machine.specs.Live.{live}
 use Rattle.reg_machine.specs.Past.{AreKnown, AreLived, command_step, date_step, steps}
-use Rattle.reg_machine.specs.Recording.{IsRecorded, Recording, Records, carried_step}
+use Rattle.reg_machine.specs.Recording.{IsRecorded, Recording, Records, carried_step, settled_after}
 use Rattle.reg_machine.specs.Refusals.{refusal}
 use Rattle.reg_machine.specs.Standing.{AreStood}
 use Rattle.reg_machine.proofs.Due.{due_some}
 use Rattle.reg_machine.proofs.InStep.{command_in_step, later_in_step, next_in_step}
 use Rattle.reg_machine.proofs.KnownPersons.{known_later, known_next, known_push, known_start}
 use Rattle.reg_machine.proofs.Lived.{last_is, last_left, last_moment_by, lived_later, lived_next, lived_push, lived_start}
+use Rattle.reg_machine.proofs.Settled.{settle_is}
 use Rattle.reg_machine.proofs.StepByStep.{no_steps, steps_next, steps_none, steps_push}
 use Rattle.reg_machine.proofs.Starting.{start_in_step}
 use Rattle.reg_machine.proofs.Stood.{stood_later, stood_next, stood_push, stood_start}
@@ -36,6 +38,13 @@ use Rattle.reg_machine.proofs.Stood.{stood_later, stood_next, stood_push, stood_
 rows_keep : (rows : List (ℕ × Member)) (f : Lists) → (all_happened (map pair_gone rows) f).consumers ≡ f.consumers
 rows_keep [] f = refl
 rows_keep (row ∷ rows) f = rows_keep rows (happened (pair_gone row) f)
+
+-- and rules change none
+settle_consumers : (pairs : List (ℕ × ℕ)) (at : ℕ) (f : Lists) → (settle pairs at f).consumers ≡ f.consumers
+settle_consumers pairs at f = ap (λ (x : Lists). x.consumers) (settle_is pairs at f)
+
+date_consumers : (a d : ℕ) (f : Lists) → (date_passed a d f).consumers ≡ f.consumers
+date_consumers a d f = settle_consumers (ended (live a f) (live d (without_ended d f))) d (without_ended d f)
 
 -- a step from the live data at the clock on comes after those of the history
 follows : (history : List Stamped) (clock : ℕ) (step : Step) → AreLived history clock → clock ≤ step.at → step.live ≡ live clock (facts history clock) → step.before ≡ facts history clock → step.after.consumers ≡ (all_happened step.events step.before).consumers → FollowsOn (steps history clock) step
@@ -52,25 +61,24 @@ follows history clock step h later is from after =
 pub next_follows : (history : List Stamped) (d : ℕ) (r : Recording) → IsRecorded history r → due r.now.clock d r.now.facts.rows ≡ Some d → FollowsOn (steps history r.now.clock) (date_step r.now.clock d r.now.facts)
 next_follows history d r h first =
     let later = (due_some r.now.clock d d r.now.facts.rows first).later in
-    follows history r.now.clock (date_step r.now.clock d r.now.facts) h.lived (omega (arith, later)) (ap (λ (f : Lists). live r.now.clock f) h.in_step.facts) h.in_step.facts (sym (rows_keep (ending d r.now.facts.rows) r.now.facts))
+    follows history r.now.clock (date_step r.now.clock d r.now.facts) h.lived (omega (arith, later)) (ap (λ (f : Lists). live r.now.clock f) h.in_step.facts) h.in_step.facts (date_consumers r.now.clock d r.now.facts ∙ sym (rows_keep (ending d r.now.facts.rows) r.now.facts))
 
 pub carried_follows : (history : List Stamped) (r : Recording) (es : List Event) → IsRecorded history r → FollowsOn (steps history r.now.clock) (carried_step r.now es)
-carried_follows history r es h = follows history r.now.clock (carried_step r.now es) h.lived (omega arith) (ap (λ (f : Lists). live r.now.clock f) h.in_step.facts) h.in_step.facts refl
+carried_follows history r es h = follows history r.now.clock (carried_step r.now es) h.lived (omega arith) (ap (λ (f : Lists). live r.now.clock f) h.in_step.facts) h.in_step.facts (settle_consumers (ended (live r.now.clock r.now.facts) (live r.now.clock (all_happened es r.now.facts))) r.now.clock (all_happened es r.now.facts))
 
-known_then : (history : List Stamped) (d : ℕ) (r new : Recording) → IsRecorded history r → new.now ≡ record { clock = d; facts = without_ended d r.now.facts } → due r.now.clock d (facts history r.now.clock).rows ≡ Some d → IsInStep history new.now
-    → AllByRecursion (IsOpen new.now.clock) new.now.facts.rows → IsSound new.now.facts → AreKnown history new.now.clock
-known_then history d r new h is there stands opens sound =
+known_then : (history : List Stamped) (d : ℕ) (r new : Recording) → IsRecorded history r → new.now ≡ record { clock = d; facts = date_passed r.now.clock d r.now.facts } → due r.now.clock d (facts history r.now.clock).rows ≡ Some d → IsInStep history new.now → IsSound new.now.facts → AreKnown history new.now.clock
+known_then history d r new h is there stands sound =
     let clock : new.now.clock ≡ d = ap (λ (n : Now). n.clock) is in
     let here : new.now.facts ≡ facts history d = stands.facts ∙ ap (facts history) clock in
-    rw clock (known_next history r.now.clock d h.in_step.by (rw clock at stands.by) h.known there (rw (clock, here) at opens) (rw here at sound))
+    rw clock (known_next history r.now.clock d h.in_step.by h.known there (rw here at sound))
 
 known_more : (history : List Stamped) (by : Entity) (c : Command) (r new : Recording) → IsRecorded history r → new.now.clock ≡ r.now.clock → IsInStep (history ++ (record { at = r.now.clock; by = by; command = c }) ∷ []) new.now
-    → AllByRecursion (IsOpen new.now.clock) new.now.facts.rows → IsSound new.now.facts → AreKnown (history ++ (record { at = r.now.clock; by = by; command = c }) ∷ []) new.now.clock
-known_more history by c r new h clock stands opens sound =
+    → IsSound new.now.facts → AreKnown (history ++ (record { at = r.now.clock; by = by; command = c }) ∷ []) new.now.clock
+known_more history by c r new h clock stands sound =
     let here : new.now.facts ≡ facts (history ++ (record { at = r.now.clock; by = by; command = c }) ∷ []) r.now.clock = stands.facts ∙ ap (facts (history ++ (record { at = r.now.clock; by = by; command = c }) ∷ [])) clock in
-    rw clock (known_push history r.now.clock by c h.in_step.by (rw clock at stands.by) h.known (rw (clock, here) at opens) (rw here at sound))
+    rw clock (known_push history r.now.clock by c h.in_step.by h.known (rw here at sound))
 
-stood_then : (history : List Stamped) (d : ℕ) (r new : Recording) → IsRecorded history r → new.now ≡ record { clock = d; facts = without_ended d r.now.facts } → due r.now.clock d (facts history r.now.clock).rows ≡ Some d → IsInStep history new.now → IsSound new.now.facts → AreStood history new.now.clock
+stood_then : (history : List Stamped) (d : ℕ) (r new : Recording) → IsRecorded history r → new.now ≡ record { clock = d; facts = date_passed r.now.clock d r.now.facts } → due r.now.clock d (facts history r.now.clock).rows ≡ Some d → IsInStep history new.now → IsSound new.now.facts → AreStood history new.now.clock
 stood_then history d r new h is there stands sound =
     let clock : new.now.clock ≡ d = ap (λ (n : Now). n.clock) is in
     let here : new.now.facts ≡ facts history d = stands.facts ∙ ap (facts history) clock in
@@ -84,9 +92,9 @@ stood_more history by c r new es h clock stands are hold sound =
     rw clock (stood_push history r.now.clock by c h.in_step.by h.stood held (rw here at sound))
 
 -- a date that comes next
-pub next_recorded : (history : List Stamped) (d : ℕ) (r new : Recording) → IsRecorded history r → due r.now.clock d r.now.facts.rows ≡ Some d → new.now ≡ record { clock = d; facts = without_ended d r.now.facts } → Records r.audit new.audit (date_step r.now.clock d r.now.facts)
-    → AllByRecursion (IsOpen new.now.clock) new.now.facts.rows → IsSound new.now.facts → IsRecorded history new
-next_recorded history d r new h first is records opens sound =
+pub next_recorded : (history : List Stamped) (d : ℕ) (r new : Recording) → IsRecorded history r → due r.now.clock d r.now.facts.rows ≡ Some d → new.now ≡ record { clock = d; facts = date_passed r.now.clock d r.now.facts } → Records r.audit new.audit (date_step r.now.clock d r.now.facts)
+    → IsSound new.now.facts → IsRecorded history new
+next_recorded history d r new h first is records sound =
     let stands : IsInStep history new.now = rw is (next_in_step history d r.now h.in_step first) in
     let there : due r.now.clock d (facts history r.now.clock).rows ≡ Some d = rw (← h.in_step.facts) first in
     let step = date_step r.now.clock d r.now.facts in
@@ -96,7 +104,7 @@ next_recorded history d r new h first is records opens sound =
       in_step = stands;
       audit = rw is (subst (λ ss. IsAudit ss new.audit) are more);
       lived = rw is (lived_next history r.now.clock d h.in_step.by h.lived there);
-      known = known_then history d r new h is there stands opens sound;
+      known = known_then history d r new h is there stands sound;
       stood = stood_then history d r new h is there stands sound;
     }
 
@@ -113,9 +121,9 @@ later_recorded history u r new h later none is same =
     }
 
 -- a command more
-pub command_recorded : (history : List Stamped) (by : Entity) (c : Command) (r new : Recording) (es : List Event) → IsRecorded history r → refusal history r.now.clock by c ≡ None → es ≡ events_of r.now.clock by c r.now.facts → AllHold r.now.clock es r.now.facts → new.now ≡ record { clock = r.now.clock; facts = all_happened es r.now.facts } → Records r.audit new.audit (carried_step r.now es)
-    → AllByRecursion (IsOpen new.now.clock) new.now.facts.rows → IsSound new.now.facts → IsRecorded (history ++ (record { at = r.now.clock; by = by; command = c }) ∷ []) new
-command_recorded history by c r new es h allowed are hold is records opens sound =
+pub command_recorded : (history : List Stamped) (by : Entity) (c : Command) (r new : Recording) (es : List Event) → IsRecorded history r → refusal history r.now.clock by c ≡ None → es ≡ events_of r.now.clock by c r.now.facts → AllHold r.now.clock es r.now.facts → new.now ≡ record { clock = r.now.clock; facts = settled_after r.now es } → Records r.audit new.audit (carried_step r.now es)
+    → IsSound new.now.facts → IsRecorded (history ++ (record { at = r.now.clock; by = by; command = c }) ∷ []) new
+command_recorded history by c r new es h allowed are hold is records sound =
     let stands = command_in_step history by c r.now new.now es h.in_step allowed are is in
     let step = carried_step r.now es in
     let more = records (steps history r.now.clock) h.audit (carried_follows history r es h) in
@@ -128,7 +136,7 @@ command_recorded history by c r new es h allowed are hold is records opens sound
       in_step = stands;
       audit = rw is (subst (λ ss. IsAudit ss new.audit) led more);
       lived = rw is (lived_push history r.now.clock by c h.in_step.by h.lived);
-      known = known_more history by c r new h (ap (λ (n : Now). n.clock) is) stands opens sound;
+      known = known_more history by c r new h (ap (λ (n : Now). n.clock) is) stands sound;
       stood = stood_more history by c r new es h (ap (λ (n : Now). n.clock) is) stands are hold sound;
     }
 

@@ -1,5 +1,5 @@
 -- The steps of a history as the clock comes to the next date, as it comes later, and after one command more.
-use Rattle.std.proofs.Common.{◌≡◌, ◌≤◌, ◌*◌, ℕ, zero, suc, List, [], ◌∷◌, ◌++◌, length, Some, None, arith, refl, sym, ◌∙◌, ap, inl, inr}
+use Rattle.std.proofs.Common.{◌≡◌, ◌≤◌, ◌*◌, ℕ, zero, suc, List, [], ◌∷◌, ◌++◌, length, map, Some, None, arith, refl, sym, ◌∙◌, ap, inl, inr}
 use Rattle.std.proofs.lemmas.List.{append_assoc, append-nil}
 use Rattle.std.specs.List.{AllByRecursion}
 use Rattle.reg_base.specs.declared.entity.Entity.{Entity}
@@ -8,9 +8,14 @@ use Rattle.reg_terms.specs.declared.command.Command.{Command}
 use Rattle.reg_facts.specs.Lists as the_facts
 use Rattle.reg_facts.specs.Lists.{Lists}
 use Rattle.reg_facts.proofs.Places.{cases_option}
-use Rattle.reg_machine.specs.Dates.{date_passed, due, pass}
+use Rattle.reg_effect.specs.declared.live.Live.{Live}
+use Rattle.reg_effect.specs.Deltas.{ended}
+use Rattle.reg_rules.specs.Settling.{settle, settling}
+use Rattle.reg_audit.specs.Steps.{Step}
+use Rattle.reg_machine.specs.Dates.{date_passed, due, ending, pair_gone, pass, without_ended}
 use Rattle.reg_machine.specs.History.{acted, facts, facts_after}
 use Rattle.reg_machine.specs.Invariant.{IsBy}
+use Rattle.reg_machine.specs.Live.{live}
 use Rattle.reg_machine.specs.Past.{date_step, command_step, dates_passed_in, dates_passed, steps_after, steps}
 use Rattle.reg_machine.proofs.Due.{due_some, due_up_to, due_from, due_nowhere}
 use Rattle.reg_machine.proofs.Moments.{all_up_to, by_later, by_more, facts_of}
@@ -18,11 +23,11 @@ use Rattle.reg_machine.proofs.Passing.{by_dates, date_passed_falls, date_passed_
 
 -- ---- as many dates as are due, and from there on no more
 
-passed_in_none : (n a b : ℕ) (f : Lists) → due a b f.rows ≡ None → dates_passed_in n a b f ≡ []
+pub passed_in_none : (n a b : ℕ) (f : Lists) → due a b f.rows ≡ None → dates_passed_in n a b f ≡ []
 passed_in_none zero a b f e = refl
 passed_in_none (suc n) a b f e = rw (e, dates_passed_in)
 
-passed_in_some : (n a b d : ℕ) (f : Lists) → due a b f.rows ≡ Some d → dates_passed_in (suc n) a b f ≡ date_step a d f ∷ dates_passed_in n d b (date_passed a d f)
+pub passed_in_some : (n a b d : ℕ) (f : Lists) → due a b f.rows ≡ Some d → dates_passed_in (suc n) a b f ≡ date_step a d f ∷ dates_passed_in n d b (date_passed a d f)
 passed_in_some n a b d f e = rw (e, dates_passed_in)
 
 enough_dates : (n m a b : ℕ) (f : Lists) → dates_in a b f.rows ≤ n → dates_in a b f.rows ≤ m → dates_passed_in n a b f ≡ dates_passed_in m a b f
@@ -58,11 +63,22 @@ passed_some a b d f e =
 
 -- ---- from one moment to another, and on
 
+-- the step that a date is, by the live data before it
+abbrev step_from : Live → ℕ → Lists → Step
+step_from L d f = record {
+  at = d;
+  before = f;
+  events = map pair_gone (ending d f.rows);
+  actions = settling (ended L (live d (without_ended d f))) d (without_ended d f);
+  after = settle (ended L (live d (without_ended d f))) d (without_ended d f);
+  live = L;
+  live_after = live d (settle (ended L (live d (without_ended d f))) d (without_ended d f));
+}
+
 -- a date is the same step from a moment up to which none is due
 same_step : (a b d : ℕ) (f : Lists) → a ≤ b → due a b f.rows ≡ None → date_step b d f ≡ date_step a d f
 same_step a b d f w none =
-    let after = date_passed_from a b d f w none in
-    rw (after, live_stays a b f w none) refl
+    ap (λ (L : Live). step_from L d f) (live_stays a b f w none)
 
 passed_from : (a b c : ℕ) (f : Lists) → a ≤ b → due a b f.rows ≡ None → dates_passed b c f ≡ dates_passed a c f
 passed_from a b c f w none = elim (cases_option (due a c f.rows)) [

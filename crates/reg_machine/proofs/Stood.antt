@@ -10,6 +10,7 @@ use Rattle.reg_terms.specs.declared.event.Event.{Event}
 use Rattle.reg_terms.specs.declared.kinds.Member.{Member}
 use Rattle.reg_terms.specs.declared.kinds.Object.{Object}
 use Rattle.reg_terms.specs.declared.kinds.Object.TheVariants.{Folder, Group, Def, Attr, Subject}
+use Rattle.reg_terms.specs.declared.rows.MemberRow.{MemberRow}
 use Rattle.reg_facts.specs.Events.{all_happened, events_of, happened}
 use Rattle.reg_facts.specs.Lists as the_facts
 use Rattle.reg_facts.specs.Lists.{Lists}
@@ -20,16 +21,20 @@ use Rattle.reg_audit.specs.Lives.{begun, ended, life_of, first_life}
 use Rattle.reg_audit.specs.Objects.{gone_by, made_by}
 use Rattle.reg_audit.specs.Steps.{Step}
 use Rattle.reg_audit.proofs.Stepping.{life_more}
-use Rattle.reg_machine.specs.Dates.{due, ending, pair_gone, pass, without_ended}
-use Rattle.reg_machine.specs.History.{State, facts}
+use Rattle.reg_effect.specs.Deltas as deltas
+use Rattle.reg_rules.specs.Settling.{settle}
+use Rattle.reg_machine.specs.Dates.{date_passed, due, ending, pair_gone, pass, without_ended}
+use Rattle.reg_machine.specs.History.{State, acted, facts}
 use Rattle.reg_machine.specs.Holding.{AllHold}
 use Rattle.reg_machine.specs.Invariant.{IsBy}
+use Rattle.reg_machine.specs.Live.{live}
 use Rattle.reg_machine.specs.Past.{command_step, date_step, life, steps}
 use Rattle.reg_machine.specs.Standing.{lives_at, stands, was_made, LifeBy, IsLived, AreStood}
 use Rattle.reg_machine.proofs.Due.{due_some}
 use Rattle.reg_machine.proofs.LivesOn.{Life, events_lived, rest_still, step_life}
 use Rattle.reg_machine.proofs.Lived.{facts_earlier, none_before, none_within}
 use Rattle.reg_machine.proofs.Moments.{facts_push, next_comes, none_comes}
+use Rattle.reg_machine.proofs.Settled.{settle_is}
 use Rattle.reg_machine.proofs.StepByStep.{no_steps, steps_next, steps_none, steps_push}
 
 -- ---- a life at later moments
@@ -100,16 +105,29 @@ date_life t d f o ss =
     life_more o ss (date_step t d f) (first_life o)
     ∙ (ap (λ ms. ended d (gone_by (map pair_gone (ending d f.rows))) o (begun d ms o (life_of o ss))) (none_made (ending d f.rows)) ∙ ap (λ gs. ended d gs o (life_of o ss)) (none_gone (ending d f.rows)))
 
-date_stands : (d : ℕ) (f : Lists) (o : Object) → stands o (without_ended d f) ≡ stands o f
+-- and no object comes or goes when rules act
+rows_stand : (rows : List MemberRow) (f : Lists) (o : Object) → stands o (record f { rows = rows }) ≡ stands o f
 unfolding placed
-date_stands d f o = rest_still f (without_ended d f) refl refl o
+rows_stand rows f o = rest_still f (record f { rows = rows }) refl refl o
+
+settle_stands : (pairs : List (ℕ × ℕ)) (at : ℕ) (f : Lists) (o : Object) → stands o (settle pairs at f) ≡ stands o f
+settle_stands pairs at f o = ap (stands o) (settle_is pairs at f) ∙ rows_stand (settle pairs at f).rows f o
+
+settle_made : (pairs : List (ℕ × ℕ)) (at : ℕ) (f : Lists) (o : Object) → was_made (settle pairs at f).made o ≡ was_made f.made o
+settle_made pairs at f o = ap (λ (x : Lists). was_made x.made o) (settle_is pairs at f)
+
+date_stands : (a d : ℕ) (f : Lists) (o : Object) → stands o (date_passed a d f) ≡ stands o f
+date_stands a d f o = settle_stands (deltas.ended (live a f) (live d (without_ended d f))) d (without_ended d f) o ∙ rows_stand (without_ended d f).rows f o
+
+date_made : (a d : ℕ) (f : Lists) (o : Object) → was_made (date_passed a d f).made o ≡ was_made f.made o
+date_made a d f o = settle_made (deltas.ended (live a f) (live d (without_ended d f))) d (without_ended d f) o
 
 pub stood_next : (history : List Stamped) (t d : ℕ) → AllByRecursion (IsBy t) history → AreStood history t → due t d (facts history t).rows ≡ Some d → IsSound (facts history d) → AreStood history d
 stood_next history t d by h first sound =
     let later = (due_some t d d (facts history t).rows first).later in
-    let are : facts history d ≡ without_ended d (facts history t) = next_comes t d d history by first in
+    let are : facts history d ≡ date_passed t d (facts history t) = next_comes t d d history by first in
     let life : (o : Object) → life_of o (steps history d) ≡ life_of o (steps history t) = λ o. ap (life_of o) (steps_next t d d history by first) ∙ date_life t d (facts history t) o (steps history t) in
-    let lived : (o : Object) → IsLived d (facts history d) o (life_of o (steps history d)) = λ o. rw (are, life o) (lived_on t d (facts history t) (without_ended d (facts history t)) o (life_of o (steps history t)) (omega (arith, later)) (date_stands d (facts history t) o) refl (h.lived o)) in
+    let lived : (o : Object) → IsLived d (facts history d) o (life_of o (steps history d)) = λ o. rw (are, life o) (lived_on t d (facts history t) (date_passed t d (facts history t)) o (life_of o (steps history t)) (omega (arith, later)) (date_stands t d (facts history t) o) (date_made t d (facts history t) o) (h.lived o)) in
     record {
       sound = sound;
       lived = lived;
@@ -142,10 +160,11 @@ stood_push history at by command before h hold sound =
     let more = history ++ (record { at = at; by = by; command = command }) ∷ [] in
     let f = facts history at in
     let es = events_of at by command f in
-    let are : facts more at ≡ all_happened es f = facts_push at by command history before in
+    let are : facts more at ≡ acted at by command f = facts_push at by command history before in
+    let lost = deltas.ended (live at f) (live at (all_happened es f)) in
     let life : (o : Object) → life_of o (steps more at) ≡ step_life at es o (life_of o (steps history at)) = λ o. ap (life_of o) (steps_push at by command history before) ∙ command_life at by command f o (steps history at) in
     let after = λ (o : Object). events_lived at es f o (life_of o (steps history at)) h.sound (all_suit at es f hold) (h.lived o) in
-    let lived : (o : Object) → IsLived at (facts more at) o (life_of o (steps more at)) = λ o. rw (are, life o) (after o).0 in
+    let lived : (o : Object) → IsLived at (facts more at) o (life_of o (steps more at)) = λ o. rw (are, life o) (lived_on at at (all_happened es f) (settle lost at (all_happened es f)) o (step_life at es o (life_of o (steps history at))) (omega arith) (settle_stands lost at (all_happened es f) o) (settle_made lost at (all_happened es f) o) (after o).0) in
     record {
       sound = sound;
       lived = lived;

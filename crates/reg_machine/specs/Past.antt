@@ -26,19 +26,19 @@ use Rattle.reg_log.specs.declared.entries.Line.{Line}
 use Rattle.reg_pit.specs.Grants.{has_grant}
 use Rattle.reg_pit.specs.Spans.{spans_until}
 use Rattle.reg_priv.specs.Grants.{grants}
-use Rattle.reg_machine.specs.Dates.{date_passed, due, ending, pair_gone, pass}
-use Rattle.reg_machine.specs.History.{acted, facts, up_to}
+use Rattle.reg_machine.specs.Dates.{date_actions, date_passed, due, ending, pair_gone, pass}
+use Rattle.reg_machine.specs.History.{acted, command_actions, facts, up_to}
 use Rattle.reg_machine.specs.Live.{live}
 
 -- ---- steps
 
--- a date that comes, the first one after a moment: the rows that end there go
+-- a date that comes, the first one after a moment: the rows that end there go, and rules act on what that ended
 abbrev pub date_step : ℕ → ℕ → Lists → Step
-date_step a d f = record { at = d; before = f; events = map pair_gone (ending d f.rows); after = date_passed a d f; live = live a f; live_after = live d (date_passed a d f) }
+date_step a d f = record { at = d; before = f; events = map pair_gone (ending d f.rows); actions = date_actions a d f; after = date_passed a d f; live = live a f; live_after = live d (date_passed a d f) }
 
 -- a command of a caller at a moment, up to which all dates have come
 abbrev pub command_step : ℕ → Entity → Command → Lists → Step
-command_step at by command f = record { at = at; before = f; events = events_of at by command f; after = acted at by command f; live = live at f; live_after = live at (acted at by command f) }
+command_step at by command f = record { at = at; before = f; events = events_of at by command f; actions = command_actions at by command f; after = acted at by command f; live = live at f; live_after = live at (acted at by command f) }
 
 -- at most n dates, each the least after the one before
 abbrev pub dates_passed_in : ℕ → ℕ → ℕ → Lists → List Step

@@ -167,7 +167,7 @@ impl<K: Kept> Current<K> {
 
     /// What stands after an event, and whom it turns is remembered. It takes at most the steps of the
     /// changes of live data that the event makes.
-    fn carry<L: Ledger>(
+    pub fn carry<L: Ledger>(
         self,
         alloc: Global,
         event: Event,

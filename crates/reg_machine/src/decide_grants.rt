@@ -77,7 +77,7 @@ fn is_foreign(privilege: Privilege, found: &Option<Object>) -> bool
 }
 
 /// Whether the entity may hold nothing.
-fn is_system(entity: &Entity) -> bool
+pub fn is_system(entity: &Entity) -> bool
     ensures { result ≡ is_system entity.now }
 {
     match entity {
@@ -105,7 +105,7 @@ fn grant_for(
 
 impl<K: Kept> Machine<K> {
     /// Whether the person or the group that an entity names doesn't stand.
-    fn is_unknown(&self, entity: &Entity) -> bool
+    pub(crate) fn is_unknown(&self, entity: &Entity) -> bool
         ensures { result ≡ is_unknown entity.now (facts self.now.history self.now.clock) }
     {
         !is_internal(entity) && self.facts().member_of(entity).is_none()

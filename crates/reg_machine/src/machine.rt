@@ -1,6 +1,6 @@
 // The machine.
-ghost use Rattle.std.specs.Prelude.{◌≡◌, ◌≤◌, ◌+◌, ◌++◌, ◌∷◌, ◌&&◌, [], ℕ, IfOk, OnOk, None, Some, true, false, length};
-ghost use Rattle.std.specs.List.{list_any};
+ghost use Rattle.std.specs.Prelude.{◌≡◌, ◌≤◌, ◌+◌, ◌++◌, ◌∷◌, ◌&&◌, [], ℕ, List, Option, IfOk, OnOk, None, Some, true, false, length};
+ghost use Rattle.std.specs.List.{list_any, AllByRecursion};
 ghost use Rattle.reg_base.specs.declared.entity.Entity.{Entity};
 ghost use Rattle.reg_terms.specs.declared.command.Command.{Command};
 ghost use Rattle.reg_terms.specs.declared.kinds.Member.{Member};
@@ -16,8 +16,15 @@ ghost use Rattle.reg_machine.specs.History.{State, start, acted, appended};
 ghost use Rattle.reg_machine.specs.Refusals.{refusal, first_of};
 ghost use Rattle.reg_machine.specs.Holding.{AllHold};
 ghost use Rattle.reg_machine.specs.Live.{live};
-ghost use Rattle.reg_machine.specs.Past.{log};
-ghost use Rattle.reg_machine.specs.Steps.{events_steps};
+ghost use Rattle.reg_machine.specs.Losing.{TakesLost};
+ghost use Rattle.reg_machine.specs.Vetoes.{AllLet};
+ghost use Rattle.reg_terms.specs.declared.command.Command.TheVariants.{MemberAdd};
+ghost use Rattle.reg_terms.specs.declared.command.Stamped.{Stamped};
+ghost use Rattle.reg_terms.specs.declared.kinds.Member.TheVariants.{Person};
+ghost use Rattle.reg_facts.specs.Naming.{group_id};
+ghost use Rattle.reg_machine.specs.Owners.{is_ruled};
+ghost use Rattle.reg_machine.specs.Past.{log, steps};
+ghost use Rattle.reg_machine.specs.Recording.{carried_steps};
 
 use crate::recorded::{Recorded, carried_on, passed_on};
 use reg_base::{Entity, GroupId, Moment, Steps};
@@ -161,11 +168,11 @@ impl<K: Kept> Machine<K> {
     }
 
     /// What stands from the clock on, as long as no command comes: nothing that is live changes
-    /// between two dates, and a row that stands is on from its beginning until just before its end.
-    /// It does nothing.
+    /// between two dates, and a row on which no rule acts is on from its beginning until just before
+    /// its end. It does nothing.
     fn law_stays(&self)
         ensures between { (u : ℕ) → self.now.clock ≤ u → due self.now.clock u (facts self.now.history self.now.clock).rows ≡ None → live u (facts self.now.history u) ≡ live self.now.clock (facts self.now.history self.now.clock) }
-        ensures on { (u g : ℕ) (m : Member) → self.now.clock ≤ u → has_live_row g m (live u (facts self.now.history u)).rows ≡ list_any (λ (row : MemberRow). is_row g m row && is_on u row) (facts self.now.history self.now.clock).rows }
+        ensures on { (u g : ℕ) (m : Member) → self.now.clock ≤ u → is_ruled g m (facts self.now.history self.now.clock).rules ≡ false → has_live_row g m (live u (facts self.now.history u)).rows ≡ list_any (λ (row : MemberRow). is_row g m row && is_on u row) (facts self.now.history self.now.clock).rows }
     {
         self.recorded.current().law_rows_open();
     }
@@ -179,8 +186,28 @@ impl<K: Kept> Machine<K> {
         let _ = &self.stamped;
     }
 
-    /// The machine at the next date: the rows that end there go, and those that begin there come on.
-    /// It takes at most the steps that the dates after it leave of those up to any later moment.
+    /// After each step of the history, a date that came or a command, who stopped being an effective
+    /// member of a group by it has no membership that is on in the owner of a rule that takes it away.
+    /// It does nothing.
+    pub fn law_lost(&self)
+        ensures { AllByRecursion TakesLost (steps self.now.history self.now.clock) }
+    {
+        let _ = &self.stamped;
+        reg_rules::law_lost();
+    }
+
+    /// Each command of the history that adds a person to a group found the person, at its moment and by
+    /// the facts before it, an effective member of the condition of each veto on the group. It does
+    /// nothing.
+    pub fn law_vetoed(&self)
+        ensures { (before after : List Stamped) (at : ℕ) (by : Entity) (group : List ℕ) (who : Entity) (from until : Option ℕ) (person : ℕ) → self.now.history ≡ before ++ (record { at = at; by = by; command = MemberAdd group who from until }) ∷ after → edits.member_of who (facts before at) ≡ Some (Person person) → AllLet at (edits.the_id (group_id group (facts before at))) person (facts before at) }
+    {
+        self.law_legal();
+    }
+
+    /// The machine at the next date: the rows that end there go, those that begin there come on, and
+    /// rules do what follows. It takes at most the steps that the dates after it leave of those up to
+    /// any later moment.
     fn pass_date<L: Ledger>(
         self,
         alloc: Global,
@@ -198,8 +225,9 @@ impl<K: Kept> Machine<K> {
     }
 
     /// Sets the clock forward, and changes nothing else: the dates of memberships up to the new
-    /// moment come, one after another. It takes at most the steps of what these dates change, and
-    /// where no date comes it is a look at the first dates to come.
+    /// moment come, one after another, and rules do what follows each. It takes at most the steps of
+    /// what these dates and the rules change, and where no date comes it is a look at the first dates
+    /// to come.
     pub fn advance<L: Ledger>(
         self,
         alloc: Global,
@@ -210,10 +238,10 @@ impl<K: Kept> Machine<K> {
         ensures moved { IfOk result (λ m. m ≡ record { history = self.history; clock = to }) }
         ensures cost { OnOk result (steps.new ≤ steps.old + pass_steps self.clock to (facts self.history self.clock)) }
 
-        // As long as no command comes, nothing that is live changes between two dates, and a row
-        // that stands is on from its beginning until just before its end.
+        // As long as no command comes, nothing that is live changes between two dates, and a row on
+        // which no rule acts is on from its beginning until just before its end.
         ensures between { due self.clock to (facts self.history self.clock).rows ≡ None → live to (facts self.history to) ≡ live self.clock (facts self.history self.clock) }
-        ensures on { (g : ℕ) (m : Member) → has_live_row g m (live to (facts self.history to)).rows ≡ list_any (λ (row : MemberRow). is_row g m row && is_on to row) (facts self.history self.clock).rows }
+        ensures on { (g : ℕ) (m : Member) → is_ruled g m (facts self.history self.clock).rules ≡ false → has_live_row g m (live to (facts self.history to)).rows ≡ list_any (λ (row : MemberRow). is_row g m row && is_on to row) (facts self.history self.clock).rows }
     {
         let mut machine = self;
         machine.law_stays();
@@ -310,6 +338,22 @@ impl<K: Kept> Machine<K> {
                 privilege,
                 holder,
             } => self.decide_inherit_remove(alloc, folder, *kind, *scope, *privilege, holder),
+            Command::RuleRemoveLost { check, owner } => {
+                self.decide_rule_remove_lost(alloc, check, owner)
+            }
+            Command::RuleEndLost { check, owner, days } => {
+                self.decide_rule_end_lost(alloc, check, owner, *days)
+            }
+            Command::RuleVeto { owner, condition } => {
+                self.decide_rule_veto(alloc, owner, condition)
+            }
+            Command::RuleOnCreate {
+                folder,
+                scope,
+                privilege,
+                holder,
+            } => self.decide_rule_on_create(alloc, folder, *scope, *privilege, holder),
+            Command::RuleDelete { id } => self.decide_rule_delete(alloc, *id),
             Command::ConsumerAdd { consumer } => self.decide_consumer_add(alloc, consumer),
             Command::ConsumerAck { consumer, seq } => {
                 self.decide_consumer_ack(alloc, consumer, *seq)
@@ -333,11 +377,12 @@ impl<K: Kept> Machine<K> {
         facts.law_sound();
         facts.law_held();
         facts.law_grants();
+        facts.law_new_group();
         facts.events_of(alloc, self.clock(), by, command)
     }
 
-    /// Takes a command that isn't refused into the history, at the clock. It takes at most the steps
-    /// of the changes of live data that the command makes.
+    /// Takes a command that isn't refused into the history, at the clock, and rules do what follows.
+    /// It takes at most the steps of the changes of live data that the command and the rules make.
     pub fn apply<L: Ledger>(
         self,
         alloc: Global,
@@ -348,7 +393,7 @@ impl<K: Kept> Machine<K> {
         requires allowed { refusal self.history self.clock by.now command ≡ None }
         requires form { has_form command ≡ true }
         ensures appended { IfOk result (λ m. m ≡ appended self by.now command) }
-        ensures cost { OnOk result (steps.new ≤ steps.old + events_steps self.clock (events_of self.clock by.now command (facts self.history self.clock)) (facts self.history self.clock)) }
+        ensures cost { OnOk result (steps.new ≤ steps.old + carried_steps (record { clock = self.clock; facts = facts self.history self.clock }) (events_of self.clock by.now command (facts self.history self.clock))) }
     {
         let events = self.events_of(alloc, by, &command)?;
         let Machine { stamped, recorded } = self;

@@ -1,27 +1,33 @@
 // What stands at a moment, and the record of the steps up to it. Both stand on the heap, since a
 // machine goes by value from function to function, and these are several hundred bytes.
-ghost use Rattle.std.specs.Prelude.{◌≡◌, ◌≤◌, ◌+◌, [], Some, None, IfOk, OnOk, map};
-ghost use Rattle.reg_facts.specs.Events.{all_happened};
+ghost use Rattle.std.specs.Prelude.{◌≡◌, ◌≤◌, ◌+◌, List, [], Some, None, IfOk, OnOk, map};
 ghost use Rattle.std.specs.List.{AllByRecursion};
-ghost use Rattle.reg_facts.specs.Lists.{start};
+ghost use Rattle.reg_terms.specs.declared.event.Event.{Event};
+ghost use Rattle.reg_facts.specs.Events.{all_happened};
+ghost use Rattle.reg_facts.specs.Lists.{Lists, start};
 ghost use Rattle.reg_facts.specs.Sound.{IsSound};
 ghost use Rattle.reg_machine.specs.Invariant.{IsOpen};
 ghost use Rattle.reg_effect.specs.Bound.{most_steps_of};
-ghost use Rattle.reg_effect.specs.Turned.{turns};
+ghost use Rattle.reg_effect.specs.declared.live.Live.{Live};
+ghost use Rattle.reg_effect.specs.Deltas.{ended};
+ghost use Rattle.reg_effect.specs.Turned.{Remembers};
+ghost use Rattle.reg_rules.specs.Actions.{changes_by};
+ghost use Rattle.reg_rules.specs.Settling.{settle, settling};
 ghost use Rattle.reg_audit.specs.Audit.{IsAudit};
 ghost use Rattle.reg_audit.specs.Notes.{notes_of};
 ghost use Rattle.reg_audit.specs.Touched.{KnowsTouched};
 ghost use Rattle.reg_pit.specs.Past.{NotedBy};
-ghost use Rattle.reg_machine.specs.Dates.{date_changes, due, ending, pair_gone, without_ended};
+ghost use Rattle.reg_machine.specs.Dates.{date_changes, date_passed, date_steps, due, ending, pair_gone, without_ended};
 ghost use Rattle.reg_machine.specs.Holding.{AllHold};
 ghost use Rattle.reg_machine.specs.Live.{live};
-ghost use Rattle.reg_machine.specs.Recording.{carried_step, Records};
+ghost use Rattle.reg_machine.specs.Recording.{carried_step, carried_steps, settled_after, settled_step, Records};
 ghost use Rattle.reg_machine.specs.Past.{date_step};
 ghost use Rattle.reg_machine.specs.Steps.{events_steps};
 
 use crate::current::Current;
+use crate::settling::settled;
 use reg_audit::{Audit, Notes, notes_of};
-use reg_base::{GroupId, Moment, Steps, SubjectId};
+use reg_base::{Moment, Steps};
 use reg_effect::{Kept, Turned};
 use reg_facts::Event;
 use reg_terms::Object;
@@ -35,27 +41,19 @@ pub struct Recorded<K: Kept> {
     audit: Audit,
 }
 
-/// What stands after some events, what they change themselves, the memberships that they turn, and
-/// the objects whose grants they may change. It takes at most the steps of these.
+/// What stands after some events, what they change themselves, the memberships that they turn, which
+/// are remembered, and the objects whose grants they may change. It takes at most the steps of these.
 fn carried<K: Kept, L: Ledger>(
     alloc: Global,
     current: Current<K>,
     events: Vec<Event>,
     steps: &mut Steps<L>,
-) -> Result<
-    (
-        Current<K>,
-        Notes,
-        Vec<(GroupId, SubjectId, bool)>,
-        Vec<Object>,
-    ),
-    AllocError,
->
+) -> Result<(Current<K>, Notes, Turned, Vec<Object>), AllocError>
     requires { AllHold current.clock events.items current.facts }
     ensures happened { IfOk result (λ r. r.0 ≡ record { clock = current.clock; facts = all_happened events.items current.facts }) }
     ensures notes { IfOk result (λ r. r.1 ≡ notes_of current.clock current.facts events.items) }
-    ensures turned { IfOk result (λ r. r.2.items ≡ turns (live current.clock current.facts) (live current.clock (all_happened events.items current.facts))) }
-    ensures touches { IfOk result (λ r. KnowsTouched current.facts (all_happened events.items current.facts) r.3.items) }
+    ensures told { IfOk result (λ r. Remembers (live current.clock current.facts) (live r.0.clock r.0.facts) r.2) }
+    ensures touches { IfOk result (λ r. KnowsTouched current.facts r.0.facts r.3.items) }
     ensures cost { OnOk result (steps.new ≤ steps.old + events_steps current.clock events.items current.facts) }
 {
     let mut turned = Turned::new(alloc);
@@ -72,37 +70,23 @@ fn carried<K: Kept, L: Ledger>(
         drop(notes);
         return Err(AllocError);
     };
-    let listed = turned.list(current.kept());
-    let Ok(turned) = listed else {
-        drop(notes);
-        drop(current);
-        return Err(AllocError);
-    };
     Ok((current, notes, turned, touched))
 }
 
-/// What stands at the next date, what it changes itself, the memberships that it turns, and the
-/// objects whose grants it may change. It takes at most the steps of the memberships that end and
-/// begin there.
+/// What stands at the next date, what it changes itself, the memberships that it turns, which are
+/// remembered, and the objects whose grants it may change. It takes at most the steps of the
+/// memberships that end and begin there.
 fn passed<K: Kept, L: Ledger>(
     alloc: Global,
     current: Current<K>,
     date: Moment,
     steps: &mut Steps<L>,
-) -> Result<
-    (
-        Current<K>,
-        Notes,
-        Vec<(GroupId, SubjectId, bool)>,
-        Vec<Object>,
-    ),
-    AllocError,
->
+) -> Result<(Current<K>, Notes, Turned, Vec<Object>), AllocError>
     requires { due current.clock date current.facts.rows ≡ Some date }
     ensures moved { IfOk result (λ r. r.0 ≡ record { clock = date; facts = without_ended date current.facts }) }
     ensures notes { IfOk result (λ r. r.1 ≡ notes_of date current.facts (map pair_gone (ending date current.facts.rows))) }
-    ensures turned { IfOk result (λ r. r.2.items ≡ turns (live current.clock current.facts) (live date (without_ended date current.facts))) }
-    ensures touches { IfOk result (λ r. KnowsTouched current.facts (without_ended date current.facts) r.3.items) }
+    ensures told { IfOk result (λ r. Remembers (live current.clock current.facts) (live r.0.clock r.0.facts) r.2) }
+    ensures touches { IfOk result (λ r. KnowsTouched current.facts r.0.facts r.3.items) }
     ensures cost { OnOk result (steps.new ≤ steps.old + most_steps_of (date_changes date current.facts) (live current.clock current.facts)) }
 {
     let mut turned = Turned::new(alloc);
@@ -122,13 +106,48 @@ fn passed<K: Kept, L: Ledger>(
         drop(notes);
         return Err(AllocError);
     };
-    let listed = turned.list(current.kept());
-    let Ok(turned) = listed else {
+    Ok((current, notes, turned, touched))
+}
+
+/// What follows a step, after which this stands, is carried out, and the step is recorded, by what it
+/// changed itself, the memberships that it turned so far, and the objects whose grants it may have
+/// changed. It takes at most the steps of what follows. Out of memory all is given up.
+fn finished<K: Kept, L: Ledger>(
+    alloc: Global,
+    audit: Audit,
+    current: Current<K>,
+    notes: Notes,
+    turned: Turned,
+    touched: Vec<Object>,
+    steps: &mut Steps<L>,
+) -> Result<Recorded<K>, AllocError>
+    requires { NotedBy notes.at audit.past }
+    ensures settled { IfOk result (λ r. (M : Live) → Remembers M (live current.clock current.facts) turned → r.current ≡ record { clock = current.clock; facts = settle (ended M (live current.clock current.facts)) current.clock current.facts }) }
+    ensures recorded { IfOk result (λ r. (before : Lists) (es : List Event) (M : Live) → Remembers M (live current.clock current.facts) turned → notes ≡ notes_of current.clock before es → KnowsTouched before current.facts touched.items → Records audit r.audit (settled_step current.clock before es M current.facts)) }
+    ensures opens { IfOk result (λ r. AllByRecursion (IsOpen r.current.clock) r.current.facts.rows) }
+    ensures sound { IfOk result (λ r. IsSound r.current.facts) }
+    ensures cost { OnOk result ((M : Live) → Remembers M (live current.clock current.facts) turned → steps.new ≤ steps.old + most_steps_of (changes_by (settling (ended M (live current.clock current.facts)) current.clock current.facts)) (live current.clock current.facts)) }
+{
+    let after = settled(alloc, current, turned, steps);
+    let Ok((current, actions, turns)) = after else {
+        drop(audit);
         drop(notes);
+        return Err(AllocError);
+    };
+    let acted = notes.with_actions(alloc, &actions);
+    let Ok(notes) = acted else {
+        drop(audit);
         drop(current);
         return Err(AllocError);
     };
-    Ok((current, notes, turned, touched))
+    let noted = audit.note(alloc, notes, &turns, current.facts(), &touched);
+    let Ok(audit) = noted else {
+        drop(current);
+        return Err(AllocError);
+    };
+    current.law_rows_open();
+    current.facts().law_sound();
+    Ok(Recorded { current, audit })
 }
 
 impl<K: Kept> Recorded<K> {
@@ -157,8 +176,8 @@ impl<K: Kept> Recorded<K> {
         &self.audit
     }
 
-    /// What stands after some events, one after another, which are recorded as one step. It takes at
-    /// most the steps of these.
+    /// What stands after some events, one after another, and what rules do after them, which are
+    /// recorded as one step. It takes at most the steps of these.
     pub fn carry<L: Ledger>(
         self,
         alloc: Global,
@@ -167,11 +186,11 @@ impl<K: Kept> Recorded<K> {
     ) -> Result<Recorded<K>, AllocError>
         requires hold { AllHold self.current.clock events.items self.current.facts }
         requires noted { NotedBy self.current.clock self.audit.past }
-        ensures happened { IfOk result (λ r. r.current ≡ record { clock = self.current.clock; facts = all_happened events.items self.current.facts }) }
+        ensures happened { IfOk result (λ r. r.current ≡ record { clock = self.current.clock; facts = settled_after self.current events.items }) }
         ensures recorded { IfOk result (λ r. Records self.audit r.audit (carried_step self.current events.items)) }
         ensures opens { IfOk result (λ r. AllByRecursion (IsOpen r.current.clock) r.current.facts.rows) }
         ensures sound { IfOk result (λ r. IsSound r.current.facts) }
-        ensures cost { OnOk result (steps.new ≤ steps.old + events_steps self.current.clock events.items self.current.facts) }
+        ensures cost { OnOk result (steps.new ≤ steps.old + carried_steps self.current events.items) }
     {
         let Recorded { current, audit } = self;
         let after = carried(alloc, current, events, steps);
@@ -179,18 +198,11 @@ impl<K: Kept> Recorded<K> {
             drop(audit);
             return Err(AllocError);
         };
-        let noted = audit.note(alloc, notes, &turned, current.facts(), &touched);
-        let Ok(audit) = noted else {
-            drop(current);
-            return Err(AllocError);
-        };
-        current.law_rows_open();
-        current.facts().law_sound();
-        Ok(Recorded { current, audit })
+        finished(alloc, audit, current, notes, turned, touched, steps)
     }
 
-    /// What stands at the next date, which is recorded as a step. It takes at most the steps of the
-    /// memberships that end and begin there.
+    /// What stands at the next date, with what rules do there, which is recorded as a step. It takes
+    /// at most the steps of the memberships that end and begin there, and of what rules do.
     pub fn pass_date<L: Ledger>(
         self,
         alloc: Global,
@@ -199,11 +211,11 @@ impl<K: Kept> Recorded<K> {
     ) -> Result<Recorded<K>, AllocError>
         requires due { due self.current.clock date self.current.facts.rows ≡ Some date }
         requires noted { NotedBy date self.audit.past }
-        ensures moved { IfOk result (λ r. r.current ≡ record { clock = date; facts = without_ended date self.current.facts }) }
+        ensures moved { IfOk result (λ r. r.current ≡ record { clock = date; facts = date_passed self.current.clock date self.current.facts }) }
         ensures recorded { IfOk result (λ r. Records self.audit r.audit (date_step self.current.clock date self.current.facts)) }
         ensures opens { IfOk result (λ r. AllByRecursion (IsOpen r.current.clock) r.current.facts.rows) }
         ensures sound { IfOk result (λ r. IsSound r.current.facts) }
-        ensures cost { OnOk result (steps.new ≤ steps.old + most_steps_of (date_changes date self.current.facts) (live self.current.clock self.current.facts)) }
+        ensures cost { OnOk result (steps.new ≤ steps.old + date_steps self.current.clock date self.current.facts) }
     {
         let Recorded { current, audit } = self;
         let after = passed(alloc, current, date, steps);
@@ -211,14 +223,7 @@ impl<K: Kept> Recorded<K> {
             drop(audit);
             return Err(AllocError);
         };
-        let noted = audit.note(alloc, notes, &turned, current.facts(), &touched);
-        let Ok(audit) = noted else {
-            drop(current);
-            return Err(AllocError);
-        };
-        current.law_rows_open();
-        current.facts().law_sound();
-        Ok(Recorded { current, audit })
+        finished(alloc, audit, current, notes, turned, touched, steps)
     }
 
     /// Goes on to a moment up to which no date comes. Nothing else changes.
@@ -232,7 +237,7 @@ impl<K: Kept> Recorded<K> {
     }
 }
 
-/// The same on the heap: what stands after some events.
+/// The same on the heap: what stands after some events and what rules do after them.
 pub fn carried_on<K: Kept, L: Ledger>(
     alloc: Global,
     recorded: Box<Recorded<K>>,
@@ -241,18 +246,18 @@ pub fn carried_on<K: Kept, L: Ledger>(
 ) -> Result<Box<Recorded<K>>, AllocError>
     requires hold { AllHold recorded.value.current.clock events.items recorded.value.current.facts }
     requires noted { NotedBy recorded.value.current.clock recorded.value.audit.past }
-    ensures happened { IfOk result (λ b. b.value.current ≡ record { clock = recorded.value.current.clock; facts = all_happened events.items recorded.value.current.facts }) }
+    ensures happened { IfOk result (λ b. b.value.current ≡ record { clock = recorded.value.current.clock; facts = settled_after recorded.value.current events.items }) }
     ensures recorded { IfOk result (λ b. Records recorded.value.audit b.value.audit (carried_step recorded.value.current events.items)) }
     ensures opens { IfOk result (λ b. AllByRecursion (IsOpen b.value.current.clock) b.value.current.facts.rows) }
     ensures sound { IfOk result (λ b. IsSound b.value.current.facts) }
-    ensures cost { OnOk result (steps.new ≤ steps.old + events_steps recorded.value.current.clock events.items recorded.value.current.facts) }
+    ensures cost { OnOk result (steps.new ≤ steps.old + carried_steps recorded.value.current events.items) }
 {
     let recorded = Box::into_inner(recorded).carry(alloc, events, steps)?;
     let recorded = Box::new(alloc, recorded)?;
     Ok(recorded)
 }
 
-/// The same on the heap: what stands at the next date.
+/// The same on the heap: what stands at the next date, with what rules do there.
 pub fn passed_on<K: Kept, L: Ledger>(
     alloc: Global,
     recorded: Box<Recorded<K>>,
@@ -261,11 +266,11 @@ pub fn passed_on<K: Kept, L: Ledger>(
 ) -> Result<Box<Recorded<K>>, AllocError>
     requires due { due recorded.value.current.clock date recorded.value.current.facts.rows ≡ Some date }
     requires noted { NotedBy date recorded.value.audit.past }
-    ensures moved { IfOk result (λ b. b.value.current ≡ record { clock = date; facts = without_ended date recorded.value.current.facts }) }
+    ensures moved { IfOk result (λ b. b.value.current ≡ record { clock = date; facts = date_passed recorded.value.current.clock date recorded.value.current.facts }) }
     ensures recorded { IfOk result (λ b. Records recorded.value.audit b.value.audit (date_step recorded.value.current.clock date recorded.value.current.facts)) }
     ensures opens { IfOk result (λ b. AllByRecursion (IsOpen b.value.current.clock) b.value.current.facts.rows) }
     ensures sound { IfOk result (λ b. IsSound b.value.current.facts) }
-    ensures cost { OnOk result (steps.new ≤ steps.old + most_steps_of (date_changes date recorded.value.current.facts) (live recorded.value.current.clock recorded.value.current.facts)) }
+    ensures cost { OnOk result (steps.new ≤ steps.old + date_steps recorded.value.current.clock date recorded.value.current.facts) }
 {
     let recorded = Box::into_inner(recorded).pass_date(alloc, date, steps)?;
     let recorded = Box::new(alloc, recorded)?;

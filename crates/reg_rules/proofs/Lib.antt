@@ -8,3 +8,4 @@ pub mod Gone
 pub mod Happening
 pub mod Carried
 pub mod Worked
+pub mod Watching

@@ -16,7 +16,7 @@ listed (Some action) = action ∷ []
 abbrev pub acting : ℕ → RuleRow → ℕ → ℕ → Lists → List Action
 acting at rule g s f = listed (action_of at rule.id rule.form g s f)
 
--- the actions of rules by number for a person who lost a group, each on the facts as they then are
+-- the actions of rules by id for a person who lost a group, each on the facts as they then are
 abbrev pub rule_actions : ℕ → List RuleRow → ℕ → ℕ → Lists → List Action
 rule_actions at [] g s f = []
 rule_actions at (rule ∷ rules) g s f = acting at rule g s f ++ rule_actions at rules g s (all_done (acting at rule g s f) f)

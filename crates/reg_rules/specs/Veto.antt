@@ -13,7 +13,7 @@ vetoes L g s (RemoveLost check owner) = false
 vetoes L g s (EndLost check owner days) = false
 vetoes L g s (OnCreate folder scope privilege holder) = false
 
--- the first vetoing rule by number
+-- the first vetoing rule by id
 abbrev pub first_veto : Live → ℕ → ℕ → List RuleRow → Option ℕ
 first_veto L g s [] = None
 first_veto L g s (rule ∷ rules) = if vetoes L g s rule.form then Some rule.id else first_veto L g s rules

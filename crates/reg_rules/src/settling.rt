@@ -1,5 +1,7 @@
 // Rounds of rules.
 ghost use Rattle.std.specs.Prelude.{◌≡◌, ◌+◌, ◌≤◌, ◌++◌, ◌∷◌, [], IfOk, OnOk};
+ghost use Rattle.reg_facts.specs.Rules.{rules_at};
+ghost use Rattle.reg_terms.specs.declared.rules.RuleKey.TheVariants.{Check};
 ghost use Rattle.reg_effect.specs.declared.live.Live.{Live};
 ghost use Rattle.reg_effect.specs.Bound.{most_steps_of};
 ghost use Rattle.reg_effect.specs.Deltas.{ended};
@@ -14,6 +16,7 @@ use crate::{Action, Carrier, Standing};
 use reg_base::{GroupId, Moment, Steps, SubjectId};
 use reg_effect::{Delta, Kept, Pairs, Turned};
 use reg_facts::{Facts, Member, RuleRow};
+use reg_terms::RuleKey;
 use std::alloc::{AllocError, Global};
 use std::sync::ledger::Ledger;
 
@@ -104,7 +107,7 @@ fn act<C: Carrier, L: Ledger>(
     }
 }
 
-/// What rules do, by number, for a person who stopped being a member of a group.
+/// What some rules do, one after another, for a person who stopped being a member of a group.
 fn act_all<C: Carrier, L: Ledger>(
     alloc: Global,
     carrier: C,
@@ -124,15 +127,35 @@ fn act_all<C: Carrier, L: Ledger>(
     Ok(carrier)
 }
 
-/// The rules of the facts.
-fn rules_of(alloc: Global, facts: &Facts) -> Result<Vec<RuleRow>, AllocError>
-    ensures { IfOk result (λ rules. rules.items ≡ facts.now.rules) }
+/// The rules that watch a group for members who are lost, by id. Of a group without such rules it
+/// takes no memory.
+fn rules_checking(alloc: Global, facts: &Facts, group: GroupId) -> Result<Vec<RuleRow>, AllocError>
+    ensures { IfOk result (λ rules. rules.items ≡ rules_at (Check group) facts.now.rules) }
 {
     let mut rules = Vec::new(alloc);
-    for rule in facts.rules() {
+    for rule in facts.rules_at(RuleKey::Check(group)) {
         rules.push(*rule)?;
     }
     Ok(rules)
+}
+
+/// What rules do, by id, for a person who stopped being a member of a group. Only the rules that watch
+/// this group are looked at.
+fn act_for<C: Carrier, L: Ledger>(
+    alloc: Global,
+    carrier: C,
+    pair: (GroupId, SubjectId),
+    actions: &mut Vec<Action>,
+    turned: &mut Turned,
+    steps: &mut Steps<L>,
+) -> Result<C, AllocError>
+    ensures { IfOk result (λ next. Outcome (rule_actions (C.stands carrier).clock (C.stands carrier).facts.rules pair.0 pair.1 (C.stands carrier).facts) (C.stands carrier) (C.stands next) (gathered actions.old.items turned.old steps.old) (gathered actions.new.items turned.new steps.new)) }
+{
+    let (group, person) = pair;
+    let rules = rules_checking(alloc, carrier.facts(), group)?;
+    act_all(
+        alloc, carrier, &rules, group, person, actions, turned, steps,
+    )
 }
 
 /// One round: what rules do for each of these persons, who stopped being members of these groups.
@@ -146,12 +169,9 @@ fn act_round<C: Carrier, L: Ledger>(
 ) -> Result<C, AllocError>
     ensures { IfOk result (λ next. Outcome (round_actions (C.stands carrier).clock (C.stands carrier).facts.rules pairs.now (C.stands carrier).facts) (C.stands carrier) (C.stands next) (gathered actions.old.items turned.old steps.old) (gathered actions.new.items turned.new steps.new)) }
 {
-    let rules = rules_of(alloc, carrier.facts())?;
     let mut carrier = carrier;
     for pair in pairs {
-        carrier = act_all(
-            alloc, carrier, &rules, pair.0, pair.1, actions, turned, steps,
-        )?;
+        carrier = act_for(alloc, carrier, *pair, actions, turned, steps)?;
     }
     Ok(carrier)
 }
@@ -194,7 +214,7 @@ fn next_round<C: Carrier, L: Ledger>(
     Ok((carrier, ended))
 }
 
-/// What follows where these memberships (group, person) ended: the rules by number whose group it is
+/// What follows where these memberships (group, person) ended: the rules by id whose group it is
 /// act for each pair in turn, and where they end further memberships, for those in turn, until a round
 /// ends none. Gives what stands then, and what rules did, in order; whom that turned is remembered. It
 /// takes at most the steps of the changes that the rules make. Out of memory all is given up.

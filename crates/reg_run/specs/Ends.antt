@@ -162,7 +162,7 @@ pub record DidCheck (d : Seen) (end : End) (before after : World) (from : State)
 
 -- a reply that refuses
 abbrev pub is_refused : Reply → Bool
-is_refused (reply.Number n) = false
+is_refused (reply.Number n id) = false
 is_refused (reply.Answer a) = false
 is_refused (reply.Refused r) = true
 is_refused reply.NoMemory = false
@@ -189,7 +189,7 @@ end_of_stop stop.TooMuch = the_end.TooMuch
 
 -- the end of a run that printed this one reply
 abbrev pub end_of_reply : Reply → End
-end_of_reply (reply.Number n) = the_end.Done
+end_of_reply (reply.Number n id) = the_end.Done
 end_of_reply (reply.Answer a) = the_end.Done
 end_of_reply (reply.Refused r) = the_end.Refused
 end_of_reply reply.NoMemory = the_end.Memory

@@ -6,12 +6,13 @@ use Rattle.reg_outside.specs.Disk.{Leaves}
 use Rattle.reg_outside.specs.Faults.{Rose}
 use Rattle.reg_terms.specs.declared.command.Stamped.{Stamped}
 use Rattle.reg_terms.specs.declared.request.Op.TheVariants as op
-use Rattle.reg_machine.specs.History.{State, appended}
+use Rattle.reg_machine.specs.History.{State, appended, facts}
 use Rattle.reg_machine.specs.Refusals.{refusal}
 use Rattle.reg_wire.specs.Payload.{payload, stamped_of}
 use Rattle.reg_keep.specs.declared.keeper.Keeper.{Ghosts}
 use Rattle.reg_keep.specs.Keeping.{IsOneOf, AreOneOf}
 use Rattle.reg_service.specs.Opening.{payloads_of, IsServed, Reopens}
+use Rattle.reg_service.specs.Ids.{made_id}
 use Rattle.reg_service.specs.Kept.{KeptOn, IsBetween, Stopped, IsAcknowledged}
 use Rattle.reg_service.specs.Turn.{ordered, answered, at_moment, Carries, GoesOn, KeepsHistory}
 use Rattle.reg_service.specs.declared.service.Next.{Next}
@@ -194,15 +195,16 @@ pub would_keep : (s : State) (st : Stamped) → st.at ≡ s.clock → refusal s.
 would_keep s st at sure = rw (sure, ← at) refl
 
 -- a command that was kept is acknowledged
-pub acknowledged_one : {K : Type 0} (g : Ghosts K) (s m : State) (st : Stamped) (k : K) (n : ℕ) → IsServed m (g.payloads k) (g.has_failed k)
+pub acknowledged_one : {K : Type 0} (g : Ghosts K) (s m : State) (st : Stamped) (k : K) (n : ℕ) (id : Option ℕ) → IsServed m (g.payloads k) (g.has_failed k)
     → ((r : Result (List (List ℕ)) ℕ) → g.has_failed k ≡ false → g.stop_leaves k r → (ps : List (List ℕ)) × (g.payloads k ≡ Some ps) × (r ≡ Ok ps))
-    → m ≡ appended s st.by st.command → n ≡ length m.history → IsAcknowledged g s.history n (next.Go (record { state = m; keeper = k }))
-acknowledged_one g s m st k n served now is count =
+    → m ≡ appended s st.by st.command → n ≡ length m.history → id ≡ made_id st.command (facts s.history s.clock) → IsAcknowledged g s.history n id (next.Go (record { state = m; keeper = k }))
+acknowledged_one g s m st k n id served now is count made =
     let one : Stamped = record { at = s.clock; by = st.by; command = st.command } in
     let history : m.history ≡ s.history ++ one ∷ [] = ap (λ (t : State). t.history) is in (
       one,
       history,
       count ∙ ap (λ (l : List Stamped). length l) history,
+      made,
       subst (λ (l : List Stamped). IfSome (g.payloads k) (λ ps. ps ≡ payloads_of l)) history served.payloads,
       λ r left. subst (λ (l : List Stamped). r ≡ Ok (payloads_of l)) history (leaves_history g m k served now r left),
     )

@@ -1,5 +1,5 @@
 -- What a keeper has after requests, and what a stop meanwhile leaves of it.
-use Rattle.std.specs.Prelude.{◌≡◌, ◌⊎◌, ◌≤◌, ℕ, List, [], ◌∷◌, ◌++◌, Result, Ok, IfSome, is_some, true, length, take}
+use Rattle.std.specs.Prelude.{◌≡◌, ◌⊎◌, ◌≤◌, ℕ, List, [], ◌∷◌, ◌++◌, Option, Result, Ok, IfSome, is_some, true, length, take}
 use Rattle.reg_outside.specs.Disk.{Leaves}
 use Rattle.reg_outside.specs.Faults.{Rose}
 use Rattle.reg_terms.specs.declared.command.Stamped.{Stamped}
@@ -8,6 +8,8 @@ use Rattle.reg_service.specs.declared.service.Next.{Next}
 use Rattle.reg_service.specs.declared.service.Next.TheVariants as next
 use Rattle.reg_service.specs.declared.service.Cause.{Cause}
 use Rattle.reg_service.specs.declared.service.Cause.TheVariants as cause
+use Rattle.reg_machine.specs.History.{facts}
+use Rattle.reg_service.specs.Ids.{made_id}
 use Rattle.reg_service.specs.Opening.{payloads_of, FrontsReopen}
 
 -- the payloads of one of the histories from the first to the second, which goes on from it
@@ -69,10 +71,10 @@ abbrev pub LeavesKeeper : {K : Type 0} → K → Next K → Type 0
 LeavesKeeper old (next.Go s) = s.keeper ≡ old
 LeavesKeeper old (next.Stop why keeper) = (keeper ≡ old) × (why ≡ cause.Memory)
 
--- The service goes on with a history that has one command more, at this place; the keeper's payloads are this history's,
--- where they are told, and each stop leaves it.
-abbrev pub IsAcknowledged : {K : Type 0} → Ghosts K → List Stamped → ℕ → Next K → Type 0
-IsAcknowledged g before number (next.Go s) =
-    (one : Stamped) × (s.state.history ≡ before ++ one ∷ []) × (number ≡ length (before ++ one ∷ []))
+-- The service goes on with a history that has one command more, at this place, and this is the id of what it made; the
+-- keeper's payloads are this history's, where they are told, and each stop leaves it.
+abbrev pub IsAcknowledged : {K : Type 0} → Ghosts K → List Stamped → ℕ → Option ℕ → Next K → Type 0
+IsAcknowledged g before number id (next.Go s) =
+    (one : Stamped) × (s.state.history ≡ before ++ one ∷ []) × (number ≡ length (before ++ one ∷ [])) × (id ≡ made_id one.command (facts before one.at))
     × IfSome (g.payloads s.keeper) (λ ps. ps ≡ payloads_of (before ++ one ∷ [])) × ((r : Result (List (List ℕ)) ℕ) → g.stop_leaves s.keeper r → r ≡ Ok (payloads_of (before ++ one ∷ [])))
-IsAcknowledged g before number (next.Stop why keeper) = ⊥
+IsAcknowledged g before number id (next.Stop why keeper) = ⊥

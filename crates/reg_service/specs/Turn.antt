@@ -6,7 +6,7 @@ use Rattle.reg_terms.specs.declared.command.Command.{Command}
 use Rattle.reg_terms.specs.declared.command.Stamped.{Stamped}
 use Rattle.reg_terms.specs.declared.refusal.Refusal.{Refusal}
 use Rattle.reg_terms.specs.declared.refusal.Refusal.TheVariants.{NoCaller}
-use Rattle.reg_machine.specs.History.{State, appended}
+use Rattle.reg_machine.specs.History.{State, appended, facts}
 use Rattle.reg_machine.specs.Refusals.{refusal}
 use Rattle.reg_view.specs.AtClock.{told}
 use Rattle.reg_terms.specs.declared.query.Answer.{Answer}
@@ -16,6 +16,7 @@ use Rattle.reg_terms.specs.declared.request.Op.TheVariants as op
 use Rattle.reg_terms.specs.declared.reply.Reply.{Reply}
 use Rattle.reg_terms.specs.declared.reply.Reply.TheVariants as reply
 use Rattle.reg_terms.specs.Forms.{op_has_form}
+use Rattle.reg_service.specs.Ids.{made_id}
 use Rattle.reg_service.specs.declared.service.Next.{Next}
 use Rattle.reg_service.specs.declared.service.Next.TheVariants as next
 use Rattle.reg_service.specs.declared.service.Cause.{Cause}
@@ -25,9 +26,9 @@ use Rattle.reg_service.specs.declared.service.Cause.TheVariants as cause
 abbrev pub at_moment : State → ℕ → State
 at_moment s m = record { history = s.history; clock = max s.clock m }
 
--- a command that isn't refused is appended and answered with its place in the history
+-- a command that isn't refused is appended and answered with its place in the history, and the id of what it made
 abbrev pub decided : State → Entity → Command → Option Refusal → Reply × State
-decided s by command None = (reply.Number (length (appended s by command).history), appended s by command)
+decided s by command None = (reply.Number (length (appended s by command).history) (made_id command (facts s.history s.clock)), appended s by command)
 decided s by command (Some r) = (reply.Refused r, s)
 
 -- the command of an entity, unless it is refused; the text of no entity is nobody's
@@ -77,7 +78,7 @@ Follows s m reading (told, next.Stop why keeper) = told ≡ last_reply why
 
 -- an accepted command alone goes into the history, at its end; whatever else is answered leaves the history as it was
 abbrev pub KeepsHistory : State → Reply → State → Type 0
-KeepsHistory s (reply.Number n) after = (stamped : Stamped) × (after.history ≡ s.history ++ stamped ∷ []) × (n ≡ length after.history)
+KeepsHistory s (reply.Number n id) after = (stamped : Stamped) × (after.history ≡ s.history ++ stamped ∷ []) × (n ≡ length after.history)
 KeepsHistory s (reply.Answer a) after = after.history ≡ s.history
 KeepsHistory s (reply.Refused r) after = after.history ≡ s.history
 KeepsHistory s reply.NoMemory after = after.history ≡ s.history

@@ -2,6 +2,7 @@
 //! reply is given, and the service over a journal's records again.
 #![tactic(auto)]
 
+mod ids;
 mod opening;
 mod service;
 mod uncounted;

@@ -1,6 +1,6 @@
 // One request after another, over a keeper. A command is dropped by a call of `drop`, as in
 // `opening`: else each exit takes it apart by its kinds.
-ghost use Rattle.std.specs.Prelude.{◌≡◌, ℕ, List, Result, true, false, Ok, Err, None, IfOk, IfErr, IfSome};
+ghost use Rattle.std.specs.Prelude.{◌≡◌, ℕ, List, Option, Result, true, false, Ok, Err, None, IfOk, IfErr, IfSome};
 ghost use Rattle.reg_machine.specs.History.{start};
 ghost use Rattle.reg_machine.specs.Refusals.{refusal};
 ghost use Rattle.reg_keep.specs.Frames.{payloads_of_records};
@@ -12,6 +12,7 @@ ghost use Rattle.reg_service.specs.Opening.{payloads_of, judged, FrontsReopen, I
 ghost use Rattle.reg_service.specs.Kept.{KeepsNext, KeptOn, IsAcknowledged, LeavesKeeper, keeper_of};
 ghost use Rattle.reg_service.specs.Turn.{turn, requested, HasForm, IsQuery, Carries, Follows, GoesOn, ordered};
 
+use crate::ids::made_id;
 use crate::opening::replay;
 use crate::uncounted::{advance, apply};
 use reg_base::{Bytes, Entity, Moment};
@@ -82,7 +83,7 @@ fn asked<K: Keeper>(
     ensures turn { Carries machine (requested machine by (Op.Query query)) result }
     ensures kept { (expected : List Stamped) → KeepsNext ⟦<K as Keeper>⟧ machine.history expected keeper result.1 }
     ensures same { LeavesKeeper keeper result.1 }
-    ensures unnumbered { (n : ℕ) → result.0 ≡ Reply.Number n → ⊥ }
+    ensures unnumbered { (n : ℕ) (id : Option ℕ) → result.0 ≡ Reply.Number n id → ⊥ }
 {
     let reply = match ask(alloc, &machine, &by, &query) {
         Ok(Ok(answer)) => Reply::Answer(answer),
@@ -108,7 +109,7 @@ fn keep<K: Keeper>(
     requires writable { IsWritable stamped }
     ensures turn { Carries machine (ordered machine (Some stamped.by) stamped.command) result }
     ensures kept { KeepsNext ⟦<K as Keeper>⟧ machine.history (ordered machine (Some stamped.by) stamped.command).1.history keeper result.1 }
-    ensures acknowledged { (n : ℕ) → result.0 ≡ Reply.Number n → IsAcknowledged ⟦<K as Keeper>⟧ machine.history n result.1 }
+    ensures acknowledged { (n : ℕ) (id : Option ℕ) → result.0 ≡ Reply.Number n id → IsAcknowledged ⟦<K as Keeper>⟧ machine.history n id result.1 }
 {
     let mut keeper = keeper;
     let Ok(payload) = encode(alloc, &stamped) else {
@@ -118,6 +119,7 @@ fn keep<K: Keeper>(
     payload_reads_back();
     payload_is_short();
     let Stamped { by, command, .. } = stamped;
+    let id = made_id(&machine, &command);
     let applied = apply(alloc, machine, &by, command);
     drop(by);
     let Ok(machine) = applied else {
@@ -127,7 +129,7 @@ fn keep<K: Keeper>(
         Ok(()) => {
             let number = machine.history().len() as u64;
             (
-                Reply::Number { number },
+                Reply::Number { number, id },
                 Next::Go(Service { machine, keeper }),
             )
         }
@@ -148,7 +150,7 @@ fn carried_out<K: Keeper>(
     requires form { has_form command ≡ true }
     ensures turn { Carries machine (ordered machine (Some by) command) result }
     ensures kept { KeepsNext ⟦<K as Keeper>⟧ machine.history (ordered machine (Some by) command).1.history keeper result.1 }
-    ensures acknowledged { (n : ℕ) → result.0 ≡ Reply.Number n → IsAcknowledged ⟦<K as Keeper>⟧ machine.history n result.1 }
+    ensures acknowledged { (n : ℕ) (id : Option ℕ) → result.0 ≡ Reply.Number n id → IsAcknowledged ⟦<K as Keeper>⟧ machine.history n id result.1 }
 {
     let at = machine.clock();
     let stamped = Stamped { at, by, command };
@@ -180,7 +182,7 @@ fn commanded<K: Keeper>(
     requires form { has_form command ≡ true }
     ensures turn { Carries machine (requested machine by (Op.Command command)) result }
     ensures kept { KeepsNext ⟦<K as Keeper>⟧ machine.history (requested machine by (Op.Command command)).1.history keeper result.1 }
-    ensures acknowledged { (n : ℕ) → result.0 ≡ Reply.Number n → IsAcknowledged ⟦<K as Keeper>⟧ machine.history n result.1 }
+    ensures acknowledged { (n : ℕ) (id : Option ℕ) → result.0 ≡ Reply.Number n id → IsAcknowledged ⟦<K as Keeper>⟧ machine.history n id result.1 }
 {
     let read = Entity::parse(alloc, by.bytes());
     drop(by);
@@ -262,8 +264,9 @@ impl<K: Keeper> Service<K> {
         ensures history { GoesOn self.state at result }
         ensures kept { KeepsNext ⟦<K as Keeper>⟧ self.state.history (turn self.state at (Ok request)).1.history self.keeper result.1 }
 
-        // After a command is answered with its number, each stop leaves the history with it at its end.
-        ensures acknowledged { (n : ℕ) → result.0 ≡ Reply.Number n → IsAcknowledged ⟦<K as Keeper>⟧ self.state.history n result.1 }
+        // After a command is answered with its number, and the id of what it made, each stop leaves the
+        // history with it at its end.
+        ensures acknowledged { (n : ℕ) (id : Option ℕ) → result.0 ≡ Reply.Number n id → IsAcknowledged ⟦<K as Keeper>⟧ self.state.history n id result.1 }
 
         // A query leaves the keeper as it was, and so the service doesn't stop for it.
         ensures asked { IsQuery request.op → LeavesKeeper self.keeper result.1 }

@@ -21,7 +21,7 @@ lines_of (told ∷ replies) = line_of told ++ lines_of replies
 -- the numbers that replies tell
 abbrev pub numbers : List Reply → List ℕ
 numbers [] = []
-numbers ((reply.Number n) ∷ replies) = n ∷ numbers replies
+numbers ((reply.Number n id) ∷ replies) = n ∷ numbers replies
 numbers ((reply.Answer a) ∷ replies) = numbers replies
 numbers ((reply.Refused r) ∷ replies) = numbers replies
 numbers (reply.NoMemory ∷ replies) = numbers replies
@@ -34,7 +34,7 @@ places n (s ∷ ss) = (n + 1) ∷ places (n + 1) ss
 
 -- whether a reply says that a command was accepted
 abbrev pub is_accepted : Reply → Bool
-is_accepted (reply.Number n) = true
+is_accepted (reply.Number n id) = true
 is_accepted (reply.Answer a) = false
 is_accepted (reply.Refused r) = false
 is_accepted reply.NoMemory = false

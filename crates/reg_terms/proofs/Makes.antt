@@ -6,7 +6,7 @@ use Rattle.reg_terms.specs.declared.kinds.InheritKind.{InheritKind}
 use Rattle.reg_terms.specs.declared.kinds.Scope.{Scope}
 use Rattle.reg_terms.specs.declared.kinds.SetOp.{SetOp}
 use Rattle.reg_terms.specs.declared.command.Command.{Command}
-use Rattle.reg_terms.specs.declared.command.Command.TheVariants.{FolderAdd, FolderRename, FolderMove, FolderDelete, SubjectAdd, GroupAdd, GroupRename, GroupMove, GroupDelete, MemberAdd, MemberRemove, MemberWindow, CompositeSet, CompositeClear, GrantAdd, GrantRemove, InheritAdd, InheritRemove, ConsumerAdd, ConsumerAck}
+use Rattle.reg_terms.specs.declared.command.Command.TheVariants.{FolderAdd, FolderRename, FolderMove, FolderDelete, SubjectAdd, GroupAdd, GroupRename, GroupMove, GroupDelete, MemberAdd, MemberRemove, MemberWindow, CompositeSet, CompositeClear, GrantAdd, GrantRemove, InheritAdd, InheritRemove, RuleRemoveLost, RuleEndLost, RuleVeto, RuleOnCreate, RuleDelete, ConsumerAdd, ConsumerAck}
 use Rattle.reg_terms.specs.declared.query.Query.TheVariants.{GroupGet, FolderList, Members, Rows, Groups, Grants, May, History, Log}
 use Rattle.reg_terms.specs.declared.request.Op.TheVariants as asked
 use Rattle.reg_terms.specs.declared.table.CommandKind.{CommandKind}
@@ -119,6 +119,11 @@ makes command.GrantAdd v = record { command = GrantAdd _ _ _; made_so = refl; is
 makes command.GrantRemove v = record { command = GrantRemove _ _ _; made_so = refl; is_kind = refl; has_these = refl }
 makes command.InheritAdd v = record { command = InheritAdd _ _ _ _ _; made_so = refl; is_kind = refl; has_these = refl }
 makes command.InheritRemove v = record { command = InheritRemove _ _ _ _ _; made_so = refl; is_kind = refl; has_these = refl }
+makes command.RuleRemoveLost v = record { command = RuleRemoveLost _ _; made_so = refl; is_kind = refl; has_these = refl }
+makes command.RuleEndLost v = record { command = RuleEndLost _ _ _; made_so = refl; is_kind = refl; has_these = refl }
+makes command.RuleVeto v = record { command = RuleVeto _ _; made_so = refl; is_kind = refl; has_these = refl }
+makes command.RuleOnCreate v = record { command = RuleOnCreate _ _ _ _; made_so = refl; is_kind = refl; has_these = refl }
+makes command.RuleDelete v = record { command = RuleDelete _; made_so = refl; is_kind = refl; has_these = refl }
 makes command.ConsumerAdd v = record { command = ConsumerAdd _; made_so = refl; is_kind = refl; has_these = refl }
 makes command.ConsumerAck v = record { command = ConsumerAck _ _; made_so = refl; is_kind = refl; has_these = refl }
 
@@ -154,6 +159,11 @@ command_apart (GrantAdd a b c) = record { few = lit≤ tt; kinds = refl; again =
 command_apart (GrantRemove a b c) = record { few = lit≤ tt; kinds = refl; again = refl; coded_so = refl }
 command_apart (InheritAdd a b c d e) = record { few = lit≤ tt; kinds = refl; again = refl; coded_so = refl }
 command_apart (InheritRemove a b c d e) = record { few = lit≤ tt; kinds = refl; again = refl; coded_so = refl }
+command_apart (RuleRemoveLost a b) = record { few = lit≤ tt; kinds = refl; again = refl; coded_so = refl }
+command_apart (RuleEndLost a b c) = record { few = lit≤ tt; kinds = refl; again = refl; coded_so = refl }
+command_apart (RuleVeto a b) = record { few = lit≤ tt; kinds = refl; again = refl; coded_so = refl }
+command_apart (RuleOnCreate a b c d) = record { few = lit≤ tt; kinds = refl; again = refl; coded_so = refl }
+command_apart (RuleDelete a) = record { few = lit≤ tt; kinds = refl; again = refl; coded_so = refl }
 command_apart (ConsumerAdd a) = record { few = lit≤ tt; kinds = refl; again = refl; coded_so = refl }
 command_apart (ConsumerAck a b) = record { few = lit≤ tt; kinds = refl; again = refl; coded_so = refl }
 

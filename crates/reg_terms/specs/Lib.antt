@@ -7,3 +7,4 @@ pub mod Table
 pub mod Forms
 pub mod Pieces
 pub mod Privileges
+pub mod Rules

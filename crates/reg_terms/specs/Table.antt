@@ -2,7 +2,7 @@
 use Rattle.std.specs.Prelude.{◌≡◌, ◌≤◌, ℕ, List, [], ◌∷◌, ◌==◌, if◌then◌else◌, Option, Some, None, option_map, codes, map, length}
 use Rattle.std.specs.Str.{bytes_eq}
 use Rattle.reg_terms.specs.declared.command.Command.{Command}
-use Rattle.reg_terms.specs.declared.command.Command.TheVariants.{FolderAdd, FolderRename, FolderMove, FolderDelete, SubjectAdd, GroupAdd, GroupRename, GroupMove, GroupDelete, MemberAdd, MemberRemove, MemberWindow, CompositeSet, CompositeClear, GrantAdd, GrantRemove, InheritAdd, InheritRemove, ConsumerAdd, ConsumerAck}
+use Rattle.reg_terms.specs.declared.command.Command.TheVariants.{FolderAdd, FolderRename, FolderMove, FolderDelete, SubjectAdd, GroupAdd, GroupRename, GroupMove, GroupDelete, MemberAdd, MemberRemove, MemberWindow, CompositeSet, CompositeClear, GrantAdd, GrantRemove, InheritAdd, InheritRemove, RuleRemoveLost, RuleEndLost, RuleVeto, RuleOnCreate, RuleDelete, ConsumerAdd, ConsumerAck}
 use Rattle.reg_terms.specs.declared.query.Query.{Query}
 use Rattle.reg_terms.specs.declared.query.Query.TheVariants.{GroupGet, FolderList, Members, Rows, Groups, Grants, May, History, Log}
 use Rattle.reg_terms.specs.declared.request.Op.{Op}
@@ -51,6 +51,11 @@ command_row command.GrantAdd = record { code = 15; op = record { word = codes "g
 command_row command.GrantRemove = record { code = 16; op = record { word = codes "grant.remove"; fields = (codes "object", kind.Object) ∷ (codes "privilege", kind.Privilege) ∷ (codes "holder", kind.Entity) ∷ [] } }
 command_row command.InheritAdd = record { code = 17; op = record { word = codes "inherit.add"; fields = (codes "folder", kind.Folder) ∷ (codes "kind", kind.InheritKind) ∷ (codes "scope", kind.Scope) ∷ (codes "privilege", kind.Privilege) ∷ (codes "holder", kind.Entity) ∷ [] } }
 command_row command.InheritRemove = record { code = 18; op = record { word = codes "inherit.remove"; fields = (codes "folder", kind.Folder) ∷ (codes "kind", kind.InheritKind) ∷ (codes "scope", kind.Scope) ∷ (codes "privilege", kind.Privilege) ∷ (codes "holder", kind.Entity) ∷ [] } }
+command_row command.RuleRemoveLost = record { code = 27; op = record { word = codes "rule.remove_lost"; fields = (codes "check", kind.Name) ∷ (codes "owner", kind.Name) ∷ [] } }
+command_row command.RuleEndLost = record { code = 28; op = record { word = codes "rule.end_lost"; fields = (codes "check", kind.Name) ∷ (codes "owner", kind.Name) ∷ (codes "days", kind.Number 1 3650) ∷ [] } }
+command_row command.RuleVeto = record { code = 29; op = record { word = codes "rule.veto"; fields = (codes "owner", kind.Name) ∷ (codes "condition", kind.Name) ∷ [] } }
+command_row command.RuleOnCreate = record { code = 30; op = record { word = codes "rule.on_create"; fields = (codes "folder", kind.Folder) ∷ (codes "scope", kind.Scope) ∷ (codes "privilege", kind.Privilege) ∷ (codes "holder", kind.Entity) ∷ [] } }
+command_row command.RuleDelete = record { code = 31; op = record { word = codes "rule.delete"; fields = (codes "id", kind.Number 0 18446744073709551615) ∷ [] } }
 command_row command.ConsumerAdd = record { code = 36; op = record { word = codes "consumer.add"; fields = (codes "consumer", kind.Extension) ∷ [] } }
 command_row command.ConsumerAck = record { code = 37; op = record { word = codes "consumer.ack"; fields = (codes "consumer", kind.Extension) ∷ (codes "seq", kind.Number 0 18446744073709551615) ∷ [] } }
 
@@ -73,7 +78,7 @@ row_of (op.Query k) = query_row k
 
 -- every command
 abbrev pub commands : List CommandKind
-commands = command.FolderAdd ∷ command.FolderRename ∷ command.FolderMove ∷ command.FolderDelete ∷ command.SubjectAdd ∷ command.GroupAdd ∷ command.GroupRename ∷ command.GroupMove ∷ command.GroupDelete ∷ command.MemberAdd ∷ command.MemberRemove ∷ command.MemberWindow ∷ command.CompositeSet ∷ command.CompositeClear ∷ command.GrantAdd ∷ command.GrantRemove ∷ command.InheritAdd ∷ command.InheritRemove ∷ command.ConsumerAdd ∷ command.ConsumerAck ∷ []
+commands = command.FolderAdd ∷ command.FolderRename ∷ command.FolderMove ∷ command.FolderDelete ∷ command.SubjectAdd ∷ command.GroupAdd ∷ command.GroupRename ∷ command.GroupMove ∷ command.GroupDelete ∷ command.MemberAdd ∷ command.MemberRemove ∷ command.MemberWindow ∷ command.CompositeSet ∷ command.CompositeClear ∷ command.GrantAdd ∷ command.GrantRemove ∷ command.InheritAdd ∷ command.InheritRemove ∷ command.RuleRemoveLost ∷ command.RuleEndLost ∷ command.RuleVeto ∷ command.RuleOnCreate ∷ command.RuleDelete ∷ command.ConsumerAdd ∷ command.ConsumerAck ∷ []
 
 -- every query
 abbrev pub queries : List QueryKind
@@ -127,6 +132,11 @@ apart (GrantAdd object privilege holder) = (command.GrantAdd, field.Object objec
 apart (GrantRemove object privilege holder) = (command.GrantRemove, field.Object object ∷ field.Privilege privilege ∷ field.Entity holder ∷ [])
 apart (InheritAdd folder kind scope privilege holder) = (command.InheritAdd, field.Folder folder ∷ field.InheritKind kind ∷ field.Scope scope ∷ field.Privilege privilege ∷ field.Entity holder ∷ [])
 apart (InheritRemove folder kind scope privilege holder) = (command.InheritRemove, field.Folder folder ∷ field.InheritKind kind ∷ field.Scope scope ∷ field.Privilege privilege ∷ field.Entity holder ∷ [])
+apart (RuleRemoveLost check owner) = (command.RuleRemoveLost, field.Name check ∷ field.Name owner ∷ [])
+apart (RuleEndLost check owner days) = (command.RuleEndLost, field.Name check ∷ field.Name owner ∷ field.Number days 1 3650 ∷ [])
+apart (RuleVeto owner condition) = (command.RuleVeto, field.Name owner ∷ field.Name condition ∷ [])
+apart (RuleOnCreate folder scope privilege holder) = (command.RuleOnCreate, field.Folder folder ∷ field.Scope scope ∷ field.Privilege privilege ∷ field.Entity holder ∷ [])
+apart (RuleDelete id) = (command.RuleDelete, field.Number id 0 18446744073709551615 ∷ [])
 apart (ConsumerAdd consumer) = (command.ConsumerAdd, field.Extension consumer ∷ [])
 apart (ConsumerAck consumer seq) = (command.ConsumerAck, field.Extension consumer ∷ field.Number seq 0 18446744073709551615 ∷ [])
 
@@ -251,6 +261,28 @@ made_command command.InheritRemove fields = do
   privilege ← privilege_in scope.1
   holder ← entity_in privilege.1
   whole (InheritRemove folder.0 kind.0 scope.0 privilege.0 holder.0) holder.1
+made_command command.RuleRemoveLost fields = do
+  check ← name_in fields
+  owner ← name_in check.1
+  whole (RuleRemoveLost check.0 owner.0) owner.1
+made_command command.RuleEndLost fields = do
+  check ← name_in fields
+  owner ← name_in check.1
+  days ← number_in owner.1
+  whole (RuleEndLost check.0 owner.0 days.0) days.1
+made_command command.RuleVeto fields = do
+  owner ← name_in fields
+  condition ← name_in owner.1
+  whole (RuleVeto owner.0 condition.0) condition.1
+made_command command.RuleOnCreate fields = do
+  folder ← folder_in fields
+  scope ← scope_in folder.1
+  privilege ← privilege_in scope.1
+  holder ← entity_in privilege.1
+  whole (RuleOnCreate folder.0 scope.0 privilege.0 holder.0) holder.1
+made_command command.RuleDelete fields = do
+  id ← number_in fields
+  whole (RuleDelete id.0) id.1
 made_command command.ConsumerAdd fields = do
   consumer ← extension_in fields
   whole (ConsumerAdd consumer.0) consumer.1

@@ -1,13 +1,14 @@
 // The keys by which tables find rows, and the groups that keys name.
 ghost use Rattle.reg_terms.specs.Kinds.{member_group, holder_group};
 ghost use Rattle.reg_terms.specs.Privileges.{code};
+ghost use Rattle.reg_terms.specs.Rules.{key_of, other_of};
 ghost use Rattle.reg_terms.specs.Links.{members_alike, behind_one};
 
 use crate::{
-    CompositeRow, GrantRow, Holder, InheritKind, InheritRow, Member, MemberRow, Object, Scope,
-    privilege_code,
+    CompositeRow, GrantRow, Holder, InheritKind, InheritRow, Member, MemberRow, Object, RuleKey,
+    RuleRow, Scope, privilege_code,
 };
-use reg_base::{FolderId, GroupId};
+use reg_base::{FolderId, GroupId, RuleId};
 use reg_table::{LinkedRow, Row};
 
 /// A membership is found by its group and member, and a group's are listed by member: persons by
@@ -124,5 +125,38 @@ impl LinkedRow for InheritRow {
 
     fn link(_folder: FolderId, place: (InheritKind, Scope, u8, Holder)) -> Option<GroupId> {
         place.3.group()
+    }
+}
+
+/// A rule is found by what it watches, its id, and of whom it speaks beside that; the rules that watch
+/// one thing are listed by id.
+impl Row for RuleRow {
+    type Group = RuleKey;
+
+    type Place = (RuleId, Holder);
+
+    ghost group_of = { λ row. key_of row.form };
+
+    ghost place_of = { λ row. (row.id, other_of row.form) };
+
+    fn group(&self) -> RuleKey {
+        self.form.key()
+    }
+
+    fn place(&self) -> (RuleId, Holder) {
+        (self.id, self.form.other())
+    }
+}
+
+/// A rule may name a group beside what it watches.
+impl LinkedRow for RuleRow {
+    type Link = GroupId;
+
+    ghost link_at = { λ _ place. holder_group place.1 };
+
+    ghost link_alike = { λ g h p q group_is place_is. behind_one _ p.1 q.1 place_is };
+
+    fn link(_key: RuleKey, place: (RuleId, Holder)) -> Option<GroupId> {
+        place.1.group()
     }
 }

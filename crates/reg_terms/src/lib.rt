@@ -21,6 +21,7 @@ mod refusal;
 mod reply;
 mod request;
 mod rows;
+mod rules;
 mod shown;
 mod table;
 mod texts;
@@ -38,7 +39,7 @@ pub use kinds::{
 pub use laws::{law_commands, law_ops};
 pub use limits::{
     MAX_CONSUMERS, MAX_DISPLAY, MAX_FOLDERS, MAX_GRANTS, MAX_GROUPS, MAX_HISTORY, MAX_INHERITS,
-    MAX_LINE, MAX_NAME, MAX_ROWS, MAX_SUBJECTS,
+    MAX_LINE, MAX_NAME, MAX_ROWS, MAX_RULES, MAX_SUBJECTS,
 };
 pub use making::{made, made_command};
 pub use parts::{FieldRef, fields_of, kind_of};
@@ -54,6 +55,7 @@ pub use rows::{
     AssignRow, AttributeRow, CompositeRow, ConsumerRow, DefinitionRow, FolderRow, GrantRow,
     GroupRow, InheritRow, JobRow, Made, MemberRow, RuleRow, SubjectRow,
 };
+pub use rules::RuleKey;
 pub use shown::{FactorsShown, GrantShown, GrantsShown, Privileges, RowShown, RowsShown};
 pub use table::{
     CommandKind, CommandRow, OpKind, QueryKind, Row, command_coded, command_row, kind_named,

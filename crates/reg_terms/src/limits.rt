@@ -18,6 +18,9 @@ pub const MAX_GRANTS: usize = 500_000;
 /// Inherits that may stand.
 pub const MAX_INHERITS: usize = 500_000;
 
+/// Rules that may ever be made.
+pub const MAX_RULES: u32 = 10_000;
+
 /// Consumers of the change log that may ever be made.
 pub const MAX_CONSUMERS: usize = 100;
 

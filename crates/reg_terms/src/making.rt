@@ -298,6 +298,58 @@ fn inherit_remove(mut fields: VecDeque<Field>) -> Option<Command>
     whole(command, fields)
 }
 
+fn rule_remove_lost(mut fields: VecDeque<Field>) -> Option<Command>
+    ensures { result ≡ made_command command.RuleRemoveLost fields.items }
+{
+    let command = Command::RuleRemoveLost {
+        check: name(&mut fields)?,
+        owner: name(&mut fields)?,
+    };
+    whole(command, fields)
+}
+
+fn rule_end_lost(mut fields: VecDeque<Field>) -> Option<Command>
+    ensures { result ≡ made_command command.RuleEndLost fields.items }
+{
+    let command = Command::RuleEndLost {
+        check: name(&mut fields)?,
+        owner: name(&mut fields)?,
+        days: number(&mut fields)?,
+    };
+    whole(command, fields)
+}
+
+fn rule_veto(mut fields: VecDeque<Field>) -> Option<Command>
+    ensures { result ≡ made_command command.RuleVeto fields.items }
+{
+    let command = Command::RuleVeto {
+        owner: name(&mut fields)?,
+        condition: name(&mut fields)?,
+    };
+    whole(command, fields)
+}
+
+fn rule_on_create(mut fields: VecDeque<Field>) -> Option<Command>
+    ensures { result ≡ made_command command.RuleOnCreate fields.items }
+{
+    let command = Command::RuleOnCreate {
+        folder: folder(&mut fields)?,
+        scope: scope(&mut fields)?,
+        privilege: privilege(&mut fields)?,
+        holder: entity(&mut fields)?,
+    };
+    whole(command, fields)
+}
+
+fn rule_delete(mut fields: VecDeque<Field>) -> Option<Command>
+    ensures { result ≡ made_command command.RuleDelete fields.items }
+{
+    let command = Command::RuleDelete {
+        id: number(&mut fields)?,
+    };
+    whole(command, fields)
+}
+
 fn consumer_add(mut fields: VecDeque<Field>) -> Option<Command>
     ensures { result ≡ made_command command.ConsumerAdd fields.items }
 {
@@ -427,6 +479,11 @@ pub fn made_command(kind: CommandKind, fields: VecDeque<Field>) -> Option<Comman
         CommandKind::GrantRemove => grant_remove(fields),
         CommandKind::InheritAdd => inherit_add(fields),
         CommandKind::InheritRemove => inherit_remove(fields),
+        CommandKind::RuleRemoveLost => rule_remove_lost(fields),
+        CommandKind::RuleEndLost => rule_end_lost(fields),
+        CommandKind::RuleVeto => rule_veto(fields),
+        CommandKind::RuleOnCreate => rule_on_create(fields),
+        CommandKind::RuleDelete => rule_delete(fields),
         CommandKind::ConsumerAdd => consumer_add(fields),
         CommandKind::ConsumerAck => consumer_ack(fields),
     }

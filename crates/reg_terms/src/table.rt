@@ -25,6 +25,11 @@ pub enum CommandKind {
     GrantRemove,
     InheritAdd,
     InheritRemove,
+    RuleRemoveLost,
+    RuleEndLost,
+    RuleVeto,
+    RuleOnCreate,
+    RuleDelete,
     ConsumerAdd,
     ConsumerAck,
 }
@@ -65,7 +70,7 @@ pub struct CommandRow {
 }
 
 /// Every command.
-const COMMANDS: [CommandKind; 20] = [
+const COMMANDS: [CommandKind; 25] = [
     CommandKind::FolderAdd,
     CommandKind::FolderRename,
     CommandKind::FolderMove,
@@ -84,6 +89,11 @@ const COMMANDS: [CommandKind; 20] = [
     CommandKind::GrantRemove,
     CommandKind::InheritAdd,
     CommandKind::InheritRemove,
+    CommandKind::RuleRemoveLost,
+    CommandKind::RuleEndLost,
+    CommandKind::RuleVeto,
+    CommandKind::RuleOnCreate,
+    CommandKind::RuleDelete,
     CommandKind::ConsumerAdd,
     CommandKind::ConsumerAck,
 ];
@@ -254,6 +264,52 @@ pub fn command_row(kind: CommandKind) -> CommandRow
                 ("privilege", FieldKind::Privilege),
                 ("holder", FieldKind::Entity),
             ],
+        ),
+        CommandKind::RuleRemoveLost => command(
+            27,
+            "rule.remove_lost",
+            &[("check", FieldKind::Name), ("owner", FieldKind::Name)],
+        ),
+        CommandKind::RuleEndLost => command(
+            28,
+            "rule.end_lost",
+            &[
+                ("check", FieldKind::Name),
+                ("owner", FieldKind::Name),
+                (
+                    "days",
+                    FieldKind::Number {
+                        least: 1,
+                        most: 3_650,
+                    },
+                ),
+            ],
+        ),
+        CommandKind::RuleVeto => command(
+            29,
+            "rule.veto",
+            &[("owner", FieldKind::Name), ("condition", FieldKind::Name)],
+        ),
+        CommandKind::RuleOnCreate => command(
+            30,
+            "rule.on_create",
+            &[
+                ("folder", FieldKind::Folder),
+                ("scope", FieldKind::Scope),
+                ("privilege", FieldKind::Privilege),
+                ("holder", FieldKind::Entity),
+            ],
+        ),
+        CommandKind::RuleDelete => command(
+            31,
+            "rule.delete",
+            &[(
+                "id",
+                FieldKind::Number {
+                    least: 0,
+                    most: u64::MAX,
+                },
+            )],
         ),
         CommandKind::ConsumerAdd => command(
             36,

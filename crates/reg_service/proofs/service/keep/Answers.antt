@@ -32,8 +32,8 @@ returns-clause-kept g c =
 
 -- and is acknowledged
 pub returns-in-Ok-append-clause-acknowledged : goal.returns-in-Ok-append-clause-acknowledged
-returns-in-Ok-append-clause-acknowledged g c n is =
-    acknowledged_one g.K.Keeper c.args.machine c.in-Ok-applied.machine c.args.stamped c.append.new.self n
+returns-in-Ok-append-clause-acknowledged g c n id is =
+    acknowledged_one g.K.Keeper c.args.machine c.in-Ok-applied.machine c.args.stamped c.append.new.self n id
     (served_one c.args.machine c.in-Ok-applied.machine c.args.stamped c.deref.result.now (g.K.Keeper.payloads c.args.keeper) _ _ _ c.requires.served c.requires.now c.requires.accepted (c.payload_reads_back.ensures c.args.stamped c.requires.writable)
     c.in-Ok-applied.ensures (c.deref.ensures.value ∙ c.in-Ok.ensures.value) c.in-Ok-append.ensures.kept c.in-Ok-append.ensures.going)
-    (g.met.K.Keeper.stop_now c.append.new.self) c.in-Ok-applied.ensures (cc)
+    (g.met.K.Keeper.stop_now c.append.new.self) c.in-Ok-applied.ensures (cc) (cc)

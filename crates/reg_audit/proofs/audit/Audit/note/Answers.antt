@@ -1,6 +1,6 @@
 use Rattle.std.proofs.Common.{◌≡◌, ap, subst}
 use Rattle.reg_facts.specs.Lists.{Lists}
-use Rattle.reg_audit.specs.Notes.{StepNotes, notes_of}
+use Rattle.reg_audit.specs.Notes.{StepNotes, acted_notes, notes_of}
 use Rattle.reg_audit.specs.declared.audit.Audit.{Audit}
 use Rattle.reg_audit.proofs.Adding.{Noted, audit_more}
 use Rattle.reg_audit.proofs.audit.Audit.note.Goals as goal
@@ -23,4 +23,4 @@ returns c steps step h f e t after knows =
       last = rw same at c.in_ok-past.ensures.last;
     } in
     audit_more c.args.self new c.args.turned.now c.args.touched.now steps step c.law_turns.ensures h f t knows
-    (subst (λ (g : Lists). Noted (notes_of step.at step.before step.events) c.args.turned.now g c.args.touched.now c.args.self new) after (subst (λ (n : StepNotes). Noted n c.args.turned.now c.args.facts.now c.args.touched.now c.args.self new) e noted))
+    (subst (λ (g : Lists). Noted (acted_notes (notes_of step.at step.before step.events) step.actions) c.args.turned.now g c.args.touched.now c.args.self new) after (subst (λ (n : StepNotes). Noted n c.args.turned.now c.args.facts.now c.args.touched.now c.args.self new) e noted))

@@ -19,7 +19,7 @@ passed_on-requires-clause-noted g c =
 pub invariant_of-result : goal.invariant_of-result
 invariant_of-result g c =
     let first : due c.self.inside.recorded.value.current.clock c.args.date c.self.inside.recorded.value.current.facts.rows ≡ Some c.args.date = due_now c.self.inside.stamped.items c.args.date (Some c.args.date) c.self.inside.recorded.value.current c.args.self c.self.invariant.in_step c.self.view_is c.requires in
-    next_recorded c.self.inside.stamped.items c.args.date (recording c.self.inside.recorded.value.current c.self.inside.recorded.value.audit) (recording c.in_ok-recorded.recorded.value.current c.in_ok-recorded.recorded.value.audit) c.self.invariant first c.in_ok-recorded.ensures.moved c.in_ok-recorded.ensures.recorded c.in_ok-recorded.ensures.opens c.in_ok-recorded.ensures.sound
+    next_recorded c.self.inside.stamped.items c.args.date (recording c.self.inside.recorded.value.current c.self.inside.recorded.value.audit) (recording c.in_ok-recorded.recorded.value.current c.in_ok-recorded.recorded.value.audit) c.self.invariant first c.in_ok-recorded.ensures.moved c.in_ok-recorded.ensures.recorded c.in_ok-recorded.ensures.sound
 
 -- the steps of the date
 pub returns-clause-cost : goal.returns-clause-cost

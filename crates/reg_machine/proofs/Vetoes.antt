@@ -1,0 +1,57 @@
+-- A command that isn't refused adds a person only where no veto forbids that.
+use Rattle.std.proofs.Common.{◌≡◌, ◌==◌, ◌&&◌, ℕ, List, [], ◌∷◌, ◌++◌, Bool, true, false, not, is_some, Option, Some, None, refl, subst, inl, inr}
+use Rattle.std.proofs.lemmas.Bool.{cases_Bool}
+use Rattle.std.specs.List.{AllByRecursion}
+use Rattle.reg_base.specs.declared.entity.Entity.{Entity}
+use Rattle.reg_terms.specs.declared.command.Command.TheVariants.{MemberAdd}
+use Rattle.reg_terms.specs.declared.command.Stamped.{Stamped}
+use Rattle.reg_terms.specs.declared.kinds.Member.{Member}
+use Rattle.reg_terms.specs.declared.kinds.Member.TheVariants.{Person}
+use Rattle.reg_terms.specs.declared.kinds.RuleForm.{RuleForm}
+use Rattle.reg_terms.specs.declared.kinds.RuleForm.TheVariants.{RemoveLost, EndLost, Veto, OnCreate}
+use Rattle.reg_terms.specs.declared.rows.RuleRow.{RuleRow}
+use Rattle.reg_facts.specs.Edits.{member_of, the_id}
+use Rattle.reg_facts.specs.Lists.{Lists}
+use Rattle.reg_facts.specs.Naming.{group_id}
+use Rattle.reg_demand.specs.Refusing.{refused}
+use Rattle.reg_effect.specs.Member.{member}
+use Rattle.reg_rules.specs.Veto.{first_veto, vetoes}
+use Rattle.reg_machine.specs.Checks.{checks, member_add_checks, veto_on}
+use Rattle.reg_machine.specs.History.{facts}
+use Rattle.reg_machine.specs.Invariant.{IsLegal}
+use Rattle.reg_machine.specs.Live.{live}
+use Rattle.reg_machine.specs.Refusals.{refusal}
+use Rattle.reg_machine.specs.Vetoes.{AllLet, Lets}
+use Rattle.reg_machine.proofs.Allowed.{all_fail, rest_none}
+
+meets : (owns has : Bool) → (owns && not has) ≡ false → owns ≡ true → has ≡ true
+meets true true h e = refl
+meets true false h e = absurd (let clash : ⊥ = cc in clash)
+meets false has h e = absurd (let clash : ⊥ = cc in clash)
+
+lets_one : (at g s : ℕ) (f : Lists) (form : RuleForm) → vetoes (live at f) g s form ≡ false → Lets at g s f form
+lets_one at g s f (Veto owner condition) h = meets (owner == g) (member (live at f) condition s) h
+lets_one at g s f (RemoveLost check owner) h = tt
+lets_one at g s f (EndLost check owner days) h = tt
+lets_one at g s f (OnCreate d scope p form) h = tt
+
+all_let : (at g s : ℕ) (f : Lists) (rules : List RuleRow) → first_veto (live at f) g s rules ≡ None → AllByRecursion (λ (rule : RuleRow). Lets at g s f rule.form) rules
+all_let at g s f [] h = tt
+all_let at g s f (rule ∷ rules) h = elim (cases_Bool (vetoes (live at f) g s rule.form)) [
+  | inl y ↦ absurd (let clash : Some rule.id ≡ None = rw y at h in let no : ⊥ = cc in no)
+  | inr n ↦ (lets_one at g s f rule.form n, all_let at g s f rules (rw n at h))
+]
+
+no_rule : (found : Option ℕ) → is_some found ≡ false → found ≡ None
+no_rule None h = refl
+no_rule (Some rule) h = absurd (let clash : ⊥ = cc in clash)
+
+pub added_where_let : (history before after : List Stamped) (at : ℕ) (by : Entity) (group : List ℕ) (who : Entity) (from until : Option ℕ) (s : ℕ) → IsLegal history → history ≡ before ++ (record { at = at; by = by; command = MemberAdd group who from until }) ∷ after
+    → member_of who (facts before at) ≡ Some (Person s) → AllLet at (the_id (group_id group (facts before at))) s (facts before at)
+unfolding checks refusal
+added_where_let history before after at by group who from until s legal is found =
+    let f : Lists = facts before at in
+    let fine = rest_none (refused (live at f) f by (MemberAdd group who from until)) _ (legal.allowed before after (record { at = at; by = by; command = MemberAdd group who from until }) is) in
+    let a = all_fail (member_add_checks before at f group who from until) fine in
+    let none : veto_on at (the_id (group_id group f)) (member_of who f) f ≡ None = no_rule _ a.1.1.1.1.1.1.1.0 in
+    all_let at (the_id (group_id group f)) s f f.rules (subst (λ (m : Option Member). veto_on at (the_id (group_id group f)) m f ≡ None) found none)

@@ -1,0 +1,31 @@
+use Rattle.std.proofs.Common.{◌≡◌, ◌≤◌, ◌+◌, ◌∙◌, ap, subst, sym, arith}
+use Rattle.std.proofs.lemmas.Result.{IfOk-weaker}
+use Rattle.reg_facts.specs.Events.{all_happened}
+use Rattle.reg_effect.specs.declared.live.Live.{Live}
+use Rattle.reg_audit.specs.Notes.{notes_of}
+use Rattle.reg_machine.specs.Invariant.{Now}
+use Rattle.reg_machine.specs.Live.{live}
+use Rattle.reg_machine.specs.Recording.{settled_step, Records}
+use Rattle.reg_machine.proofs.Acting.{settled_now, steps_of_rules}
+use Rattle.reg_machine.proofs.RowFound.{on_ok}
+use Rattle.reg_machine.proofs.recorded.Recorded.carry.Goals as goal
+
+pub returns-clause-happened : goal.returns-clause-happened
+returns-clause-happened g c =
+    let L : Live = live c.args.self.current.clock c.args.self.current.facts in
+    IfOk-weaker c.finished.result _ _ (λ r h. subst (λ (n : Now). r.current ≡ settled_now L n) c.in-Ok.ensures.happened (h L c.in-Ok.ensures.told)) c.finished.ensures.settled
+
+pub returns-clause-recorded : goal.returns-clause-recorded
+returns-clause-recorded g c =
+    let before : Now = c.args.self.current in
+    let L : Live = live before.clock before.facts in
+    IfOk-weaker c.finished.result _ _ (λ r h. subst (λ (n : Now). Records c.args.self.audit r.audit (settled_step n.clock before.facts c.args.events.items L n.facts)) c.in-Ok.ensures.happened
+    (h before.facts c.args.events.items L c.in-Ok.ensures.told (c.in-Ok.ensures.notes ∙ ap (λ (n : Now). notes_of n.clock before.facts c.args.events.items) (sym c.in-Ok.ensures.happened)) c.in-Ok.ensures.touches)) c.finished.ensures.recorded
+
+pub returns-clause-cost : goal.returns-clause-cost
+returns-clause-cost g c =
+    let L : Live = live c.args.self.current.clock c.args.self.current.facts in
+    on_ok c.finished.result c.finished.ensures.cost (λ most.
+    let le : c.finished.new.steps ≤ c.carried-after.new.steps + steps_of_rules L (record { clock = c.args.self.current.clock; facts = all_happened c.args.events.items c.args.self.current.facts }) =
+    subst (λ (n : Now). c.finished.new.steps ≤ c.carried-after.new.steps + steps_of_rules L n) c.in-Ok.ensures.happened (most L c.in-Ok.ensures.told) in
+    omega (arith, le, c.in-Ok.ensures.cost))
