@@ -6,7 +6,7 @@ use Rattle.std.specs.List.{cons_option}
 use Rattle.std.specs.Option.{option_or}
 use Rattle.std.specs.Str.{bytes_eq}
 use Rattle.reg_terms.specs.declared.event.Event.{Event}
-use Rattle.reg_terms.specs.declared.event.Event.TheVariants.{FolderMade, FolderRenamed, FolderMoved, FolderGone, SubjectMade, GroupMade, GroupRenamed, GroupMoved, GroupGone, RowAdded, RowRemoved, RowRedated, Composed, Decomposed, GrantAdded, GrantRemoved, InheritAdded, InheritRemoved, RuleMade, RuleGone, ConsumerAdded, ConsumerAcked}
+use Rattle.reg_terms.specs.declared.event.Event.TheVariants.{ConsumerAdded, ConsumerAcked}
 use Rattle.reg_terms.specs.declared.rows.ConsumerRow.{ConsumerRow}
 use Rattle.reg_facts.specs.Consumers.{consumer_place, acknowledged}
 use Rattle.reg_facts.specs.Events.{happened, all_happened}
@@ -51,28 +51,9 @@ place_or n place None = place
 place_or n place (Some note) = place_after n place note
 
 one_event : (n : List ℕ) (e : Event) (f : Lists) → consumer_place n (happened e f).consumers ≡ place_or n (consumer_place n f.consumers) (consumer_note e)
-one_event n (FolderMade row) f = refl
-one_event n (FolderRenamed d extension) f = refl
-one_event n (FolderMoved d to) f = refl
-one_event n (FolderGone d) f = refl
-one_event n (SubjectMade row) f = refl
-one_event n (GroupMade row) f = refl
-one_event n (GroupRenamed g extension) f = refl
-one_event n (GroupMoved g to) f = refl
-one_event n (GroupGone g) f = refl
-one_event n (RowAdded row) f = refl
-one_event n (RowRemoved g m) f = refl
-one_event n (RowRedated g m from until) f = refl
-one_event n (Composed row) f = refl
-one_event n (Decomposed g) f = refl
-one_event n (GrantAdded row) f = refl
-one_event n (GrantRemoved row) f = refl
-one_event n (InheritAdded row) f = refl
-one_event n (InheritRemoved row) f = refl
-one_event n (RuleMade row) f = refl
-one_event n (RuleGone id) f = refl
 one_event n (ConsumerAdded row) f = one_more n f.consumers row
 one_event n (ConsumerAcked name seq) f = one_moved n name seq f.consumers
+one_event n _ f = refl
 
 first_of : (n : List ℕ) (place : Option ℕ) (o : Option ConsumerNote) (notes : List ConsumerNote) → places_after n place (cons_option o notes) ≡ places_after n (place_or n place o) notes
 first_of n place None notes = refl

@@ -1,5 +1,5 @@
--- Grants and the wheel group, as a step leaves them.
-use Rattle.std.proofs.Common.{◌≡◌, ◌≤◌, ◌<◌, ◌+◌, ◌++◌, ◌||◌, ◌&&◌, ℕ, List, [], ◌∷◌, Bool, true, false, Option, Some, length, drop, get_or, nat_le, if◌then◌else◌, arith, refl, sym, ap, ◌∙◌, inl, inr}
+-- Grants, the wheel group and assignments, as a step leaves them.
+use Rattle.std.proofs.Common.{◌≡◌, ◌≤◌, ◌<◌, ◌+◌, ◌++◌, ◌||◌, ◌&&◌, ℕ, List, [], ◌∷◌, Bool, true, false, Option, Some, length, drop, get_or, nat_le, if◌then◌else◌, arith, refl, sym, ap, subst, ◌∙◌, inl, inr}
 use Rattle.std.proofs.lemmas.Bool.{cases_Bool}
 use Rattle.std.proofs.lemmas.Bool.Decides.{nat_tests}
 use Rattle.std.proofs.lemmas.List.{drop_more}
@@ -10,16 +10,18 @@ use Rattle.reg_terms.specs.declared.kinds.Holder.{Holder}
 use Rattle.reg_facts.specs.Lists.{Lists}
 use Rattle.reg_facts.proofs.Places.{same_is}
 use Rattle.reg_pit.specs.Grants.{has_grant}
-use Rattle.reg_pit.specs.Past.{was_granted, wheel_at, NotedBy}
+use Rattle.reg_pit.specs.Past.{assigns_at, last_assign, was_granted, wheel_at, NotedBy}
 use Rattle.reg_pit.specs.declared.past.Past.{Past}
 use Rattle.reg_priv.specs.Grants.{grants}
 use Rattle.reg_priv.specs.May.{wheel}
 use Rattle.reg_priv.specs.Touched.{is_listed}
+use Rattle.reg_audit.specs.Assigning.{AreNew, all_changed, assign_changes, last_after_all}
 use Rattle.reg_audit.specs.Audit.{IsAudit}
-use Rattle.reg_audit.specs.Steps.{Step, FollowsOn, last_by, facts_of, facts_by}
+use Rattle.reg_audit.specs.Steps.{Step, FollowsOn, last_by, last_facts, facts_of, facts_by}
 use Rattle.reg_audit.specs.Touched.{KnowsTouched}
 use Rattle.reg_audit.specs.declared.audit.Audit.{Audit}
-use Rattle.reg_audit.proofs.Stepping.{all_seen, last_by_more}
+use Rattle.reg_audit.proofs.Changing.{events_changed, events_last, events_new}
+use Rattle.reg_audit.proofs.Stepping.{all_seen, last_by_more, last_more}
 
 -- ---- one object more
 
@@ -102,3 +104,23 @@ module _ (steps : List Step) (step : Step) (audit new : Audit) (h : IsAudit step
     | inl y ↦ noted ∙ rw (y, facts_then t steps step y) refl
     | inr n ↦ noted ∙ rw (n, facts_still t steps step n) (h.noted_wheel t)
   ]
+
+  pub assigns_more : (t : ℕ) → assigns_at new.past t ≡ (if nat_le step.at t then all_changed (assign_changes step.events) (assigns_at audit.past t) else assigns_at audit.past t) → assigns_at new.past t ≡ (facts_by t (steps ++ step ∷ [])).assigns
+  assigns_more t noted = elim (cases_Bool (nat_le step.at t)) [
+    | inl y ↦
+        let w : step.at ≤ t = grind (arith, nat_tests, y) in
+        let before : assigns_at audit.past t ≡ step.before.assigns = h.assigns t ∙ ap (λ (g : Lists). g.assigns) (facts_before t steps step f w) in
+        noted ∙ rw (y, before, facts_then t steps step y) (sym (f.assigns_after ∙ events_changed step.events step.before f.new_assigns))
+    | inr n ↦ noted ∙ rw (n, facts_still t steps step n) (h.assigns t)
+  ]
+
+  pub last_more_assigned : last_assign new.past ≡ last_after_all (assign_changes step.events) (last_assign audit.past) → last_assign new.past ≡ (last_facts (steps ++ step ∷ [])).made.assigns
+  last_more_assigned noted =
+      let before : last_assign audit.past ≡ step.before.made.assigns = h.last_assigned ∙ ap (λ (g : Lists). g.made.assigns) (sym f.before) in
+      noted ∙ rw before (sym (ap (λ o. (facts_of o).made.assigns) (last_more steps step) ∙ (f.made_after ∙ events_last step.events step.before)))
+
+  -- the step may be noted
+  pub next_new : AreNew (assign_changes step.events) (last_assign audit.past)
+  next_new =
+      let before : step.before.made.assigns ≡ last_assign audit.past = sym (h.last_assigned ∙ ap (λ (g : Lists). g.made.assigns) (sym f.before)) in
+      subst (AreNew (assign_changes step.events)) before (events_new step.events step.before f.new_assigns)

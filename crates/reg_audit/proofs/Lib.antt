@@ -1,6 +1,8 @@
 pub mod Turning
 pub mod Consuming
 pub mod Stepping
+pub mod Changing
+pub mod Defining
 pub mod OrderedGrants
 pub mod Granting
 pub mod Adding

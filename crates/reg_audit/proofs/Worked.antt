@@ -1,10 +1,14 @@
 -- Worked examples computed: the log of a membership that begins, ends and begins again at one moment, a deleted group's
--- entries, life and last name, a root that was always there, and what rules did with their numbers.
-use Rattle.std.proofs.Common.{◌≡◌, ◌++◌, ℕ, List, [], ◌∷◌, Some, None, codes, map, refl}
+-- entries, life and last name, a root that was always there, what rules did with their numbers, and an attribute that is assigned,
+-- has a value and goes.
+use Rattle.std.proofs.Common.{◌≡◌, ◌++◌, ℕ, List, [], ◌∷◌, true, false, Option, Some, None, codes, map, refl}
 use Rattle.reg_terms.specs.declared.event.Event.{Event}
-use Rattle.reg_terms.specs.declared.event.Event.TheVariants.{SubjectMade, GroupMade, GroupGone, RowAdded, RowRemoved}
+use Rattle.reg_terms.specs.declared.event.Event.TheVariants.{SubjectMade, GroupMade, GroupGone, RowAdded, RowRemoved, DefinitionMade, AttributeMade, AttributeGone, AssignMade, AssignGone, ValueAdded}
 use Rattle.reg_terms.specs.declared.kinds.Member.TheVariants.{Person}
-use Rattle.reg_terms.specs.declared.kinds.Object.TheVariants.{Folder, Group}
+use Rattle.reg_terms.specs.declared.kinds.AttrValue.TheVariants.{Moment}
+use Rattle.reg_terms.specs.declared.kinds.DefKind.TheVariants.{Timestamp}
+use Rattle.reg_terms.specs.declared.kinds.Object.{Object}
+use Rattle.reg_terms.specs.declared.kinds.Object.TheVariants.{Folder, Group, Def, Attr}
 use Rattle.reg_facts.specs.Lists.{Lists, start}
 use Rattle.reg_facts.specs.Events.{all_happened}
 use Rattle.reg_facts.specs.Naming.{name_of, extensions, placed, path}
@@ -17,7 +21,8 @@ use Rattle.reg_rules.specs.declared.actions.Action.{Action}
 use Rattle.reg_rules.specs.declared.actions.Action.TheVariants.{Removed, Ended}
 use Rattle.reg_rules.specs.Actions.{all_done}
 use Rattle.reg_terms.specs.declared.entry_kinds.EntryKind.{EntryKind}
-use Rattle.reg_terms.specs.declared.entry_kinds.EntryKind.TheVariants.{SubjectAdd, GroupAdd, GroupDelete, RowAdd, RowRemove, RowWindow, MemberBegin, MemberEnd}
+use Rattle.reg_terms.specs.declared.entry_kinds.EntryKind.TheVariants.{SubjectAdd, GroupAdd, GroupDelete, RowAdd, RowRemove, RowWindow, DefinitionAdd, AttributeAdd, AttributeDelete, AssignAdd, AssignRemove, ValueAdd, MemberBegin, MemberEnd}
+use Rattle.reg_audit.specs.Definitions.{definition_in}
 use Rattle.reg_audit.specs.Lines.{log_of}
 use Rattle.reg_audit.specs.Lives.{life_of, gone_of, gone_name, gone_named}
 use Rattle.reg_audit.specs.Steps.{Step}
@@ -117,3 +122,52 @@ acted = acted_step 9 (all_happened row_comes with_staff) row_goes rules_act with
 pub rules_told : map {B = EntryKind × ℕ} (λ (l : Line). (l.kind, l.number)) (log_of acted) ≡ (RowRemove, 0) ∷ (RowRemove, 3) ∷ (RowWindow, 4) ∷ (MemberEnd, 0) ∷ (MemberEnd, 0) ∷ []
 unfolding log_of turns member acted row_goes rules_act with_others with_friends
 rules_told = refl
+
+-- review (1) is an attribute of the definition due (1); it is assigned to staff, gets a value, is taken away, and goes
+pub due : List Event
+due = DefinitionMade (record { id = 1; folder = 0; extension = codes "due"; owners = record { folder = false; group = true; subject = false }; several = false; kind = Timestamp; many = false }) ∷ []
+
+pub review : List Event
+review = AttributeMade (record { id = 1; folder = 0; extension = codes "review"; definition = 1 }) ∷ []
+
+pub assigned : List Event
+assigned = AssignMade (record { id = 1; attribute = 1; owner = Group 1; values = [] }) ∷ []
+
+pub valued : List Event
+valued = ValueAdded 1 (Moment 20) ∷ []
+
+pub unassigned : List Event
+unassigned = AssignGone 1 ∷ []
+
+pub with_review : Lists
+with_review = all_happened (due ++ review) with_staff
+
+pub attributes : List Step
+attributes =
+    step 5 with_staff due nothing nothing
+    ∷ step 5 (all_happened due with_staff) review nothing nothing
+    ∷ step 6 with_review assigned nothing nothing
+    ∷ step 7 (all_happened assigned with_review) valued nothing nothing
+    ∷ step 8 (all_happened valued (all_happened assigned with_review)) unassigned nothing nothing
+    ∷ step 9 with_review (AttributeGone 1 ∷ []) nothing nothing
+    ∷ []
+
+-- each entry of the assignment has its owner and its number
+pub attributes_told : map {B = EntryKind × Option Object × ℕ} (λ (l : Line). (l.kind, l.object, l.number)) (log_of attributes)
+    ≡ (DefinitionAdd, Some (Def 1), 0)
+    ∷ (AttributeAdd, Some (Attr 1), 0)
+    ∷ (AssignAdd, Some (Group 1), 1)
+    ∷ (ValueAdd, Some (Group 1), 1)
+    ∷ (AssignRemove, Some (Group 1), 1)
+    ∷ (AttributeDelete, Some (Attr 1), 0)
+    ∷ []
+unfolding log_of turns member attributes step due review assigned valued unassigned with_review with_staff ann staff
+attributes_told = refl
+
+pub definition_known : definition_in 1 attributes ≡ Some 1
+unfolding definition_in attributes step due review assigned valued unassigned
+definition_known = refl
+
+pub attribute_lived : life_of (Attr 1) attributes ≡ Some (5, Some 9)
+unfolding life_of attributes step due review assigned valued unassigned
+attribute_lived = refl

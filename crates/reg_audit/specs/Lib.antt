@@ -1,8 +1,10 @@
 pub mod Steps
+pub mod Assigning
 pub mod Objects
 pub mod Touched
 pub mod Lines
 pub mod Lives
+pub mod Definitions
 pub mod Consumers
 pub mod Notes
 pub mod Kept

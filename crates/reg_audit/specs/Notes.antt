@@ -5,25 +5,39 @@ use Rattle.reg_terms.specs.declared.kinds.Object.{Object}
 use Rattle.reg_facts.specs.Lists.{Lists}
 use Rattle.reg_rules.specs.declared.actions.Action.{Action}
 use Rattle.reg_log.specs.declared.entries.Line.{Line}
+use Rattle.reg_pit.specs.declared.assign_change.AssignChange.{AssignChange}
+use Rattle.reg_audit.specs.Assigning.{assign_changes}
 use Rattle.reg_audit.specs.Consumers.{consumer_note}
+use Rattle.reg_audit.specs.Definitions.{attributes_made}
 use Rattle.reg_audit.specs.Lines.{action_lines, direct_lines}
 use Rattle.reg_audit.specs.Lives.{leaving}
 use Rattle.reg_audit.specs.Objects.{made_by}
 use Rattle.reg_audit.specs.declared.consumers.ConsumerNote.{ConsumerNote}
 use Rattle.reg_audit.specs.declared.gone.Gone.{Gone}
 
--- the moment, the entries of what is changed directly, the objects that are made, those that go with their names, and what
--- happens to consumers; once rules acted, the entries have what they did too
+-- the moment, the entries of what is changed directly, the objects that are made, those that go with their names, the attributes
+-- that are made with their definitions, and what happens to assignments and to consumers; once rules acted, the entries have what
+-- they did too
 pub record StepNotes : Type 0 where
   pub at : ℕ
   pub lines : List Line
   pub made : List Object
   pub gone : List Gone
+  pub attributes : List (ℕ × ℕ)
+  pub assigns : List AssignChange
   pub consumers : List ConsumerNote
 
 -- what events at a moment change, by the facts before them
 abbrev pub notes_of : ℕ → Lists → List Event → StepNotes
-notes_of at before events = record { at = at; lines = direct_lines at events; made = made_by events; gone = leaving before events; consumers = filter_map consumer_note events }
+notes_of at before events = record {
+  at = at;
+  lines = direct_lines at before events;
+  made = made_by events;
+  gone = leaving before events;
+  attributes = attributes_made events;
+  assigns = assign_changes events;
+  consumers = filter_map consumer_note events;
+}
 
 -- and with what rules do after them, of which entries tell behind the rest
 abbrev pub acted_notes : StepNotes → List Action → StepNotes

@@ -4,21 +4,25 @@ use Rattle.std.specs.Option.{is_some}
 use Rattle.std.specs.List.{list_any}
 use Rattle.reg_terms.specs.Kinds.{same_object}
 use Rattle.reg_terms.specs.declared.event.Event.{Event}
-use Rattle.reg_terms.specs.declared.event.Event.TheVariants.{FolderMade, FolderGone, SubjectMade, GroupMade, GroupGone}
+use Rattle.reg_terms.specs.declared.event.Event.TheVariants.{FolderMade, FolderGone, SubjectMade, GroupMade, GroupGone, DefinitionMade, DefinitionGone, AttributeMade, AttributeGone}
 use Rattle.reg_terms.specs.declared.kinds.Object.{Object}
-use Rattle.reg_terms.specs.declared.kinds.Object.TheVariants.{Folder, Group, Subject}
+use Rattle.reg_terms.specs.declared.kinds.Object.TheVariants.{Folder, Group, Def, Attr, Subject}
 
 -- the object that an event makes
 abbrev pub object_made : Event → Option Object
 object_made (FolderMade row) = Some (Folder row.id)
 object_made (SubjectMade row) = Some (Subject row.id)
 object_made (GroupMade row) = Some (Group row.id)
+object_made (DefinitionMade row) = Some (Def row.id)
+object_made (AttributeMade row) = Some (Attr row.id)
 object_made _ = None
 
 -- the object that goes by an event
 abbrev pub object_gone : Event → Option Object
 object_gone (FolderGone d) = Some (Folder d)
 object_gone (GroupGone g) = Some (Group g)
+object_gone (DefinitionGone a) = Some (Def a)
+object_gone (AttributeGone a) = Some (Attr a)
 object_gone _ = None
 
 -- whether an object goes by an event

@@ -9,6 +9,7 @@ use Rattle.reg_effect.specs.declared.live.Live.{Live}
 use Rattle.reg_effect.specs.Changes.{nothing}
 use Rattle.reg_effect.specs.Member.{member}
 use Rattle.reg_rules.specs.declared.actions.Action.{Action}
+use Rattle.reg_audit.specs.Assigning.{AllMakeNew}
 
 -- one step: its moment, the facts before it, what happens to them in order, what rules do after that, in order, the facts after all
 -- of it, and the live data before and after
@@ -70,10 +71,13 @@ facts_by t steps = facts_of (last_by t steps)
 abbrev pub consumers_by : List Step → List ConsumerRow
 consumers_by steps = (last_facts steps).consumers
 
--- a step comes after others: it isn't earlier, it begins with the memberships and the facts with which the last one ended, and
--- its events alone change the consumers
+-- a step comes after others: it isn't earlier, it begins with the memberships and the facts with which the last one ended, its
+-- events alone change the consumers and the assignments, and the assignments that they make are new
 pub record FollowsOn (steps : List Step) (step : Step) : Type 0 where
   pub later : last_moment steps ≤ step.at
   pub members : (g s : ℕ) → member step.live g s ≡ member (last_live steps) g s
   pub before : step.before ≡ last_facts steps
   pub consumers_after : step.after.consumers ≡ (all_happened step.events step.before).consumers
+  pub assigns_after : step.after.assigns ≡ (all_happened step.events step.before).assigns
+  pub made_after : step.after.made.assigns ≡ (all_happened step.events step.before).made.assigns
+  pub new_assigns : AllMakeNew step.events step.before

@@ -7,11 +7,13 @@ ghost use Rattle.reg_effect.specs.Turned.{turns};
 ghost use Rattle.reg_facts.specs.Consumers.{consumer_place};
 ghost use Rattle.reg_log.specs.Places.{place_of};
 ghost use Rattle.reg_pit.specs.Grants.{has_grant};
-ghost use Rattle.reg_pit.specs.Past.{was_member, was_granted, wheel_at, NotedBy};
+ghost use Rattle.reg_pit.specs.Past.{assigns_at, was_member, was_granted, wheel_at, NotedBy};
 ghost use Rattle.reg_priv.specs.Grants.{grants};
 ghost use Rattle.reg_priv.specs.May.{wheel};
 ghost use Rattle.reg_terms.specs.declared.kinds.Holder.{Holder};
 ghost use Rattle.reg_terms.specs.declared.kinds.Object.{Object};
+ghost use Rattle.reg_audit.specs.Assigning.{assign_changes, MayNote};
+ghost use Rattle.reg_audit.specs.Definitions.{definition_in};
 ghost use Rattle.reg_audit.specs.Lines.{log_of};
 ghost use Rattle.reg_audit.specs.Lives.{life_of, gone_of, gone_name, gone_named};
 ghost use Rattle.reg_audit.specs.Notes.{acted_notes, notes_of};
@@ -21,7 +23,7 @@ ghost use Rattle.reg_audit.specs.Touched.{KnowsTouched};
 use crate::Notes;
 use crate::noting::note_past;
 use crate::records::Records;
-use reg_base::{GroupId, Moment, SubjectId, Text};
+use reg_base::{AttrDefId, AttrId, GroupId, Moment, SubjectId, Text};
 use reg_facts::Facts;
 use reg_log::{ChangeLog, Places};
 use reg_pit::Past;
@@ -29,8 +31,8 @@ use reg_terms::Object;
 use std::alloc::{AllocError, Global};
 
 /// What the steps of a registry leave for later: the change log, the past of effective memberships,
-/// of grants and of the wheel group, when objects were made and went, the last names of what is
-/// gone, and the places of consumers.
+/// of grants, of assignments and of the wheel group, when objects were made and went, the last
+/// names of what is gone, the definitions of attributes, and the places of consumers.
 #[derive(Drop)]
 pub struct Audit {
     records: Records,
@@ -61,19 +63,22 @@ impl Audit {
         facts: &Facts,
         touched: &[Object],
     ) -> Result<Audit, AllocError>
-        requires { NotedBy notes.at self.past }
+        requires { MayNote notes.at notes.assigns self.past }
         ensures { IfOk result (λ audit. (steps : List Step) (step : Step) → IsAudit steps self → FollowsOn steps step → notes ≡ acted_notes (notes_of step.at step.before step.events) step.actions → turned.now ≡ turns step.live step.live_after → facts.now ≡ step.after → KnowsTouched step.before step.after touched.now → IsAudit (steps ++ step ∷ []) audit) }
     {
         reg_effect::law_turns();
         let Audit { mut records, past } = self;
         records.note(alloc, &notes, turned)?;
-        let past = note_past(alloc, past, turned, facts, touched, notes.at)?;
+        let at = notes.at;
+        let changes = notes.into_assigns();
+        let past = note_past(alloc, past, turned, facts, touched, changes, at)?;
         Ok(Audit { records, past })
     }
 
-    /// The next step may be noted: nothing was noted later than its moment. It does nothing.
+    /// The next step may be noted: nothing was noted later than its moment, and each assignment
+    /// that it makes has a later id than all that were noted. It does nothing.
     pub fn law_follows(&self)
-        ensures { (steps : List Step) (step : Step) → IsAudit steps self.now → FollowsOn steps step → NotedBy step.at self.now.past }
+        ensures { (steps : List Step) (step : Step) → IsAudit steps self.now → FollowsOn steps step → MayNote step.at (assign_changes step.events) self.now.past }
     {
         self.past.law_noted_later();
     }
@@ -92,12 +97,13 @@ impl Audit {
         &self.records.places
     }
 
-    /// Who was an effective member at each moment, who held which privilege on what, and which was
-    /// the wheel group. Takes no memory.
+    /// Who was an effective member at each moment, who held which privilege on what, which was the
+    /// wheel group, and what was assigned. Takes no memory.
     pub fn past(&self) -> &Past
         ensures members { (steps : List Step) → IsAudit steps self.now → (t g s : ℕ) → was_member result.now g s t ≡ member (live_by t steps) g s }
         ensures granted { (steps : List Step) → IsAudit steps self.now → (t : ℕ) (o : Object) (p : Privilege) (h : Holder) → was_granted result.now o p h t ≡ has_grant (grants o (facts_by t steps)) p h }
         ensures wheel { (steps : List Step) → IsAudit steps self.now → (t : ℕ) → wheel_at result.now t ≡ wheel (facts_by t steps) }
+        ensures assigns { (steps : List Step) → IsAudit steps self.now → (t : ℕ) → assigns_at result.now t ≡ (facts_by t steps).assigns }
         ensures noted { (steps : List Step) → IsAudit steps self.now → NotedBy (last_moment steps) result.now }
     {
         &self.past
@@ -109,6 +115,13 @@ impl Audit {
         ensures { (steps : List Step) → IsAudit steps self.now → result ≡ life_of object steps }
     {
         self.records.lives.life(&object)
+    }
+
+    /// The definition of which an attribute was made: none if it was never made. Takes no memory.
+    pub fn def_of(&self, attribute: AttrId) -> Option<AttrDefId>
+        ensures { (steps : List Step) → IsAudit steps self.now → result ≡ definition_in attribute steps }
+    {
+        self.records.definitions.of(attribute)
     }
 
     /// The groups that are gone, in the order in which they went. Takes no memory.

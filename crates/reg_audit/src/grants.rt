@@ -5,7 +5,7 @@ ghost use Rattle.reg_terms.specs.Kinds.{same_object};
 ghost use Rattle.reg_terms.specs.declared.kinds.Object.{Object};
 ghost use Rattle.reg_terms.specs.declared.kinds.Holder.{Holder};
 ghost use Rattle.reg_pit.specs.Grants.{has_grant};
-ghost use Rattle.reg_pit.specs.Past.{was_granted, NotedBy, KeepsMembers, KeepsWheel};
+ghost use Rattle.reg_pit.specs.Past.{was_granted, NotedBy, KeepsMembers, KeepsWheel, KeepsAssigns};
 ghost use Rattle.reg_priv.specs.Grants.{grants};
 ghost use Rattle.reg_priv.specs.Touched.{is_listed};
 
@@ -29,6 +29,7 @@ fn note_holders(
     ensures noted { IfOk result (λ new. (o : Object) (p : Privilege) (h : Holder) (t : ℕ) → was_granted new o p h t ≡ (if same_object o object && nat_le at t then has_grant (grants object facts.now) p h else was_granted past o p h t)) }
     ensures members { IfOk result (λ new. KeepsMembers past new) }
     ensures wheel { IfOk result (λ new. KeepsWheel past new) }
+    ensures assigns { IfOk result (λ new. KeepsAssigns past new) }
     ensures last { IfOk result (λ new. NotedBy at new) }
 {
     let held = holders(alloc, facts, &object)?;
@@ -49,6 +50,7 @@ pub(crate) fn note_touched(
     ensures noted { IfOk result (λ new. (o : Object) (p : Privilege) (h : Holder) (t : ℕ) → was_granted new o p h t ≡ (if is_listed o touched.now && nat_le at t then has_grant (grants o facts.now) p h else was_granted past o p h t)) }
     ensures members { IfOk result (λ new. KeepsMembers past new) }
     ensures wheel { IfOk result (λ new. KeepsWheel past new) }
+    ensures assigns { IfOk result (λ new. KeepsAssigns past new) }
     ensures last { IfOk result (λ new. NotedBy at new) }
 {
     let mut past = past;

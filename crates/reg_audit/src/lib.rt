@@ -1,10 +1,13 @@
 //! What the steps of a registry leave for later: the change log, the past of effective memberships,
-//! of grants and of the wheel group, when objects were made and went, the last names of what is
-//! gone, and the places of consumers. An accepted command or a date that comes is a step.
+//! of grants, of assignments and of the wheel group, when objects were made and went, the last
+//! names of what is gone, the definitions of attributes, and the places of consumers. An accepted
+//! command or a date that comes is a step.
 #![tactic(auto)]
 
+mod assigning;
 mod audit;
 mod consumers;
+mod definitions;
 mod departed;
 mod gone;
 mod grants;

@@ -1,9 +1,12 @@
 // The entries of events, of what rules did, and of memberships that begin or end.
 ghost use Rattle.std.specs.Prelude.{◌≡◌};
-ghost use Rattle.reg_audit.specs.Lines.{acted_line, action_line, line_of, object_line, row_line, rule_line, grant_line, entity_of, turn_line};
+ghost use Rattle.reg_audit.specs.Lines.{acted_line, action_line, assign_line, assign_owner, line_of, object_line, row_line, rule_line, grant_line, entity_of, turn_line};
 ghost use Rattle.reg_terms.specs.declared.kinds.Object.TheVariants as object;
 
-use reg_base::{FolderId, GroupId, Moment, Privilege, RuleId, SubjectId};
+use reg_base::{
+    AssignId, AttrDefId, AttrId, FolderId, GroupId, Moment, Privilege, RuleId, SubjectId,
+};
+use reg_facts::Facts;
 use reg_log::{EntryKind, Line};
 use reg_rules::Action;
 use reg_terms::{Event, GrantRow, Holder, InheritRow, Member, Object, privilege_code};
@@ -33,6 +36,20 @@ fn group_line(at: Moment, kind: EntryKind, group: GroupId) -> Line
     ensures { result ≡ object_line at kind (object.Group group) }
 {
     object_line(at, kind, Object::Group(group))
+}
+
+/// An entry of a definition alone.
+fn definition_line(at: Moment, kind: EntryKind, definition: AttrDefId) -> Line
+    ensures { result ≡ object_line at kind (object.Def definition) }
+{
+    object_line(at, kind, Object::Def(definition))
+}
+
+/// An entry of an attribute alone.
+fn attribute_line(at: Moment, kind: EntryKind, attribute: AttrId) -> Line
+    ensures { result ≡ object_line at kind (object.Attr attribute) }
+{
+    object_line(at, kind, Object::Attr(attribute))
 }
 
 /// A member as an entity.
@@ -110,9 +127,37 @@ fn rule_line(at: Moment, kind: EntryKind, id: RuleId) -> Line
     }
 }
 
-/// The entry of an event, if it makes one.
-pub fn line_of(at: Moment, event: &Event) -> Option<Line>
-    ensures { result ≡ line_of at event.now }
+/// The owner of an assignment, if that stands.
+fn assign_owner(facts: &Facts, assign: AssignId) -> Option<Object>
+    ensures { result ≡ assign_owner assign facts.now }
+{
+    let row = facts.assign(assign.number() as u64)?;
+    Some(row.owner)
+}
+
+/// An entry of an assignment to an owner.
+fn owner_line(at: Moment, kind: EntryKind, owner: Option<Object>, assign: AssignId) -> Line
+    ensures { result ≡ assign_line at kind owner assign }
+{
+    Line {
+        at,
+        kind,
+        object: owner,
+        entity: None,
+        number: assign.number() as u64,
+    }
+}
+
+/// An entry of an assignment to the owner that it has in the facts.
+fn assign_line(at: Moment, kind: EntryKind, facts: &Facts, assign: AssignId) -> Line
+    ensures { result ≡ assign_line at kind (assign_owner assign facts.now) assign }
+{
+    owner_line(at, kind, assign_owner(facts, assign), assign)
+}
+
+/// The entry of an event, if it makes one, by the facts before all events of its step.
+pub fn line_of(at: Moment, facts: &Facts, event: &Event) -> Option<Line>
+    ensures { result ≡ line_of at facts.now event.now }
 {
     let line = match event {
         Event::FolderMade { row } => folder_line(at, EntryKind::FolderAdd, row.id),
@@ -137,6 +182,22 @@ pub fn line_of(at: Moment, event: &Event) -> Option<Line>
         Event::GrantRemoved { row } => grant_line(at, EntryKind::GrantRemove, row),
         Event::InheritAdded { row } => inherit_line(at, EntryKind::InheritAdd, row),
         Event::InheritRemoved { row } => inherit_line(at, EntryKind::InheritRemove, row),
+        Event::DefinitionMade { row } => definition_line(at, EntryKind::DefinitionAdd, row.id),
+        Event::DefinitionGone { definition } => {
+            definition_line(at, EntryKind::DefinitionDelete, *definition)
+        }
+        Event::AttributeMade { row } => attribute_line(at, EntryKind::AttributeAdd, row.id),
+        Event::AttributeGone { attribute } => {
+            attribute_line(at, EntryKind::AttributeDelete, *attribute)
+        }
+        Event::AssignMade { row } => {
+            owner_line(at, EntryKind::AssignAdd, Some(row.owner), row.id)
+        }
+        Event::AssignGone { assign } => assign_line(at, EntryKind::AssignRemove, facts, *assign),
+        Event::ValueAdded { assign, .. } => assign_line(at, EntryKind::ValueAdd, facts, *assign),
+        Event::ValueRemoved { assign, .. } => {
+            assign_line(at, EntryKind::ValueRemove, facts, *assign)
+        }
         Event::RuleMade { row } => rule_line(at, EntryKind::RuleAdd, row.id),
         Event::RuleGone { rule } => rule_line(at, EntryKind::RuleDelete, *rule),
         Event::ConsumerAdded { .. } | Event::ConsumerAcked { .. } => return None,

@@ -8,27 +8,33 @@ ghost use Rattle.reg_audit.specs.Lives.{gone_from, leaving};
 ghost use Rattle.reg_audit.specs.Notes.{notes_of};
 ghost use Rattle.reg_audit.specs.Objects.{object_made, object_gone, is_deletion, made_by, gone_by};
 
+use crate::assigning::assign_changes;
 use crate::consumers::consumer_notes;
+use crate::definitions::attributes_made;
 use crate::lines::{action_line, line_of};
 use crate::{ConsumerNote, Gone};
-use reg_base::{Moment, Text};
+use reg_base::{AttrDefId, AttrId, Moment, Text};
 use reg_facts::Facts;
 use reg_log::{EntryKind, Line};
 use reg_names::name_of;
+use reg_pit::AssignChange;
 use reg_rules::Action;
 use reg_terms::{Event, Holder, Object};
 use std::alloc::{AllocError, Global};
 use std::marker::Model;
 
 /// What a step changes itself, taken before it is carried out: its moment, the entries of what it
-/// changes directly, what it makes, what goes with its names, and what it does to consumers. What
-/// rules do after it is put to the entries once they acted.
+/// changes directly, what it makes, what goes with its names, the attributes that it makes with
+/// their definitions, and what it does to assignments and to consumers. What rules do after it is
+/// put to the entries once they acted.
 #[derive(Drop)]
 pub struct Notes {
     pub(crate) at: Moment,
     pub(crate) lines: Vec<Line>,
     pub(crate) made: Vec<Object>,
     pub(crate) gone: Vec<Gone>,
+    pub(crate) attributes: Vec<(AttrId, AttrDefId)>,
+    pub(crate) assigns: Vec<AssignChange>,
     pub(crate) consumers: Vec<ConsumerNote>,
 }
 
@@ -42,6 +48,8 @@ impl Model for Notes {
       lines = n.lines.items;
       made = n.made.items;
       gone = n.gone.items;
+      attributes = n.attributes.items;
+      assigns = n.assigns.items;
       consumers = n.consumers.items;
     } };
 }
@@ -51,12 +59,19 @@ impl Notes {
 
     /// These, and the entries of what rules did after the step's events. Where they did nothing it
     /// takes no memory. The only error is out of memory, and all is given up then.
-    pub fn with_actions(self, alloc: Global, actions: &[Action]) -> Result<Notes, AllocError>
+    pub fn with_actions(self, actions: &[Action]) -> Result<Notes, AllocError>
         ensures { IfOk result (λ notes. notes ≡ acted_notes self actions.now) }
     {
         let mut notes = self;
         add_actions(&mut notes.lines, notes.at, actions)?;
         Ok(notes)
+    }
+
+    /// What the step does to assignments.
+    pub(crate) fn into_assigns(self) -> Vec<AssignChange>
+        ensures { result.items ≡ self.assigns }
+    {
+        self.assigns
     }
 }
 
@@ -108,6 +123,8 @@ fn object_made(event: &Event) -> Option<Object>
         Event::FolderMade { row } => Some(Object::Folder(row.id)),
         Event::SubjectMade { row } => Some(Object::Subject(row.id)),
         Event::GroupMade { row } => Some(Object::Group(row.id)),
+        Event::DefinitionMade { row } => Some(Object::Def(row.id)),
+        Event::AttributeMade { row } => Some(Object::Attr(row.id)),
         _ => None,
     }
 }
@@ -119,6 +136,8 @@ fn object_gone(event: &Event) -> Option<Object>
     match event {
         Event::FolderGone { folder } => Some(Object::Folder(*folder)),
         Event::GroupGone { group } => Some(Object::Group(*group)),
+        Event::DefinitionGone { definition } => Some(Object::Def(*definition)),
+        Event::AttributeGone { attribute } => Some(Object::Attr(*attribute)),
         _ => None,
     }
 }
@@ -144,15 +163,21 @@ fn is_told(deletion: bool, event: &Event) -> bool
     is_deletion(event) || !deletion
 }
 
-/// The entries of what is changed directly: what goes together with a deleted object makes none.
-fn direct_lines(alloc: Global, at: Moment, events: &[Event]) -> Result<Vec<Line>, AllocError>
-    ensures { IfOk result (λ lines. lines.items ≡ direct_lines at events.now) }
+/// The entries of what is changed directly, by the facts before: what goes together with a deleted
+/// object makes none.
+fn direct_lines(
+    alloc: Global,
+    at: Moment,
+    facts: &Facts,
+    events: &[Event],
+) -> Result<Vec<Line>, AllocError>
+    ensures { IfOk result (λ lines. lines.items ≡ direct_lines at facts.now events.now) }
 {
     let deletion = has_deletion(events);
     let mut lines = Vec::new(alloc);
     for event in events {
         if is_told(deletion, event) {
-            if let Some(line) = line_of(at, event) {
+            if let Some(line) = line_of(at, facts, event) {
                 lines.push(line)?;
             }
         }
@@ -217,9 +242,11 @@ pub fn notes_of(
 {
     Ok(Notes {
         at,
-        lines: direct_lines(alloc, at, events)?,
+        lines: direct_lines(alloc, at, facts, events)?,
         made: made_by(alloc, events)?,
         gone: leaving(alloc, facts, events)?,
+        attributes: attributes_made(alloc, events)?,
+        assigns: assign_changes(alloc, events)?,
         consumers: consumer_notes(alloc, events)?,
     })
 }

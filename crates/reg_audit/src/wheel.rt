@@ -1,6 +1,6 @@
 // The wheel group after a step.
 ghost use Rattle.std.specs.Prelude.{◌≡◌, ℕ, nat_le, Decides, IfOk, Option, None, Some, if◌then◌else◌};
-ghost use Rattle.reg_pit.specs.Past.{wheel_at, NotedBy, KeepsMembers, KeepsGrants};
+ghost use Rattle.reg_pit.specs.Past.{wheel_at, NotedBy, KeepsMembers, KeepsGrants, KeepsAssigns};
 
 use reg_base::{GroupId, Moment};
 use reg_pit::Past;
@@ -27,6 +27,7 @@ pub(crate) fn note_wheel(past: Past, wheel: Option<GroupId>, at: Moment) -> Resu
     ensures noted { IfOk result (λ new. (t : ℕ) → wheel_at new t ≡ (if nat_le at t then wheel else wheel_at past t)) }
     ensures members { IfOk result (λ new. KeepsMembers past new) }
     ensures grants { IfOk result (λ new. KeepsGrants past new) }
+    ensures assigns { IfOk result (λ new. KeepsAssigns past new) }
     ensures last { IfOk result (λ new. NotedBy at new) }
 {
     past.law_stays();

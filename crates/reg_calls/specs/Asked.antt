@@ -20,7 +20,7 @@ is_built route.Folder = true
 is_built route.Groups = true
 is_built route.Grants = true
 is_built route.Privileges = true
-is_built route.Attributes = false
+is_built route.Attributes = true
 is_built route.Log = true
 is_built route.Admin = false
 

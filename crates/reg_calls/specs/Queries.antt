@@ -55,6 +55,10 @@ query_by route.Privileges p = do
   entity ← entity_from (codes "entity") (entity_text p)
   at ← moment_from (codes "at") p.at
   Ok (query.May object entity at)
+query_by route.Attributes p = do
+  object ← object_from (codes "object") p.path
+  at ← moment_from (codes "at") p.at
+  Ok (query.Attributes object at)
 query_by route.Log p = do
   consumer ← extension_from (codes "consumer") p.path
   max ← number_from (codes "max") p.max

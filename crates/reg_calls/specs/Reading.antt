@@ -3,7 +3,6 @@ use Rattle.std.specs.Prelude.{ℕ, List, Result, Ok, Err, if◌then◌else◌}
 use Rattle.std.specs.Str.{is_utf8}
 use Rattle.reg_terms.specs.declared.refusal.Refusal.{Refusal}
 use Rattle.reg_terms.specs.declared.refusal.Refusal.TheVariants.{BadRequest}
-use Rattle.reg_terms.specs.declared.query.Query.{Query}
 use Rattle.reg_terms.specs.declared.request.Request.{Request}
 use Rattle.reg_terms.specs.declared.request.Op.TheVariants as op
 use Rattle.reg_http.specs.Parameters.{parameter_in, parameter_name, read_by}

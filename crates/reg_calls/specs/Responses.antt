@@ -1,7 +1,7 @@
 -- The response to a message.
 use Rattle.std.specs.Prelude.{ℕ, List, [], ◌∷◌, ◌++◌, Bool, true, Option, Some, None}
 use Rattle.reg_terms.specs.declared.refusal.Refusal.{Refusal}
-use Rattle.reg_terms.specs.declared.refusal.Refusal.TheVariants.{BadRequest, BadName, BadMoment, BadWindow, WrongKind, NoCaller, Denied, NotFound, NoSuch, TooLong, NoRoute, NoMethod, NoLength, Coding, HeadTooLong, NoCallerHeader, BadHead}
+use Rattle.reg_terms.specs.declared.refusal.Refusal.TheVariants.{BadRequest, BadName, BadMoment, BadWindow, WrongKind, WrongValue, NoCaller, Denied, NotFound, NoSuch, TooLong, NoRoute, NoMethod, NoLength, Coding, HeadTooLong, NoCallerHeader, BadHead}
 use Rattle.reg_terms.specs.declared.reply.Reply.{Reply}
 use Rattle.reg_terms.specs.declared.reply.Reply.TheVariants as reply
 use Rattle.reg_http.specs.Responses.{response}
@@ -17,6 +17,7 @@ refusal_status (BadName field) = 400
 refusal_status (BadMoment field) = 400
 refusal_status BadWindow = 400
 refusal_status (WrongKind field) = 400
+refusal_status WrongValue = 400
 refusal_status NoCallerHeader = 400
 refusal_status BadHead = 400
 refusal_status NoCaller = 403

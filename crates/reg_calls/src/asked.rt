@@ -32,8 +32,9 @@ fn is_built(route: &Route) -> bool
         | Route::Groups
         | Route::Grants
         | Route::Privileges
+        | Route::Attributes
         | Route::Log => true,
-        Route::Load | Route::Attributes | Route::Admin => false,
+        Route::Load | Route::Admin => false,
     }
 }
 

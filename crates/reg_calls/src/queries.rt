@@ -224,6 +224,16 @@ fn may(alloc: Global, parameters: &Parameters) -> Result<Query, Unread>
     Ok(Query::May { object, entity, at })
 }
 
+#[tactic(auto, using(crate::proofs::Formed::attributes_formed))]
+fn attributes(alloc: Global, parameters: &Parameters) -> Result<Query, Unread>
+    ensures read { Gives result (query_by route.Attributes parameters.now) }
+    ensures form { IfOk result (λ query. query_has_form query ≡ true) }
+{
+    let object = object_from(alloc, "object", &parameters.path)?;
+    let at = moment_from(alloc, "at", &parameters.at)?;
+    Ok(Query::Attributes { object, at })
+}
+
 /// The query that a route asks. BadRequest comes before BadName.
 pub(crate) fn query_by(
     alloc: Global,
@@ -243,6 +253,7 @@ pub(crate) fn query_by(
         Route::Groups => groups(alloc, parameters),
         Route::Grants => grants(alloc, parameters),
         Route::Privileges => may(alloc, parameters),
+        Route::Attributes => attributes(alloc, parameters),
         _ => Err(bad(alloc, "")),
     }
 }

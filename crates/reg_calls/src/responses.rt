@@ -21,6 +21,7 @@ fn refusal_status(refusal: &Refusal) -> u16
         | Refusal::BadMoment { .. }
         | Refusal::BadWindow
         | Refusal::WrongKind { .. }
+        | Refusal::WrongValue
         | Refusal::NoCallerHeader
         | Refusal::BadHead => 400,
         Refusal::NoCaller | Refusal::Denied { .. } => 403,

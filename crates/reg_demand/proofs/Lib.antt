@@ -1,2 +1,3 @@
+mod Firsts
 mod Placing
 pub mod Worked

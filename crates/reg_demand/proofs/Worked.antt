@@ -1,23 +1,27 @@
 -- Worked examples computed: an inherited privilege is lost with a move out of its scope, what isn't seen comes before what is lacked, and a holder that isn't seen counts as found where its grant stands.
-use Rattle.std.proofs.Common.{◌≡◌, List, [], ◌∷◌, Option, Some, None, codes, refl}
+use Rattle.std.proofs.Common.{◌≡◌, List, [], ◌∷◌, Option, Some, None, codes, refl, true, false}
 use Rattle.reg_base.specs.Entities.{entity_of}
 use Rattle.reg_base.specs.NameParts.{extension_of, folder_of}
 use Rattle.reg_base.specs.declared.entity.Entity.{Entity}
 use Rattle.reg_base.specs.declared.entity.Entity.TheVariants as entity
 use Rattle.reg_base.specs.declared.privilege.Privilege.TheVariants as privilege
 use Rattle.reg_terms.specs.declared.command.Command.{Command}
-use Rattle.reg_terms.specs.declared.command.Command.TheVariants.{FolderAdd, FolderRename, FolderMove, GroupAdd, GroupRename, SubjectAdd, MemberAdd, MemberRemove, GrantAdd, GrantRemove, InheritAdd, RuleVeto, RuleDelete, ConsumerAdd, ConsumerAck}
+use Rattle.reg_terms.specs.declared.command.Command.TheVariants.{FolderAdd, FolderRename, FolderMove, GroupAdd, GroupRename, SubjectAdd, MemberAdd, MemberRemove, GrantAdd, GrantRemove, InheritAdd, RuleVeto, RuleDelete, ConsumerAdd, ConsumerAck, AttrdefAdd, AttrAdd, AttrDelete, AssignAdd, ValueAdd}
+use Rattle.reg_terms.specs.declared.kinds.DefKind.TheVariants as values
 use Rattle.reg_terms.specs.declared.kinds.InheritKind.TheVariants as kind
+use Rattle.reg_terms.specs.declared.kinds.Owners.{Owners}
 use Rattle.reg_terms.specs.declared.kinds.Scope.TheVariants as scope
+use Rattle.reg_terms.specs.declared.kinds.Value.TheVariants as given
 use Rattle.reg_terms.specs.declared.refusal.Refusal.{Refusal}
 use Rattle.reg_terms.specs.declared.refusal.Refusal.TheVariants.{NoCaller, NotFound, Denied}
 use Rattle.reg_facts.specs.Events.{edit, events_of}
 use Rattle.reg_facts.specs.Grants.{object_of}
 use Rattle.reg_facts.specs.Lists.{Lists, start}
-use Rattle.reg_facts.specs.Naming.{resolve, placed, lies_in}
+use Rattle.reg_facts.specs.Naming.{resolve, placed, lies_in, path, extensions, name_of}
 use Rattle.reg_effect.specs.Changes.{live_of}
 use Rattle.reg_effect.specs.Member.{member}
-use Rattle.reg_demand.specs.Refusing.{refused}
+use Rattle.reg_priv.specs.declared.who.Who.TheVariants as who
+use Rattle.reg_demand.specs.Refusing.{refused, barred_attributes, first_of}
 
 -- the facts after some commands of the registry itself
 abbrev after : List Command → Lists → Lists
@@ -145,3 +149,48 @@ rule_goes_by_root = refl
 pub no_caller : refused (live_of 0 folders.rows folders.composites) folders (entity.Person (codes "uni/eve")) (GroupRename (codes "none") (codes "x")) ≡ Some NoCaller
 unfolding folders bob ann events_of object_of resolve placed lies_in member extension_of folder_of
 no_caller = refl
+
+-- a definition and an attribute of it; bob sees both, and may make objects below app
+pub owners : Owners
+owners = record { folder = true; group = true; subject = true }
+
+pub noted : Lists
+noted =
+    after
+    (AttrdefAdd (codes "app:note") owners true values.Text false
+    ∷ AttrAdd (codes "app:first") (codes "app:note")
+    ∷ GrantAdd (codes "app:note") privilege.AttrView bob
+    ∷ GrantAdd (codes "app") privilege.Create bob
+    ∷ [])
+    folders
+
+pub attribute_asks_its_definition : of_bob noted (AttrAdd (codes "app:second") (codes "app:note")) ≡ Some (Denied (codes "app:note") (codes "attrAdmin"))
+unfolding noted owners folders bob ann events_of object_of resolve placed lies_in member extension_of folder_of
+attribute_asks_its_definition = refl
+
+-- of an attribute a denial names the definition
+pub definition_is_named : of_bob noted (AttrDelete (codes "app:first")) ≡ Some (Denied (codes "app:note") (codes "attrAdmin"))
+unfolding noted owners folders bob ann events_of object_of resolve placed lies_in member extension_of folder_of path extensions name_of
+definition_is_named = refl
+
+-- of a group its own privilege is asked first, where it is named as an owner may be
+pub owner_is_asked_first : of_bob noted (AssignAdd (codes "app:first") (codes "app:web:admins")) ≡ Some (Denied (codes "app:web:admins") (codes "groupAttrUpdate"))
+unfolding noted owners folders bob ann events_of object_of entity_of resolve placed lies_in member extension_of folder_of path extensions name_of
+owner_is_asked_first = refl
+
+pub no_owner_is_not_asked : of_bob noted (AssignAdd (codes "app:first") (codes "g:gsa/app:web:admins")) ≡ Some (Denied (codes "app:note") (codes "attrUpdate"))
+unfolding noted owners folders bob ann events_of object_of entity_of resolve placed lies_in member extension_of folder_of path extensions name_of
+no_owner_is_not_asked = refl
+
+pub person_is_not_asked : of_bob noted (ValueAdd (codes "app:first") (codes "uni/ann") 1 (given.Text (codes "x"))) ≡ Some (Denied (codes "app:note") (codes "attrUpdate"))
+unfolding noted owners folders bob ann events_of object_of entity_of resolve placed lies_in member extension_of folder_of path extensions name_of
+person_is_not_asked = refl
+
+pub reading_is_asked : first_of (barred_attributes (live_of 0 noted.rows noted.composites) noted (who.Person 1) (codes "app:web:admins")) ≡ Some (Denied (codes "app:web:admins") (codes "groupAttrRead"))
+unfolding noted owners folders bob ann events_of object_of entity_of resolve placed lies_in member extension_of folder_of
+reading_is_asked = refl
+
+-- who doesn't see the definition doesn't see its attributes
+pub unseen_attribute : of_bob (after (GrantRemove (codes "app:note") privilege.AttrView bob ∷ []) noted) (AssignAdd (codes "app:first") (codes "app")) ≡ Some (NotFound (codes "app:first"))
+unfolding noted owners folders bob ann events_of object_of entity_of resolve placed lies_in member extension_of folder_of
+unseen_attribute = refl

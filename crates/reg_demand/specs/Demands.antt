@@ -1,15 +1,16 @@
 -- What each command demands of its caller: privileges on the objects that it names, or root.
-use Rattle.std.specs.Prelude.{ℕ, List, [], ◌∷◌, Bool, true, false, Option, None, Some, codes, if◌then◌else◌}
+use Rattle.std.specs.Prelude.{ℕ, List, [], ◌∷◌, ◌++◌, Bool, true, false, Option, None, Some, codes, if◌then◌else◌}
 use Rattle.std.specs.Str.{bytes_eq}
 use Rattle.reg_base.specs.Entities.{entity_of}
 use Rattle.reg_base.specs.declared.entity.Entity.{Entity}
 use Rattle.reg_base.specs.declared.entity.Entity.TheVariants as entity
 use Rattle.reg_base.specs.declared.privilege.Privilege.{Privilege}
-use Rattle.reg_base.specs.declared.privilege.Privilege.TheVariants.{Admin, Update, Read, Optin, Optout, StemAdmin, Create, AttrAdmin}
+use Rattle.reg_base.specs.declared.privilege.Privilege.TheVariants.{Admin, Update, Read, Optin, Optout, GroupAttrRead, GroupAttrUpdate, StemAdmin, Create, StemAttrRead, StemAttrUpdate, AttrAdmin, AttrUpdate}
 use Rattle.reg_terms.specs.declared.command.Command.{Command}
-use Rattle.reg_terms.specs.declared.command.Command.TheVariants.{FolderAdd, FolderRename, FolderMove, FolderDelete, SubjectAdd, GroupAdd, GroupRename, GroupMove, GroupDelete, MemberAdd, MemberRemove, MemberWindow, CompositeSet, CompositeClear, GrantAdd, GrantRemove, InheritAdd, InheritRemove, RuleRemoveLost, RuleEndLost, RuleVeto, RuleOnCreate, RuleDelete, ConsumerAdd, ConsumerAck}
+use Rattle.reg_terms.specs.declared.command.Command.TheVariants.{FolderAdd, FolderRename, FolderMove, FolderDelete, SubjectAdd, GroupAdd, GroupRename, GroupMove, GroupDelete, MemberAdd, MemberRemove, MemberWindow, CompositeSet, CompositeClear, GrantAdd, GrantRemove, InheritAdd, InheritRemove, AttrdefAdd, AttrdefDelete, AttrAdd, AttrDelete, AssignAdd, AssignRemove, ValueAdd, ValueRemove, RuleRemoveLost, RuleEndLost, RuleVeto, RuleOnCreate, RuleDelete, ConsumerAdd, ConsumerAck}
 use Rattle.reg_terms.specs.declared.kinds.Object.{Object}
 use Rattle.reg_terms.specs.declared.kinds.Object.TheVariants as object
+use Rattle.reg_facts.specs.Attributes.{definition_id, attribute_id}
 use Rattle.reg_facts.specs.Edits.{the_id}
 use Rattle.reg_facts.specs.Grants.{object_of}
 use Rattle.reg_facts.specs.Lists.{Lists}
@@ -58,12 +59,16 @@ bare_text (Some entity.System) text = text
 bare_text (Some entity.Everyone) text = text
 bare_text None text = text
 
+-- on an attribute: what is asked of it is asked of its definition, which a denial names
+abbrev pub on_attribute : ℕ → Privilege → Lists → Demand
+on_attribute a p f = On (name_of (judged (object.Attr a) f) f) (object.Attr a) p
+
 -- the administration of an object: of an attribute that of its definition, which a denial names, and of a subject root
 abbrev pub admin_of : List ℕ → Object → Lists → Demand
 admin_of name (object.Folder d) f = On name (object.Folder d) StemAdmin
 admin_of name (object.Group g) f = On name (object.Group g) Admin
 admin_of name (object.Def a) f = On name (object.Def a) AttrAdmin
-admin_of name (object.Attr a) f = On (name_of (judged (object.Attr a) f) f) (object.Attr a) AttrAdmin
+admin_of name (object.Attr a) f = on_attribute a AttrAdmin f
 admin_of name (object.Subject s) f = Root
 
 -- the administration of what was found; of an entity of the registry itself, which is no object, it is root
@@ -74,6 +79,39 @@ admin_of_found name (Some o) f = admin_of name o f
 -- the administration of what a text names
 abbrev pub on_object : List ℕ → Lists → Demand
 on_object text f = admin_of_found (bare_text (entity_of text) text) (object_of text f) f
+
+-- ---- attributes
+
+-- on the definition of this name
+abbrev pub on_definition : List ℕ → Privilege → Lists → Demand
+on_definition name p f = On name (object.Def (the_id (definition_id name f))) p
+
+-- one privilege on a folder and another on a group, that has a text as its name; all else has none of the kind
+abbrev pub on_named : List ℕ → Option Object → Privilege → Privilege → List Demand
+on_named name (Some (object.Folder d)) p q = On name (object.Folder d) p ∷ []
+on_named name (Some (object.Group g)) p q = On name (object.Group g) q ∷ []
+on_named name (Some (object.Def a)) p q = []
+on_named name (Some (object.Attr a)) p q = []
+on_named name (Some (object.Subject s)) p q = []
+on_named name None p q = []
+
+-- the same on what a text names, of which this was found; of an entity nothing is asked: a person is of no such kind,
+-- and a group owns attributes by its name alone
+abbrev pub on_owner : Option Entity → List ℕ → Option Object → Privilege → Privilege → List Demand
+on_owner (Some e) text found p q = []
+on_owner None text found p q = on_named text found p q
+
+-- to assign an attribute and to change what is assigned: on the owner, and on the attribute's definition
+abbrev pub on_assignment : List ℕ → List ℕ → Lists → List Demand
+on_assignment attribute object f =
+    on_owner (entity_of object) object (object_of object f) StemAttrUpdate GroupAttrUpdate
+    ++ on_attribute (the_id (attribute_id attribute f)) AttrUpdate f ∷ []
+
+-- to be told what is assigned to what a text names
+abbrev pub on_assignments : List ℕ → Lists → List Demand
+on_assignments object f = on_owner (entity_of object) object (object_of object f) StemAttrRead GroupAttrRead
+
+-- ---- commands
 
 -- what a command demands, in order
 abbrev pub demands : Entity → Command → Lists → List Demand
@@ -95,6 +133,14 @@ demands by (GrantAdd object privilege holder) f = on_object object f ∷ []
 demands by (GrantRemove object privilege holder) f = on_object object f ∷ []
 demands by (InheritAdd folder kind scope privilege holder) f = on_folder folder StemAdmin f ∷ []
 demands by (InheritRemove folder kind scope privilege holder) f = on_folder folder StemAdmin f ∷ []
+demands by (AttrdefAdd definition owners several kind many) f = on_folder (home_of definition) Create f ∷ []
+demands by (AttrdefDelete definition) f = on_definition definition AttrAdmin f ∷ []
+demands by (AttrAdd attribute definition) f = on_folder (home_of attribute) Create f ∷ on_definition definition AttrAdmin f ∷ []
+demands by (AttrDelete attribute) f = on_attribute (the_id (attribute_id attribute f)) AttrAdmin f ∷ []
+demands by (AssignAdd attribute object) f = on_assignment attribute object f
+demands by (AssignRemove attribute object id) f = on_assignment attribute object f
+demands by (ValueAdd attribute object id value) f = on_assignment attribute object f
+demands by (ValueRemove attribute object id value) f = on_assignment attribute object f
 demands by (RuleRemoveLost check owner) f = Root ∷ []
 demands by (RuleEndLost check owner days) f = Root ∷ []
 demands by (RuleVeto owner condition) f = Root ∷ []

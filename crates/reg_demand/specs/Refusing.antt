@@ -1,18 +1,19 @@
 -- What refuses a command before all else: no caller, then what isn't found or isn't seen, then a demand that isn't met.
-use Rattle.std.specs.Prelude.{ℕ, ◌&&◌, ◌++◌, List, [], ◌∷◌, Bool, true, false, not, Option, None, Some, map, codes, is_some, if◌then◌else◌}
+use Rattle.std.specs.Prelude.{ℕ, ◌&&◌, ◌++◌, List, [], ◌∷◌, Bool, true, false, not, Option, None, Some, map, codes, is_some, option_map, if◌then◌else◌}
 use Rattle.reg_base.specs.Entities.{entity_of}
 use Rattle.reg_base.specs.declared.entity.Entity.{Entity}
 use Rattle.reg_base.specs.declared.entity.Entity.TheVariants as entity
 use Rattle.reg_base.specs.declared.privilege.Privilege.TheVariants.{View}
 use Rattle.reg_terms.specs.Privileges.{line_of}
 use Rattle.reg_terms.specs.declared.command.Command.{Command}
-use Rattle.reg_terms.specs.declared.command.Command.TheVariants.{FolderAdd, FolderRename, FolderMove, FolderDelete, SubjectAdd, GroupAdd, GroupRename, GroupMove, GroupDelete, MemberAdd, MemberRemove, MemberWindow, CompositeSet, CompositeClear, GrantAdd, GrantRemove, InheritAdd, InheritRemove, RuleRemoveLost, RuleEndLost, RuleVeto, RuleOnCreate, RuleDelete, ConsumerAdd, ConsumerAck}
+use Rattle.reg_terms.specs.declared.command.Command.TheVariants.{FolderAdd, FolderRename, FolderMove, FolderDelete, SubjectAdd, GroupAdd, GroupRename, GroupMove, GroupDelete, MemberAdd, MemberRemove, MemberWindow, CompositeSet, CompositeClear, GrantAdd, GrantRemove, InheritAdd, InheritRemove, AttrdefAdd, AttrdefDelete, AttrAdd, AttrDelete, AssignAdd, AssignRemove, ValueAdd, ValueRemove, RuleRemoveLost, RuleEndLost, RuleVeto, RuleOnCreate, RuleDelete, ConsumerAdd, ConsumerAck}
 use Rattle.reg_terms.specs.declared.kinds.Object.{Object}
 use Rattle.reg_terms.specs.declared.kinds.Object.TheVariants as object
 use Rattle.reg_terms.specs.declared.refusal.Refusal.{Refusal}
 use Rattle.reg_terms.specs.declared.refusal.Refusal.TheVariants.{NoCaller, NotFound, Denied}
 use Rattle.reg_terms.specs.declared.rows.GrantRow.{GrantRow}
 use Rattle.reg_terms.specs.declared.rows.InheritRow.{InheritRow}
+use Rattle.reg_facts.specs.Attributes.{definition_id, attribute_id}
 use Rattle.reg_facts.specs.Consumers.{consumer_place}
 use Rattle.reg_facts.specs.Edits.{the_id, member_of, has_member}
 use Rattle.reg_facts.specs.Grants.{has_grant, has_inherit, entity_object, object_of, grant_of, inherit_of}
@@ -21,7 +22,7 @@ use Rattle.reg_facts.specs.Naming.{folder_id, group_id, home_of}
 use Rattle.reg_effect.specs.declared.live.Live.{Live}
 use Rattle.reg_priv.specs.declared.who.Who.{Who}
 use Rattle.reg_priv.specs.May.{who_of, is_root, may, visible}
-use Rattle.reg_demand.specs.Demands.{Demand, On, Root, bare_text, demands}
+use Rattle.reg_demand.specs.Demands.{Demand, On, Root, bare_text, demands, on_assignments}
 
 -- a test, and the refusal where it holds
 abbrev pub Check : Type 0
@@ -58,6 +59,14 @@ no_group L f c group = (is_unseen L f c (group_id group f), NotFound group)
 abbrev pub is_hidden : Live → Lists → Who → Option Object → Bool
 is_hidden L f c None = true
 is_hidden L f c (Some o) = not (visible L f c o)
+
+-- no definition that the caller sees has the name
+abbrev pub no_definition : Live → Lists → Who → List ℕ → Check
+no_definition L f c definition = (is_hidden L f c (option_map (λ a. object.Def a) (definition_id definition f)), NotFound definition)
+
+-- no attribute that the caller sees has the name
+abbrev pub no_attribute : Live → Lists → Who → List ℕ → Check
+no_attribute L f c attribute = (is_hidden L f c (option_map (λ a. object.Attr a) (attribute_id attribute f)), NotFound attribute)
 
 -- an entity of the registry itself, which always stands
 abbrev pub is_internal : Entity → Bool
@@ -134,6 +143,14 @@ not_found L f c (GrantAdd object privilege holder) = no_object L f c object ∷ 
 not_found L f c (GrantRemove object privilege holder) = no_object L f c object ∷ no_entity_but (grant_stands (grant_of object privilege holder f) f) L f c holder ∷ []
 not_found L f c (InheritAdd folder kind scope privilege holder) = no_folder folder f ∷ no_entity L f c holder ∷ []
 not_found L f c (InheritRemove folder kind scope privilege holder) = no_folder folder f ∷ no_entity_but (inherit_stands (inherit_of folder kind scope privilege holder f) f) L f c holder ∷ []
+not_found L f c (AttrdefAdd definition owners several kind many) = no_folder (home_of definition) f ∷ []
+not_found L f c (AttrdefDelete definition) = no_definition L f c definition ∷ []
+not_found L f c (AttrAdd attribute definition) = no_folder (home_of attribute) f ∷ no_definition L f c definition ∷ []
+not_found L f c (AttrDelete attribute) = no_attribute L f c attribute ∷ []
+not_found L f c (AssignAdd attribute object) = no_attribute L f c attribute ∷ no_object L f c object ∷ []
+not_found L f c (AssignRemove attribute object id) = no_attribute L f c attribute ∷ no_object L f c object ∷ []
+not_found L f c (ValueAdd attribute object id value) = no_attribute L f c attribute ∷ no_object L f c object ∷ []
+not_found L f c (ValueRemove attribute object id value) = no_attribute L f c attribute ∷ no_object L f c object ∷ []
 not_found L f c (RuleRemoveLost check owner) = no_group L f c check ∷ no_group L f c owner ∷ []
 not_found L f c (RuleEndLost check owner days) = no_group L f c check ∷ no_group L f c owner ∷ []
 not_found L f c (RuleVeto owner condition) = no_group L f c owner ∷ no_group L f c condition ∷ []
@@ -155,3 +172,7 @@ refused_as (Some c) L f by command = first_of (barred L f by c command)
 
 abbrev pub refused : Live → Lists → Entity → Command → Option Refusal
 refused L f by command = refused_as (who_of by f) L f by command
+
+-- what may refuse to tell the attributes of an object: it isn't found, and then the demands
+abbrev pub barred_attributes : Live → Lists → Who → List ℕ → List Check
+barred_attributes L f c object = no_object L f c object ∷ map (denial L f c) (on_assignments object f)

@@ -2,6 +2,7 @@
 ghost use Rattle.std.specs.Prelude.{◌≡◌, IfOk};
 ghost use Rattle.reg_demand.specs.Refusing.{first_of, barred, refused};
 
+use crate::attributes::{assignment, attr_add, attr_delete, attrdef_delete};
 use crate::composites::{composite_clear, composite_set};
 use crate::consumers::consumer_ack;
 use crate::folders::{folder_delete, folder_move, folder_rename, new_object};
@@ -94,6 +95,33 @@ pub fn barred<K: Kept>(
         } => inherit_remove(
             alloc, facts, kept, by, who, folder, *kind, *scope, *privilege, holder,
         ),
+        Command::AttrdefAdd { definition, .. } => new_object(alloc, facts, kept, who, definition),
+        Command::AttrdefDelete { definition } => {
+            attrdef_delete(alloc, facts, kept, by, who, definition)
+        }
+        Command::AttrAdd {
+            attribute,
+            definition,
+        } => attr_add(alloc, facts, kept, by, who, attribute, definition),
+        Command::AttrDelete { attribute } => attr_delete(alloc, facts, kept, by, who, attribute),
+        Command::AssignAdd { attribute, object } => {
+            assignment(alloc, facts, kept, who, attribute, object)
+        }
+        Command::AssignRemove {
+            attribute,
+            object,
+            ..
+        } => assignment(alloc, facts, kept, who, attribute, object),
+        Command::ValueAdd {
+            attribute,
+            object,
+            ..
+        } => assignment(alloc, facts, kept, who, attribute, object),
+        Command::ValueRemove {
+            attribute,
+            object,
+            ..
+        } => assignment(alloc, facts, kept, who, attribute, object),
         Command::RuleRemoveLost { check, owner } => {
             rule_of_groups(alloc, facts, kept, who, check, owner)
         }

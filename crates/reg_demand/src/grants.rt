@@ -1,73 +1,20 @@
 // What comes before all else that may refuse a command about grants.
 ghost use Rattle.std.specs.Prelude.{◌≡◌, ◌∷◌, [], IfOk};
-ghost use Rattle.std.specs.Option.{option_copied};
 ghost use Rattle.reg_base.specs.Entities.{entity_of};
 ghost use Rattle.reg_terms.specs.declared.command.Command.TheVariants.{GrantAdd, GrantRemove};
-ghost use Rattle.reg_terms.specs.declared.kinds.Object.TheVariants.{Attr};
 ghost use Rattle.reg_facts.specs.Grants.{grant_for, holder_of};
-ghost use Rattle.reg_facts.specs.Naming.{name_of};
-ghost use Rattle.reg_facts.specs.Rows.{attribute_row};
-ghost use Rattle.reg_priv.specs.May.{judged};
 ghost use Rattle.reg_demand.specs.Demands.{On, admin_of, admin_of_found, bare_text};
 ghost use Rattle.reg_demand.specs.Refusing.{first_of, barred, denial, grant_stands};
 
+use crate::attributes::demand_on_attribute;
 use crate::finding::{is_missing, is_missing_object, named_text};
-use crate::refusals::{denied, not_found, object_denied, object_not_found};
+use crate::refusals::{not_found, object_denied, object_not_found};
 use crate::subjects::demand_root;
-use reg_base::{AttrId, Entity, Privilege, Text};
+use reg_base::{Entity, Privilege, Text};
 use reg_effect::Kept;
-use reg_facts::{AttributeRow, Facts, GrantRow, Object, Refusal};
+use reg_facts::{Facts, GrantRow, Object, Refusal};
 use reg_priv::{Who, may};
 use std::alloc::{AllocError, Global};
-
-/// The name of an object; `:` where it has none.
-fn any_name(alloc: Global, facts: &Facts, object: &Object) -> Result<Text, AllocError>
-    ensures { IfOk result (λ name. name ≡ name_of object.now facts.now) }
-{
-    match facts.place_of(object) {
-        Some(_) => reg_names::name_of(alloc, facts, object),
-        None => Text::new(alloc, ":"),
-    }
-}
-
-/// The attribute of this id.
-fn attribute(facts: &Facts, id: AttrId) -> Option<&AttributeRow>
-    ensures { option_copied result ≡ attribute_row id facts.now.attributes }
-{
-    for row in facts.attributes() {
-        if row.id.number() == id.number() {
-            return Some(row);
-        }
-    }
-    None
-}
-
-/// The definition of an attribute; the attribute itself where it doesn't stand.
-fn definition_of(facts: &Facts, id: AttrId) -> Object
-    ensures { result ≡ judged (Attr id) facts.now }
-{
-    match attribute(facts, id) {
-        Some(row) => Object::Def(row.definition),
-        None => Object::Attr(id),
-    }
-}
-
-/// The caller administers an attribute's definition.
-fn demand_on_attribute<K: Kept>(
-    alloc: Global,
-    facts: &Facts,
-    kept: &K,
-    who: &Who,
-    id: AttrId,
-) -> Result<Option<Refusal>, AllocError>
-    ensures { IfOk result (λ found. found ≡ first_of (denial (K.held kept.now) facts.now who.now (admin_of [] (Attr id) facts.now) ∷ [])) }
-{
-    if may(facts, kept, who, &Object::Attr(id), Privilege::AttrAdmin) {
-        return Ok(None);
-    }
-    let name = any_name(alloc, facts, &definition_of(facts, id))?;
-    denied(alloc, name.as_str(), Privilege::AttrAdmin)
-}
 
 /// The caller has a privilege on the object that a text names.
 fn demand_on<K: Kept>(
@@ -102,7 +49,9 @@ fn demand_admin<K: Kept>(
         Object::Folder(_) => demand_on(alloc, facts, kept, who, text, object, Privilege::StemAdmin),
         Object::Group(_) => demand_on(alloc, facts, kept, who, text, object, Privilege::Admin),
         Object::Def(_) => demand_on(alloc, facts, kept, who, text, object, Privilege::AttrAdmin),
-        Object::Attr(id) => demand_on_attribute(alloc, facts, kept, who, *id),
+        Object::Attr(id) => {
+            demand_on_attribute(alloc, facts, kept, who, *id, Privilege::AttrAdmin)
+        }
         Object::Subject(_) => demand_root(alloc, facts, kept, who),
     }
 }

@@ -1,11 +1,11 @@
 // What a caller lacks.
 ghost use Rattle.std.specs.Prelude.{◌≡◌, not};
-ghost use Rattle.reg_terms.specs.declared.kinds.Object.TheVariants.{Folder, Group};
+ghost use Rattle.reg_terms.specs.declared.kinds.Object.TheVariants.{Def, Folder, Group};
 ghost use Rattle.reg_facts.specs.Edits.{the_id};
 ghost use Rattle.reg_priv.specs.May.{may};
 ghost use Rattle.reg_demand.specs.Demands.{is_self};
 
-use reg_base::{Entity, FolderId, GroupId, Privilege};
+use reg_base::{AttrDefId, AttrId, Entity, FolderId, GroupId, Privilege};
 use reg_effect::Kept;
 use reg_facts::{Facts, Object};
 use reg_priv::{Who, may};
@@ -27,6 +27,26 @@ fn the_folder(found: &Option<FolderId>) -> FolderId
     match found {
         Some(id) => *id,
         None => FolderId::new(0),
+    }
+}
+
+/// The id that was found.
+fn the_definition(found: &Option<AttrDefId>) -> AttrDefId
+    ensures { result ≡ the_id found.now }
+{
+    match found {
+        Some(id) => *id,
+        None => AttrDefId::new(0),
+    }
+}
+
+/// The id that was found.
+pub fn the_attribute(found: &Option<AttrId>) -> AttrId
+    ensures { result ≡ the_id found.now }
+{
+    match found {
+        Some(id) => *id,
+        None => AttrId::new(0),
     }
 }
 
@@ -56,6 +76,20 @@ pub fn lacks_on_folder<K: Kept>(
 {
     let id = the_folder(found);
     !may(facts, kept, who, &Object::Folder(id), privilege)
+}
+
+/// Whether the caller lacks a privilege on a definition that was found.
+pub fn lacks_on_definition<K: Kept>(
+    facts: &Facts,
+    kept: &K,
+    who: &Who,
+    found: &Option<AttrDefId>,
+    privilege: Privilege,
+) -> bool
+    ensures { result ≡ not (may (K.held kept.now) facts.now who.now (Def (the_id found.now)) privilege) }
+{
+    let id = the_definition(found);
+    !may(facts, kept, who, &Object::Def(id), privilege)
 }
 
 /// Whether the member is the caller.

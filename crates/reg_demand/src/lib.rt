@@ -2,6 +2,7 @@
 //! seen, and what the caller lacks.
 #![tactic(auto)]
 
+mod attributes;
 mod barring;
 mod composites;
 mod consumers;
@@ -16,4 +17,5 @@ mod refusals;
 mod rules;
 mod subjects;
 
+pub use attributes::barred_attributes;
 pub use barring::{barred, refused};

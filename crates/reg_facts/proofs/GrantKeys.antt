@@ -21,7 +21,7 @@ use Rattle.reg_terms.specs.Privileges.{code}
 use Rattle.reg_facts.specs.Grants.{same_grant, has_grant, grants_on, same_inherit, has_inherit}
 
 -- what is derived says what the words say
-object_is : (a b : Object) → object_eq.ghosts.eq a b ≡ same_object a b
+pub object_is : (a b : Object) → object_eq.ghosts.eq a b ≡ same_object a b
 object_is (object.Folder a) (object.Folder b) = refl
 object_is (object.Folder a) (object.Group b) = refl
 object_is (object.Folder a) (object.Def b) = refl

@@ -7,7 +7,7 @@ use Rattle.std.proofs.lemmas.Bool.{cases_Bool, or_parts, or_left, true≢false}
 use Rattle.std.proofs.lemmas.List.Folds.{list_any-append}
 use Rattle.std.proofs.lemmas.Slice.Eq.{bytes_eq-Decides}
 use Rattle.reg_terms.specs.declared.event.Event.{Event}
-use Rattle.reg_terms.specs.declared.event.Event.TheVariants.{FolderMade, FolderRenamed, FolderMoved, FolderGone, SubjectMade, GroupMade, GroupRenamed, GroupMoved, GroupGone, RowAdded, RowRemoved, RowRedated, Composed, Decomposed, GrantAdded, GrantRemoved, InheritAdded, InheritRemoved, RuleMade, RuleGone, ConsumerAdded, ConsumerAcked}
+use Rattle.reg_terms.specs.declared.event.Event.TheVariants.{FolderMade, FolderGone, SubjectMade, GroupMade, GroupRenamed, GroupMoved, GroupGone, GrantAdded, GrantRemoved, InheritAdded, InheritRemoved, DefinitionMade, DefinitionGone, AttributeMade, AssignMade, RuleMade}
 use Rattle.reg_terms.specs.declared.kinds.Holder.{Holder}
 use Rattle.reg_terms.specs.declared.kinds.Holder.TheVariants as holder
 use Rattle.reg_terms.specs.declared.kinds.Object.{Object}
@@ -127,6 +127,27 @@ subject_made made id next (object.Def a) h = h
 subject_made made id next (object.Attr a) h = h
 subject_made made id next (object.Subject s) h = omega (arith, next, h)
 
+definition_made : (made : Made) (id : ℕ) → id ≡ made.definitions + 1 → MoreMade made (record made { definitions = id })
+definition_made made id next (object.Folder d) h = h
+definition_made made id next (object.Group g) h = h
+definition_made made id next (object.Def a) h = omega (arith, next, h)
+definition_made made id next (object.Attr a) h = h
+definition_made made id next (object.Subject s) h = h
+
+attribute_made : (made : Made) (id : ℕ) → id ≡ made.attributes + 1 → MoreMade made (record made { attributes = id })
+attribute_made made id next (object.Folder d) h = h
+attribute_made made id next (object.Group g) h = h
+attribute_made made id next (object.Def a) h = h
+attribute_made made id next (object.Attr a) h = omega (arith, next, h)
+attribute_made made id next (object.Subject s) h = h
+
+assign_made : (made : Made) (id : ℕ) → MoreMade made (record made { assigns = id })
+assign_made made id (object.Folder d) h = h
+assign_made made id (object.Group g) h = h
+assign_made made id (object.Def a) h = h
+assign_made made id (object.Attr a) h = h
+assign_made made id (object.Subject s) h = h
+
 rule_made : (made : Made) (id : ℕ) → MoreMade made (record made { rules = id })
 rule_made made id (object.Folder d) h = h
 rule_made made id (object.Group g) h = h
@@ -179,8 +200,6 @@ others_held f g subjects groups made grants inherits h = held_still f g
 -- an event that suits
 pub happened_held : (e : Event) (f : Lists) → Suits e f → IsHeld f → IsHeld (happened e f)
 happened_held (FolderMade row) f suits h = held_still f (happened (FolderMade row) f) h.texts_once (folder_made f.made row.id suits.0) (same_subjects f.subjects) (same_groups f.groups) refl refl h
-happened_held (FolderRenamed id extension) f suits h = others_held f (happened (FolderRenamed id extension) f) refl refl refl refl refl h
-happened_held (FolderMoved id to) f suits h = others_held f (happened (FolderMoved id to) f) refl refl refl refl refl h
 happened_held (FolderGone id) f suits h = record {
   texts_once = h.texts_once;
   grants_stand = all_filter (λ (row : GrantRow). GrantStands f.made f.subjects f.groups row) (λ (row : GrantRow). not (same_object row.object (object.Folder id))) f.grants h.grants_stand;
@@ -191,16 +210,17 @@ happened_held (GroupMade row) f suits h = held_still f (happened (GroupMade row)
 happened_held (GroupRenamed id extension) f suits h = held_still f (happened (GroupRenamed id extension) f) h.texts_once (same_made f.made) (same_subjects f.subjects) (among_changed (group_renamed id extension) (group_renamed_id id extension) f.groups) refl refl h
 happened_held (GroupMoved id to) f suits h = held_still f (happened (GroupMoved id to) f) h.texts_once (same_made f.made) (same_subjects f.subjects) (among_changed (group_moved id to) (group_moved_id id to) f.groups) refl refl h
 happened_held (GroupGone id) f suits h = group_gone_held id f suits h
-happened_held (RowAdded row) f suits h = others_held f (happened (RowAdded row) f) refl refl refl refl refl h
-happened_held (RowRemoved g m) f suits h = others_held f (happened (RowRemoved g m) f) refl refl refl refl refl h
-happened_held (RowRedated g m from until) f suits h = others_held f (happened (RowRedated g m from until) f) refl refl refl refl refl h
-happened_held (Composed row) f suits h = others_held f (happened (Composed row) f) refl refl refl refl refl h
-happened_held (Decomposed g) f suits h = others_held f (happened (Decomposed g) f) refl refl refl refl refl h
 happened_held (GrantAdded row) f suits h = notes_held f (f.grants ++ row ∷ []) f.inherits (all_push (λ (r : GrantRow). GrantStands f.made f.subjects f.groups r) f.grants row h.grants_stand suits.0) h.inherits_stand h
 happened_held (GrantRemoved row) f suits h = notes_held f _ f.inherits (all_filter (λ (r : GrantRow). GrantStands f.made f.subjects f.groups r) (λ (other : GrantRow). not (same_grant row other)) f.grants h.grants_stand) h.inherits_stand h
 happened_held (InheritAdded row) f suits h = notes_held f f.grants (f.inherits ++ row ∷ []) h.grants_stand (all_push (λ (r : InheritRow). HolderStands f.subjects f.groups r.holder) f.inherits row h.inherits_stand suits.0) h
 happened_held (InheritRemoved row) f suits h = notes_held f f.grants _ h.grants_stand (all_filter (λ (r : InheritRow). HolderStands f.subjects f.groups r.holder) (λ (other : InheritRow). not (same_inherit row other)) f.inherits h.inherits_stand) h
+happened_held (DefinitionMade row) f suits h = held_still f (happened (DefinitionMade row) f) h.texts_once (definition_made f.made row.id suits.0) (same_subjects f.subjects) (same_groups f.groups) refl refl h
+happened_held (DefinitionGone id) f suits h = record {
+  texts_once = h.texts_once;
+  grants_stand = all_filter (λ (row : GrantRow). GrantStands f.made f.subjects f.groups row) (λ (row : GrantRow). not (same_object row.object (object.Def id))) f.grants h.grants_stand;
+  inherits_stand = h.inherits_stand;
+}
+happened_held (AttributeMade row) f suits h = held_still f (happened (AttributeMade row) f) h.texts_once (attribute_made f.made row.id suits.0) (same_subjects f.subjects) (same_groups f.groups) refl refl h
+happened_held (AssignMade row) f suits h = held_still f (happened (AssignMade row) f) h.texts_once (assign_made f.made row.id) (same_subjects f.subjects) (same_groups f.groups) refl refl h
 happened_held (RuleMade row) f suits h = held_still f (happened (RuleMade row) f) h.texts_once (rule_made f.made row.id) (same_subjects f.subjects) (same_groups f.groups) refl refl h
-happened_held (RuleGone id) f suits h = others_held f (happened (RuleGone id) f) refl refl refl refl refl h
-happened_held (ConsumerAdded row) f suits h = others_held f (happened (ConsumerAdded row) f) refl refl refl refl refl h
-happened_held (ConsumerAcked name seq) f suits h = others_held f (happened (ConsumerAcked name seq) f) refl refl refl refl refl h
+happened_held e f suits h = others_held f (happened e f) refl refl refl refl refl h

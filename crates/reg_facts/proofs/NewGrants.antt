@@ -1,4 +1,4 @@
--- What making a folder or a group brings suits the facts, where what is made may stand and its grants have room.
+-- What making a folder, a group or a definition brings suits the facts, where what is made may stand and its grants have room.
 use Rattle.std.proofs.Common.{◌≡◌, ◌≤◌, ◌<◌, ◌==◌, ◌+◌, ◌++◌, ◌∙◌, ℕ, List, [], ◌∷◌, Bool, true, false, Option, Some, None, refl, sym, subst, length, append_assoc, inl, inr, arith, eqb-true}
 use Rattle.std.specs.Prelude.{⊤, if◌then◌else◌}
 use Rattle.std.specs.List.{AllByRecursion, cons_option}
@@ -9,15 +9,17 @@ use Rattle.reg_base.specs.NameParts.{extension_of}
 use Rattle.reg_base.specs.declared.entity.Entity.{Entity}
 use Rattle.reg_base.specs.declared.entity.Entity.TheVariants as entity
 use Rattle.reg_base.specs.declared.privilege.Privilege.{Privilege}
-use Rattle.reg_base.specs.declared.privilege.Privilege.TheVariants.{Admin, StemAdmin}
+use Rattle.reg_base.specs.declared.privilege.Privilege.TheVariants.{Admin, StemAdmin, AttrAdmin}
 use Rattle.reg_terms.specs.Kinds.{same_object}
-use Rattle.reg_terms.specs.Limits.{max_folders, max_groups, max_grants}
-use Rattle.reg_terms.specs.declared.command.Command.TheVariants.{FolderAdd, GroupAdd}
-use Rattle.reg_terms.specs.declared.event.Event.TheVariants.{FolderMade, GroupMade, GrantAdded}
+use Rattle.reg_terms.specs.Limits.{max_folders, max_groups, max_definitions, max_grants}
+use Rattle.reg_terms.specs.declared.command.Command.TheVariants.{FolderAdd, GroupAdd, AttrdefAdd}
+use Rattle.reg_terms.specs.declared.event.Event.TheVariants.{FolderMade, GroupMade, DefinitionMade, GrantAdded}
+use Rattle.reg_terms.specs.declared.kinds.DefKind.{DefKind}
 use Rattle.reg_terms.specs.declared.kinds.Holder.{Holder}
 use Rattle.reg_terms.specs.declared.kinds.Holder.TheVariants as holder
 use Rattle.reg_terms.specs.declared.kinds.Object.{Object}
 use Rattle.reg_terms.specs.declared.kinds.Object.TheVariants.{Folder, Group, Def, Attr, Subject}
+use Rattle.reg_terms.specs.declared.kinds.Owners.{Owners}
 use Rattle.reg_terms.specs.declared.kinds.RuleForm.{RuleForm}
 use Rattle.reg_terms.specs.declared.kinds.RuleForm.TheVariants.{RemoveLost, EndLost, Veto, OnCreate}
 use Rattle.reg_terms.specs.declared.rows.FolderRow.{FolderRow}
@@ -27,7 +29,7 @@ use Rattle.reg_terms.specs.declared.rows.Made.{Made}
 use Rattle.reg_terms.specs.declared.rows.RuleRow.{RuleRow}
 use Rattle.reg_terms.specs.declared.rows.SubjectRow.{SubjectRow}
 use Rattle.reg_facts.specs.Edits.{subject_id, the_id}
-use Rattle.reg_facts.specs.Events.{happened, events_of, grants_added, new_folder, new_group, new_groups_grants}
+use Rattle.reg_facts.specs.Events.{happened, events_of, grants_added, new_folder, new_group, new_definition, new_groups_grants}
 use Rattle.reg_facts.specs.Grants.{has_grant, same_grant, holder_of, grant_to, makers_grant}
 use Rattle.reg_facts.specs.Lists.{Lists}
 use Rattle.reg_facts.specs.Naming.{home_id}
@@ -124,6 +126,13 @@ next_group made (Def a) h = refl
 next_group made (Attr a) h = refl
 next_group made (Subject s) h = refl
 
+next_definition : (made : Made) (o : Object) → WasMade made o → same_object o (Def (made.definitions + 1)) ≡ false
+next_definition made (Folder d) h = refl
+next_definition made (Group g) h = refl
+next_definition made (Def a) h = false_from_ne_true (a == made.definitions + 1) (λ t. let e = eqb-true a (made.definitions + 1) t in omega (arith, e, h))
+next_definition made (Attr a) h = refl
+next_definition made (Subject s) h = refl
+
 unwritten : (made : Made) (ss : List SubjectRow) (gs : List GroupRow) (row : GrantRow) (rows : List GrantRow) → ((other : Object) → WasMade made other → same_object other row.object ≡ false)
     → AllByRecursion (λ (r : GrantRow). GrantStands made ss gs r) rows → has_grant row rows ≡ false
 unwritten made ss gs row [] new stand = refl
@@ -196,7 +205,7 @@ stand_more : (made : Made) (f : Lists) (new : GroupRow) (rows : List GrantRow) �
 stand_more made f new rows h = all_changed (λ (row : GrantRow). GrantStands made f.subjects f.groups row) (λ (row : GrantRow). GrantStands made f.subjects (f.groups ++ new ∷ []) row)
     (λ row stands. record { object = stands.object; holder = holder_of_more f.subjects f.subjects f.groups (f.groups ++ new ∷ []) row.holder (same_subjects f.subjects) (among_more f.groups new) stands.holder }) rows h
 
--- ---- a folder and a group are made
+-- ---- a folder, a definition and a group are made
 
 pub folder_suits : (at : ℕ) (by : Entity) (folder display : List ℕ) (d : ℕ) (f : Lists) → IsHeld f → HoldersStand f → home_id folder f ≡ Some d → CanStand d (extension_of folder) 0 f → f.made.folders < max_folders
     → length f.grants + length (makers_grant by (Folder (f.made.folders + 1)) StemAdmin f) ≤ max_grants → AllSuit (events_of at by (FolderAdd folder display) f) f
@@ -207,6 +216,17 @@ folder_suits at by folder display d f held holders home can few room =
     let rows = makers_grant by o StemAdmin f in (
       (refl, few, d, home, can),
       added_suit rows (happened (FolderMade row) f) (makers_stand by o StemAdmin f (record f.made { folders = f.made.folders + 1 }) holders (omega arith)) (only_new o f.grants rows (none_on f o held (next_folder f.made)) (makers_first by o StemAdmin f)) room,
+    )
+
+pub definition_suits : (at : ℕ) (by : Entity) (definition : List ℕ) (owners : Owners) (several : Bool) (kind : DefKind) (many : Bool) (f : Lists) → IsHeld f → HoldersStand f → CanStand (the_id (home_id definition f)) (extension_of definition) 0 f
+    → f.made.definitions < max_definitions → length f.grants + length (makers_grant by (Def (f.made.definitions + 1)) AttrAdmin f) ≤ max_grants → AllSuit (events_of at by (AttrdefAdd definition owners several kind many) f) f
+unfolding events_of
+definition_suits at by definition owners several kind many f held holders can few room =
+    let row = new_definition definition owners several kind many f in
+    let o = Def (f.made.definitions + 1) in
+    let rows = makers_grant by o AttrAdmin f in (
+      (refl, few, can),
+      added_suit rows (happened (DefinitionMade row) f) (makers_stand by o AttrAdmin f (record f.made { definitions = f.made.definitions + 1 }) holders (omega arith)) (only_new o f.grants rows (none_on f o held (next_definition f.made)) (makers_first by o AttrAdmin f)) room,
     )
 
 pub group_suits : (at : ℕ) (by : Entity) (group display : List ℕ) (f : Lists) → IsHeld f → HoldersStand f → AreRuled f → CanStand (the_id (home_id group f)) (extension_of group) 0 f → f.made.groups < max_groups

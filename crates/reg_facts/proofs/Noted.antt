@@ -33,7 +33,7 @@ use Rattle.reg_facts.proofs.Standing.{placed_is}
 
 -- ---- ids that ascend are at most the last
 
-ascend_top : (floor top : ℕ) (ns : List ℕ) → AscendFrom floor top ns → floor ≤ top
+pub ascend_top : (floor top : ℕ) (ns : List ℕ) → AscendFrom floor top ns → floor ≤ top
 ascend_top floor top [] h = h
 ascend_top floor top (n ∷ ns) h = let rest = ascend_top n top ns h.1 in omega (arith, h.0, rest)
 
@@ -118,7 +118,7 @@ group_stands f name g s h =
       | inr row ↦ found_group g f.groups row.0 row.1
     ]
 
-as_group_is : (found : Option Object) (g : ℕ) → as_group found ≡ Some g → found ≡ Some (object.Group g)
+pub as_group_is : (found : Option Object) (g : ℕ) → as_group found ≡ Some g → found ≡ Some (object.Group g)
 as_group_is None g h = cc
 as_group_is (Some (object.Folder d)) g h = cc
 as_group_is (Some (object.Group x)) g h = cc

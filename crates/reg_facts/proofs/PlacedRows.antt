@@ -45,7 +45,8 @@ by_row g test o (r ∷ rows) h = elim (cases_Bool (test r)) [
   | inr t ↦ rw (h r, t) (by_row g test o rows h)
 ]
 
-passes : {R : Type 0} (test : R → Bool) (rows : List R) (r : R) → find test rows ≡ Some r → test r ≡ true
+-- a row that is found passes
+pub passes : {R : Type 0} (test : R → Bool) (rows : List R) (r : R) → find test rows ≡ Some r → test r ≡ true
 passes test [] r h = cc
 passes test (x ∷ rows) r h = elim (cases_Bool (test x)) [
   | inl t ↦ let e : find test (x ∷ rows) ≡ Some x = rw t in let same : x ≡ r = cc in rw (← same) t

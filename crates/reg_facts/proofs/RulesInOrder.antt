@@ -23,6 +23,7 @@ use Rattle.reg_facts.specs.Ruled.{AreRuled}
 use Rattle.reg_facts.specs.Rules.{rule_by, rules_at}
 use Rattle.reg_facts.specs.Sound.{AscendFrom}
 use Rattle.reg_facts.proofs.Edited.{ascend_push}
+use Rattle.reg_facts.proofs.Noted.{ascend_top}
 use Rattle.reg_facts.proofs.Searched.{ascending}
 
 -- the ids of rules ascend, also with one of the next id
@@ -33,14 +34,10 @@ pub next_ascends : (f : Lists) (row : RuleRow) → AreRuled f → row.id ≡ f.m
 next_ascends f row h next = ascending 0 (f.made.rules + 1) (map (λ (r : RuleRow). r.id) (f.rules ++ row ∷ [])) (ascend_push (λ (r : RuleRow). r.id) 0 f.made.rules f.rules row h.ascend next)
 
 -- none has a later id than the last that was made
-last_above : (floor top : ℕ) (ids : List ℕ) → AscendFrom floor top ids → floor ≤ top
-last_above floor top [] h = h
-last_above floor top (n ∷ ns) h = let low = h.0 in omega (arith, low, last_above n top ns h.1)
-
 none_from : (floor top id : ℕ) (rows : List RuleRow) → AscendFrom floor top (map (λ (row : RuleRow). row.id) rows) → top < id → None ≡ rule_by id rows
 none_from floor top id [] h past = refl
 none_from floor top id (row ∷ rows) h past =
-    let low = last_above row.id top (map (λ (r : RuleRow). r.id) rows) h.1 in
+    let low = ascend_top row.id top (map (λ (r : RuleRow). r.id) rows) h.1 in
     rw (ne_eqb row.id id (λ e. absurd (omega (arith, e, low, past)))) (none_from row.id top id rows h.1 past)
 
 pub none_past : (f : Lists) (id : ℕ) → AreRuled f → f.made.rules < id → None ≡ rule_by id f.rules
@@ -64,7 +61,7 @@ rule_order a b = ordering_then (key_ord.ghosts.cmp (key_of a.form) (key_of b.for
 
 -- ---- rows that are in order stay as they are where they are put in order
 
-abbrev Rising : {R : Type 0} → (R → R → Ordering) → List R → Type 0
+abbrev pub Rising : {R : Type 0} → (R → R → Ordering) → List R → Type 0
 Rising order [] = Unit {0}
 Rising order (x ∷ xs) = AllByRecursion (λ y. order y x ≡ Greater) xs × Rising order xs
 
@@ -72,16 +69,16 @@ put_behind : {R : Type 0} (order : R → R → Ordering) (x : R) (found ys : Lis
 put_behind order x found [] h = refl
 put_behind order x found (y ∷ ys) h = rw h.0 (put_behind order x (insert_key order found y) ys h.1)
 
-rising_stays : {R : Type 0} (order : R → R → Ordering) (xs : List R) → Rising order xs → in_order order xs ≡ xs
+pub rising_stays : {R : Type 0} (order : R → R → Ordering) (xs : List R) → Rising order xs → in_order order xs ≡ xs
 rising_stays order [] h = refl
 rising_stays order (x ∷ xs) h = put_behind order x [] xs h.0 ∙ ap (λ ys. x ∷ ys) (rising_stays order xs h.1)
 
 -- ---- the rules of a key are in order
 
-same_number : (n : ℕ) → nat_cmp n n ≡ Equal
+pub same_number : (n : ℕ) → nat_cmp n n ≡ Equal
 same_number n = grind (arith, nat_tests, common_steps)
 
-later : (a b : ℕ) → nat_cmp a b ≡ Less → nat_cmp b a ≡ Greater
+pub later : (a b : ℕ) → nat_cmp a b ≡ Less → nat_cmp b a ≡ Greater
 later a b h = grind (arith, nat_tests, common_steps)
 
 self_order : (k : RuleKey) → key_ord.ghosts.cmp k k ≡ Equal

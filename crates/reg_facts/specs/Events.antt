@@ -1,13 +1,17 @@
 -- What happens to the facts, event by event, and the events that a command makes.
-use Rattle.std.specs.Prelude.{ℕ, ◌+◌, ◌==◌, List, [], ◌∷◌, ◌++◌, not, Option, None, Some, map, filter, if◌then◌else◌}
+use Rattle.std.specs.Prelude.{ℕ, ◌+◌, ◌==◌, Bool, List, [], ◌∷◌, ◌++◌, not, Option, None, Some, map, filter, if◌then◌else◌}
 use Rattle.reg_base.specs.NameParts.{extension_of}
 use Rattle.reg_base.specs.declared.entity.Entity.{Entity}
 use Rattle.reg_terms.specs.declared.command.Command.{Command}
-use Rattle.reg_terms.specs.declared.command.Command.TheVariants.{FolderAdd, FolderRename, FolderMove, FolderDelete, SubjectAdd, GroupAdd, GroupRename, GroupMove, GroupDelete, MemberAdd, MemberRemove, MemberWindow, CompositeSet, CompositeClear, GrantAdd, GrantRemove, InheritAdd, InheritRemove, RuleRemoveLost, RuleEndLost, RuleVeto, RuleOnCreate, RuleDelete, ConsumerAdd, ConsumerAck}
+use Rattle.reg_terms.specs.declared.command.Command.TheVariants.{FolderAdd, FolderRename, FolderMove, FolderDelete, SubjectAdd, GroupAdd, GroupRename, GroupMove, GroupDelete, MemberAdd, MemberRemove, MemberWindow, CompositeSet, CompositeClear, GrantAdd, GrantRemove, InheritAdd, InheritRemove, AttrdefAdd, AttrdefDelete, AttrAdd, AttrDelete, AssignAdd, AssignRemove, ValueAdd, ValueRemove, RuleRemoveLost, RuleEndLost, RuleVeto, RuleOnCreate, RuleDelete, ConsumerAdd, ConsumerAck}
 use Rattle.reg_terms.specs.declared.event.Event.{Event}
-use Rattle.reg_terms.specs.declared.event.Event.TheVariants.{FolderMade, FolderRenamed, FolderMoved, FolderGone, SubjectMade, GroupMade, GroupRenamed, GroupMoved, GroupGone, RowAdded, RowRemoved, RowRedated, Composed, Decomposed, GrantAdded, GrantRemoved, InheritAdded, InheritRemoved, RuleMade, RuleGone, ConsumerAdded, ConsumerAcked}
+use Rattle.reg_terms.specs.declared.event.Event.TheVariants.{FolderMade, FolderRenamed, FolderMoved, FolderGone, SubjectMade, GroupMade, GroupRenamed, GroupMoved, GroupGone, RowAdded, RowRemoved, RowRedated, Composed, Decomposed, GrantAdded, GrantRemoved, InheritAdded, InheritRemoved, DefinitionMade, DefinitionGone, AttributeMade, AttributeGone, AssignMade, AssignGone, ValueAdded, ValueRemoved, RuleMade, RuleGone, ConsumerAdded, ConsumerAcked}
 use Rattle.reg_terms.specs.declared.kinds.Member.{Member}
-use Rattle.reg_terms.specs.declared.kinds.Object.TheVariants.{Folder, Group}
+use Rattle.reg_terms.specs.declared.kinds.AttrValue.{AttrValue}
+use Rattle.reg_terms.specs.declared.kinds.DefKind.{DefKind}
+use Rattle.reg_terms.specs.declared.kinds.Object.{Object}
+use Rattle.reg_terms.specs.declared.kinds.Object.TheVariants.{Folder, Group, Def}
+use Rattle.reg_terms.specs.declared.kinds.Owners.{Owners}
 use Rattle.reg_terms.specs.declared.rows.FolderRow.{FolderRow}
 use Rattle.reg_terms.specs.declared.rows.GroupRow.{GroupRow}
 use Rattle.reg_terms.specs.declared.rows.SubjectRow.{SubjectRow}
@@ -15,12 +19,17 @@ use Rattle.reg_terms.specs.declared.rows.MemberRow.{MemberRow}
 use Rattle.reg_terms.specs.declared.rows.CompositeRow.{CompositeRow}
 use Rattle.reg_terms.specs.declared.rows.GrantRow.{GrantRow}
 use Rattle.reg_terms.specs.declared.rows.InheritRow.{InheritRow}
+use Rattle.reg_terms.specs.declared.rows.DefinitionRow.{DefinitionRow}
+use Rattle.reg_terms.specs.declared.rows.AttributeRow.{AttributeRow}
+use Rattle.reg_terms.specs.declared.rows.AssignRow.{AssignRow}
 use Rattle.reg_terms.specs.declared.rows.RuleRow.{RuleRow}
 use Rattle.reg_terms.specs.declared.kinds.RuleForm.{RuleForm}
-use Rattle.reg_base.specs.declared.privilege.Privilege.TheVariants.{Admin, StemAdmin}
+use Rattle.reg_base.specs.declared.privilege.Privilege.TheVariants.{Admin, StemAdmin, AttrAdmin}
+use Rattle.reg_terms.specs.Values.{with_value, without_value}
+use Rattle.reg_facts.specs.Attributes.{attribute_id, definition_id, value_of}
 use Rattle.reg_facts.specs.Edits.{member_of, is_row, is_composite, the_id, person_text, from_or, folder_renamed, folder_moved, group_renamed, group_moved, windowed, without_notes}
 use Rattle.reg_facts.specs.Consumers.{acknowledged}
-use Rattle.reg_facts.specs.Grants.{same_grant, same_inherit, grant_of, inherit_of, makers_grant}
+use Rattle.reg_facts.specs.Grants.{same_grant, same_inherit, object_of, grant_of, inherit_of, makers_grant}
 use Rattle.reg_facts.specs.Lists.{Lists}
 use Rattle.reg_facts.specs.Rules.{creation_grants, form_of, not_yet}
 use Rattle.reg_facts.specs.Naming.{folder_id, group_id, home_id}
@@ -46,6 +55,14 @@ happened (GrantAdded row) f = record f { grants = f.grants ++ row ∷ [] }
 happened (GrantRemoved row) f = record f { grants = filter (λ (other : GrantRow). not (same_grant row other)) f.grants }
 happened (InheritAdded row) f = record f { inherits = f.inherits ++ row ∷ [] }
 happened (InheritRemoved row) f = record f { inherits = filter (λ (other : InheritRow). not (same_inherit row other)) f.inherits }
+happened (DefinitionMade row) f = record f { definitions = f.definitions ++ row ∷ []; made = record f.made { definitions = row.id } }
+happened (DefinitionGone id) f = record (without_notes (Def id) f) { definitions = filter (λ (row : DefinitionRow). not (row.id == id)) f.definitions }
+happened (AttributeMade row) f = record f { attributes = f.attributes ++ row ∷ []; made = record f.made { attributes = row.id } }
+happened (AttributeGone id) f = record f { attributes = filter (λ (row : AttributeRow). not (row.id == id)) f.attributes }
+happened (AssignMade row) f = record f { assigns = f.assigns ++ row ∷ []; made = record f.made { assigns = row.id } }
+happened (AssignGone id) f = record f { assigns = filter (λ (row : AssignRow). not (row.id == id)) f.assigns }
+happened (ValueAdded id v) f = record f { assigns = map (with_value id v) f.assigns }
+happened (ValueRemoved id v) f = record f { assigns = map (without_value id v) f.assigns }
 happened (RuleMade row) f = record f { rules = f.rules ++ row ∷ []; made = record f.made { rules = row.id } }
 happened (RuleGone id) f = record f { rules = filter (λ (row : RuleRow). not (row.id == id)) f.rules }
 happened (ConsumerAdded row) f = record f { consumers = f.consumers ++ row ∷ [] }
@@ -69,6 +86,15 @@ on_grant event (Some row) = event row ∷ []
 abbrev pub on_inherit : (InheritRow → Event) → Option InheritRow → List Event
 on_inherit event None = []
 on_inherit event (Some row) = event row ∷ []
+
+-- and so does an object to which an attribute is assigned, and a value that a definition takes
+abbrev pub on_owner : (Object → Event) → Option Object → List Event
+on_owner event None = []
+on_owner event (Some o) = event o ∷ []
+
+abbrev pub on_value : (AttrValue → Event) → Option AttrValue → List Event
+on_value event None = []
+on_value event (Some v) = event v ∷ []
 
 -- and so does a rule that a command makes
 abbrev pub on_rule : ℕ → Option RuleForm → List Event
@@ -101,6 +127,15 @@ new_subject subject display f = record { id = f.made.subjects + 1; text = person
 abbrev pub new_group : List ℕ → List ℕ → Lists → GroupRow
 new_group group display f = record { id = f.made.groups + 1; folder = the_id (home_id group f); extension = extension_of group; display = display }
 
+abbrev pub new_definition : List ℕ → Owners → Bool → DefKind → Bool → Lists → DefinitionRow
+new_definition definition owners several kind many f = record { id = f.made.definitions + 1; folder = the_id (home_id definition f); extension = extension_of definition; owners = owners; several = several; kind = kind; many = many }
+
+abbrev pub new_attribute : List ℕ → List ℕ → Lists → AttributeRow
+new_attribute attribute definition f = record { id = f.made.attributes + 1; folder = the_id (home_id attribute f); extension = extension_of attribute; definition = the_id (definition_id definition f) }
+
+abbrev pub new_assign : List ℕ → Object → Lists → AssignRow
+new_assign attribute o f = record { id = f.made.assigns + 1; attribute = the_id (attribute_id attribute f); owner = o; values = [] }
+
 -- the grants on a group that is made: that of its maker, and those of rules by id, each once
 abbrev pub new_groups_grants : Entity → List ℕ → Lists → List GrantRow
 new_groups_grants by group f =
@@ -128,6 +163,14 @@ events_of at by (GrantAdd object privilege holder) f = on_grant (λ row. GrantAd
 events_of at by (GrantRemove object privilege holder) f = on_grant (λ row. GrantRemoved row) (grant_of object privilege holder f)
 events_of at by (InheritAdd folder kind scope privilege holder) f = on_inherit (λ row. InheritAdded row) (inherit_of folder kind scope privilege holder f)
 events_of at by (InheritRemove folder kind scope privilege holder) f = on_inherit (λ row. InheritRemoved row) (inherit_of folder kind scope privilege holder f)
+events_of at by (AttrdefAdd definition owners several kind many) f = DefinitionMade (new_definition definition owners several kind many f) ∷ grants_added (makers_grant by (Def (f.made.definitions + 1)) AttrAdmin f)
+events_of at by (AttrdefDelete definition) f = DefinitionGone (the_id (definition_id definition f)) ∷ []
+events_of at by (AttrAdd attribute definition) f = AttributeMade (new_attribute attribute definition f) ∷ []
+events_of at by (AttrDelete attribute) f = AttributeGone (the_id (attribute_id attribute f)) ∷ []
+events_of at by (AssignAdd attribute object) f = on_owner (λ o. AssignMade (new_assign attribute o f)) (object_of object f)
+events_of at by (AssignRemove attribute object id) f = AssignGone id ∷ []
+events_of at by (ValueAdd attribute object id value) f = on_value (λ v. ValueAdded id v) (value_of (the_id (attribute_id attribute f)) value f)
+events_of at by (ValueRemove attribute object id value) f = on_value (λ v. ValueRemoved id v) (value_of (the_id (attribute_id attribute f)) value f)
 events_of at by (RuleRemoveLost check owner) f = on_rule (f.made.rules + 1) (form_of (RuleRemoveLost check owner) f)
 events_of at by (RuleEndLost check owner days) f = on_rule (f.made.rules + 1) (form_of (RuleEndLost check owner days) f)
 events_of at by (RuleVeto owner condition) f = on_rule (f.made.rules + 1) (form_of (RuleVeto owner condition) f)

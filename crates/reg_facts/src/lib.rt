@@ -2,6 +2,13 @@
 #![tactic(auto)]
 
 mod accessors;
+mod assign_index;
+mod assign_map;
+mod assign_rows;
+mod attribute_editing;
+mod attribute_rows;
+mod attribute_taking;
+mod attributes;
 mod by_extension;
 mod by_id;
 mod child_names;
@@ -37,5 +44,5 @@ pub use reg_terms::{
     AssignRow, AttrValue, AttrValues, AttributeRow, Command, CompositeRow, ConsumerRow, DefKind,
     DefinitionRow, Event, FolderRow, GrantRow, GroupRow, Holder, InheritKind, InheritRow, JobRow,
     Made, Member, MemberRow, Object, Owners, Refusal, RuleForm, RuleKey, RuleRow, Scope, SetOp,
-    Stamped, SubjectRow, Texts,
+    Stamped, SubjectRow, Texts, Value,
 };

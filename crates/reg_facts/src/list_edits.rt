@@ -1,14 +1,10 @@
 // Edits of one list.
-ghost use Rattle.std.specs.Prelude.{◌≡◌, map, filter, not};
-ghost use Rattle.reg_terms.specs.Kinds.{same_object};
+ghost use Rattle.std.specs.Prelude.{◌≡◌, map};
 ghost use Rattle.reg_facts.specs.Ascending.{FoldersAscend, GroupsAscend};
 ghost use Rattle.reg_facts.specs.Edits.{folder_renamed, folder_moved, group_renamed, group_moved};
-ghost use Rattle.reg_terms.specs.declared.rows.FolderRow.{FolderRow};
-ghost use Rattle.reg_terms.specs.declared.rows.GroupRow.{GroupRow};
-ghost use Rattle.reg_terms.specs.declared.rows.AssignRow.{AssignRow};
 
 use crate::numbered::place_by_id;
-use crate::{AssignRow, FolderRow, GroupRow, Object};
+use crate::{FolderRow, GroupRow};
 use reg_base::{FolderId, GroupId, Text};
 
 /// Gives a folder another extension.
@@ -49,11 +45,4 @@ pub fn move_group(rows: &mut [GroupRow], id: GroupId, to: FolderId)
     if let Some(at) = place_by_id(rows, id.number()) {
         rows[at].folder = to;
     }
-}
-
-/// Takes the assignments to an owner away.
-pub fn drop_assigns(rows: &mut Vec<AssignRow>, owner: &Object)
-    ensures { rows.new.items ≡ filter (λ (row : AssignRow). not (same_object row.owner owner.now)) rows.old.items }
-{
-    rows.retain(|row| !row.owner.is(owner));
 }

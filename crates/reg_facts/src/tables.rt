@@ -1,12 +1,16 @@
 // The lists of the facts.
-ghost use Rattle.std.specs.Prelude.{◌≡◌, ◌++◌, ◌∷◌, [], IfOk, OnOk, List, ℕ, Some, false};
+ghost use Rattle.std.specs.Prelude.{◌≡◌, ◌++◌, ◌∷◌, ◌<◌, [], IfOk, OnOk, List, ℕ, Some, false};
 ghost use Rattle.reg_facts.specs.Lists.{Lists, start};
+ghost use Rattle.reg_facts.specs.Attributes.{value_count};
 ghost use Rattle.reg_facts.specs.Edits.{has_row, is_composite};
 ghost use Rattle.reg_facts.specs.Grants.{has_grant, has_inherit};
 ghost use Rattle.reg_facts.specs.Events.{happened};
-ghost use Rattle.reg_terms.specs.declared.event.Event.TheVariants.{FolderMade, FolderRenamed, FolderMoved, FolderGone, SubjectMade, GroupMade, GroupRenamed, GroupMoved, GroupGone, RowAdded, RowRemoved, RowRedated, Composed, Decomposed, GrantAdded, GrantRemoved, InheritAdded, InheritRemoved, RuleMade, RuleGone, ConsumerAdded, ConsumerAcked};
-ghost use Rattle.reg_facts.specs.Ascending.{FoldersAscend, GroupsAscend, RulesAscend};
+ghost use Rattle.reg_terms.specs.declared.event.Event.TheVariants.{FolderMade, FolderRenamed, FolderMoved, FolderGone, SubjectMade, GroupMade, GroupRenamed, GroupMoved, GroupGone, RowAdded, RowRemoved, RowRedated, Composed, Decomposed, GrantAdded, GrantRemoved, InheritAdded, InheritRemoved, DefinitionMade, DefinitionGone, AttributeMade, AttributeGone, AssignMade, AssignGone, ValueAdded, ValueRemoved, RuleMade, RuleGone, ConsumerAdded, ConsumerAcked};
+ghost use Rattle.reg_facts.specs.Ascending.{FoldersAscend, GroupsAscend, DefinitionsAscend, AttributesAscend, AssignsAscend, RulesAscend};
+ghost use Rattle.reg_terms.specs.Limits.{max_values};
 
+use crate::assign_rows::AssignRows;
+use crate::attribute_rows::AttributeRows;
 use crate::consumers::acknowledge;
 use crate::grant_rows::GrantRows;
 use crate::inherit_rows::InheritRows;
@@ -14,10 +18,11 @@ use crate::member_rows::MemberRows;
 use crate::numbered::remove_by_id;
 use crate::rule_rows::RuleRows;
 use crate::{
-    AssignRow, AttributeRow, CompositeRow, ConsumerRow, DefinitionRow, FolderRow, GrantRow,
-    GroupRow, InheritRow, JobRow, Made, Member, MemberRow, Object, RuleRow, SubjectRow, list_edits,
+    AssignRow, AttrValue, AttributeRow, CompositeRow, ConsumerRow, DefinitionRow, FolderRow,
+    GrantRow, GroupRow, InheritRow, JobRow, Made, Member, MemberRow, Object, RuleRow, SubjectRow,
+    list_edits,
 };
-use reg_base::{FolderId, GroupId, Moment, RuleId, SubjectId, Text};
+use reg_base::{AssignId, AttrDefId, AttrId, FolderId, GroupId, Moment, RuleId, SubjectId, Text};
 use reg_table::Table;
 use std::alloc::{AllocError, Global};
 use std::marker::Model;
@@ -33,8 +38,8 @@ pub struct Tables {
     pub grant_rows: GrantRows,
     pub inherit_rows: InheritRows,
     pub definition_rows: Vec<DefinitionRow>,
-    pub attribute_rows: Vec<AttributeRow>,
-    pub assign_rows: Vec<AssignRow>,
+    pub attribute_rows: AttributeRows,
+    pub assign_rows: AssignRows,
     pub rule_rows: RuleRows,
     pub job_rows: Vec<JobRow>,
     pub consumer_rows: Vec<ConsumerRow>,
@@ -55,8 +60,8 @@ impl Model for Tables {
       grants = t.grant_rows;
       inherits = t.inherit_rows;
       definitions = t.definition_rows.items;
-      attributes = t.attribute_rows.items;
-      assigns = t.assign_rows.items;
+      attributes = t.attribute_rows;
+      assigns = t.assign_rows;
       rules = t.rule_rows;
       jobs = t.job_rows.items;
       consumers = t.consumer_rows.items;
@@ -100,8 +105,8 @@ impl Tables {
             grant_rows: GrantRows::new(alloc),
             inherit_rows: InheritRows::new(alloc),
             definition_rows: Vec::new(alloc),
-            attribute_rows: Vec::new(alloc),
-            assign_rows: Vec::new(alloc),
+            attribute_rows: AttributeRows::new(alloc),
+            assign_rows: AssignRows::new(alloc),
             rule_rows: RuleRows::new(alloc),
             job_rows: Vec::new(alloc),
             consumer_rows: Vec::new(alloc),
@@ -206,7 +211,7 @@ impl Tables {
         remove_by_id(&mut self.folder_rows, id.number());
         self.inherit_rows.remove_on(id);
         self.grant_rows.remove_on(&object);
-        list_edits::drop_assigns(&mut self.assign_rows, &object);
+        self.assign_rows.remove_on(&object);
     }
 
     /// Takes away a group, and the grants and assignments on it.
@@ -217,7 +222,7 @@ impl Tables {
         let object = Object::Group(id);
         remove_by_id(&mut self.group_rows, id.number());
         self.grant_rows.remove_on(&object);
-        list_edits::drop_assigns(&mut self.assign_rows, &object);
+        self.assign_rows.remove_on(&object);
     }
 
     /// Takes an immediate membership away.
@@ -268,6 +273,85 @@ impl Tables {
         ensures { self.new ≡ happened (InheritRemoved row.now) self.old }
     {
         self.inherit_rows.remove(row);
+    }
+
+    /// Adds a definition of the next id.
+    pub fn push_definition(&mut self, row: DefinitionRow) -> Result<(), AllocError>
+        ensures { OnOk result (self.new ≡ happened (DefinitionMade row) self.old) }
+    {
+        let number = row.id.number();
+        self.definition_rows.push(row)?;
+        self.counts.definitions = number;
+        Ok(())
+    }
+
+    /// Takes away a definition, and the grants and assignments on it.
+    pub fn delete_definition(&mut self, id: AttrDefId)
+        requires { DefinitionsAscend self.old.definitions }
+        ensures { self.new ≡ happened (DefinitionGone id) self.old }
+    {
+        let object = Object::Def(id);
+        remove_by_id(&mut self.definition_rows, id.number());
+        self.grant_rows.remove_on(&object);
+        self.assign_rows.remove_on(&object);
+    }
+
+    /// The lists with an attribute more, of the next id. Where there is no memory they are gone.
+    pub fn with_attribute(self, row: AttributeRow) -> Result<Tables, AllocError>
+        requires { AttributesAscend (self.attributes ++ row ∷ []) }
+        ensures { IfOk result (λ t. t ≡ happened (AttributeMade row) self) }
+    {
+        let number = row.id.number();
+        let mut tables = self;
+        tables.attribute_rows = tables.attribute_rows.with(row)?;
+        tables.counts.attributes = number;
+        Ok(tables)
+    }
+
+    /// Takes an attribute away.
+    pub fn remove_attribute(&mut self, id: AttrId)
+        ensures { self.new ≡ happened (AttributeGone id) self.old }
+    {
+        self.attribute_rows.remove(id);
+    }
+
+    /// The lists with an assignment more, of the next id and with no value. Where there is no
+    /// memory they are gone.
+    pub fn with_assign(self, row: AssignRow) -> Result<Tables, AllocError>
+        requires ascend { AssignsAscend (self.assigns ++ row ∷ []) }
+        requires empty { row.values ≡ [] }
+        ensures { IfOk result (λ t. t ≡ happened (AssignMade row) self) }
+    {
+        let number = row.id.number();
+        let mut tables = self;
+        tables.assign_rows = tables.assign_rows.with(row)?;
+        tables.counts.assigns = number;
+        Ok(tables)
+    }
+
+    /// Takes an assignment away, with its values.
+    pub fn remove_assign(&mut self, id: AssignId)
+        ensures { self.new ≡ happened (AssignGone id) self.old }
+    {
+        self.assign_rows.remove(id);
+    }
+
+    /// The lists with a value behind the others of an assignment. Where there is no memory they are
+    /// gone.
+    pub fn with_value(self, id: AssignId, value: AttrValue) -> Result<Tables, AllocError>
+        requires { value_count self.assigns < max_values }
+        ensures { IfOk result (λ t. t ≡ happened (ValueAdded id value) self) }
+    {
+        let mut tables = self;
+        tables.assign_rows = tables.assign_rows.add_value(id, value)?;
+        Ok(tables)
+    }
+
+    /// Takes the first of the values of an assignment that are this one away.
+    pub fn remove_value(&mut self, id: AssignId, value: &AttrValue)
+        ensures { self.new ≡ happened (ValueRemoved id value.now) self.old }
+    {
+        self.assign_rows.remove_value(id, value);
     }
 
     /// The lists with a rule more, of the next id. Where there is no memory they are gone.

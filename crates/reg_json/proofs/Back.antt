@@ -1,25 +1,29 @@
 -- What is written for a reply is taken apart as that reply.
-use Rattle.std.proofs.Common.{◌≡◌, ℕ, ◌≤◌, Bool, true, ◌&&◌, List, [], ◌∷◌, map, codes, Option, Some, None, refl, sym, ap, ◌∙◌, arith, lit≤, option_map, Result, Ok, Err, IfOk}
+use Rattle.std.proofs.Common.{◌≡◌, ℕ, ◌≤◌, Bool, true, ◌&&◌, List, [], ◌∷◌, map, codes, Option, Some, None, refl, sym, ap, ◌∙◌, arith, lit≤, option_map, Result, Ok, Err, IfOk, ℤ, pos, negsuc, ltb}
 use Rattle.std.specs.List.{list_all}
-use Rattle.std.proofs.lemmas.Bool.{and_parts, leb-true}
+use Rattle.std.proofs.lemmas.Bool.{and_parts, leb-true, lt-ltb, ltb-true}
 use Rattle.std.proofs.lemmas.Option.{same_Some}
 use Rattle.std.proofs.lemmas.Str.{is_utf8-from_IsUtf8}
-use Rattle.serde_json.specs.Data.{Data, string, array, depth, items_depth}
-use Rattle.serde_json.specs.Find.{get, as_str}
+use Rattle.serde_json.specs.Data.{Data, number, string, array, depth, items_depth}
+use Rattle.serde_json.specs.Find.{get, as_i64, as_str, of_integer}
 use Rattle.serde_json.specs.Read.{read}
 use Rattle.serde_json.specs.View.{items_of}
+use Rattle.serde_json.specs.Written.{compact_text}
 use Rattle.reg_base.specs.Names.{is_name}
 use Rattle.reg_base.specs.MomentText.{text_of}
 use Rattle.reg_base.proofs.Texts.{text_of_reads}
 use Rattle.reg_base.specs.declared.privilege.Privilege.{Privilege}
 use Rattle.reg_base.specs.declared.privilege.Privilege.TheVariants.{Admin, Update, Read, View, Optin, Optout, GroupAttrRead, GroupAttrUpdate, StemAdmin, Create, StemAttrRead, StemAttrUpdate, AttrAdmin, AttrUpdate, AttrRead, AttrView}
-use Rattle.reg_terms.specs.Forms.{is_moment, is_optional_moment}
+use Rattle.reg_terms.specs.Forms.{is_i64, is_moment, is_optional_moment}
 use Rattle.reg_terms.specs.Privileges.{line_of, privilege_named}
 use Rattle.reg_terms.specs.EntryWords.{word_of, kind_worded}
 use Rattle.reg_terms.specs.declared.entry_kinds.EntryKind.{EntryKind}
 use Rattle.reg_terms.specs.declared.entry_kinds.EntryKind.TheVariants as entry
+use Rattle.reg_terms.specs.declared.kinds.AttrValue.{AttrValue}
+use Rattle.reg_terms.specs.declared.kinds.AttrValue.TheVariants as value
 use Rattle.reg_terms.specs.declared.kinds.SetOp.{SetOp}
 use Rattle.reg_terms.specs.declared.kinds.SetOp.TheVariants.{Intersection, Complement}
+use Rattle.reg_terms.specs.declared.shown.AssignShown.{AssignShown}
 use Rattle.reg_terms.specs.declared.shown.FactorsShown.{FactorsShown}
 use Rattle.reg_terms.specs.declared.shown.GrantShown.{GrantShown}
 use Rattle.reg_terms.specs.declared.shown.RowShown.{RowShown}
@@ -34,9 +38,10 @@ use Rattle.reg_terms.specs.declared.reply.Reply.TheVariants as reply
 use Rattle.reg_json.specs.Fields.{composite_kind}
 use Rattle.reg_json.specs.Flat.{moment_data}
 use Rattle.reg_json.specs.Refusals.{refusal_data, refused}
-use Rattle.reg_json.specs.Replies.{accepted_data, strings, row_data, row_items, kind_word, factors_data, grant_data, names_of, span_data, entry_data, answer_data, reply_data, text}
-use Rattle.reg_json.specs.Taking.{has, text_in, name_in, number_in, optional_number_in, moment_in, moment_or_null, optional_moment_in, items_in, all_of, texts_in, row_from, kind_in, factors_from, factors_or_null, privilege_from, grant_from, span_from, entry_kind_in, entry_from, group_from, listing_from, members_from, memberships_from, groups_from, grants_from, may_from, history_from, log_from, list_from, answer_from, bare_refusal, http_refusal, field_refusal, object_refusal, denied_from, future_from, place_from, full_from, limit_from, named_from, with_object, with_field, with_nothing, other_refusal, refusal_from, accepted_from, fault_from, reply_from, reply_of}
-use Rattle.reg_json.specs.Writable.{is_u64, is_optional_u64, row_fits, span_fits, entry_fits, answer_fits, refusal_fits, reply_fits, IsWritable}
+use Rattle.reg_json.specs.Replies.{accepted_data, strings, row_data, row_items, kind_word, factors_data, grant_data, names_of, span_data, entry_data, value_data, assign_data, answer_data, reply_data, text}
+use Rattle.reg_json.specs.Taking.{has, text_in, name_in, number_in, optional_number_in, moment_in, moment_or_null, optional_moment_in, items_in, all_of, texts_in, row_from, kind_in, factors_from, factors_or_null, privilege_from, grant_from, span_from, entry_kind_in, entry_from, value_from, id_in, assign_from, group_from, listing_from, members_from, memberships_from, groups_from, grants_from, may_from, attributes_from, history_from, log_from, list_from, answer_from, bare_refusal, http_refusal, field_refusal, object_refusal, denied_from, future_from, place_from, full_from, limit_from, named_from, with_object, with_field, with_nothing, other_refusal, refusal_from, accepted_from, fault_from, reply_from, reply_of}
+use Rattle.reg_json.specs.Told.{told_value, told_assign, told_answer, told}
+use Rattle.reg_json.specs.Writable.{is_u64, is_optional_u64, row_fits, span_fits, entry_fits, value_fits, assign_fits, answer_fits, refusal_fits, reply_fits, IsWritable}
 use Rattle.reg_json.proofs.Plain.{is_plain, are_plain, plain_read, all_plain, all_flat}
 
 -- ---- what stands under a key
@@ -176,14 +181,43 @@ entry_again : (e : EntryShown) → entry_fits e ≡ true → entry_from (entry_d
 unfolding entry_from entry_kind_in number_in text_in
 entry_again e h = rw (moment_there (codes "at") (entry_data e) e.at refl (and_parts (is_moment e.at) (is_u64 e.number && is_u64 e.seq) h).0, worded_again e.kind) refl
 
+-- ---- values of assignments
+
+integer_again : (n : ℤ) → is_i64 n ≡ true → as_i64 (of_integer n) ≡ Some n
+integer_again (pos n) h = rw h refl
+integer_again (negsuc n) h = refl
+
+value_again : (v : AttrValue) → value_fits v ≡ true → value_from (value_data v) ≡ Some (told_value v)
+unfolding value_from
+value_again (value.Int n) h = rw (integer_again n h) refl
+value_again (value.Text words) h = refl
+value_again (value.Moment moment) h = refl
+
+-- items that are read as something is told of them
+all_told : {A : Type 0} (write : A → Data) (take_one : Data → Option A) (fits : A → Bool) (tell : A → A) → ((x : A) → fits x ≡ true → take_one (write x) ≡ Some (tell x)) → (xs : List A) → list_all fits xs ≡ true → all_of take_one (items_of (map write xs)) ≡ Some (map tell xs)
+all_told write take_one fits tell one [] h = refl
+all_told write take_one fits tell one (x ∷ xs) h =
+    let both = and_parts (fits x) (list_all fits xs) h in
+    rw (one x both.0, all_told write take_one fits tell one xs both.1) refl
+
+id_there : (key : List ℕ) (d : Data) (n : ℕ) → number_in key d ≡ Some n → ltb n 4294967296 ≡ true → id_in key d ≡ Some n
+unfolding id_in
+id_there key d n there small = rw (there, small) refl
+
+assign_again : (a : AssignShown) → assign_fits a ≡ true → assign_from (assign_data a) ≡ Some (told_assign a)
+unfolding assign_from number_in text_in items_in
+assign_again a h =
+    let both = and_parts (ltb a.id 4294967296) (list_all value_fits a.values) h in
+    rw (id_there (codes "id") (assign_data a) a.id refl both.0, all_told value_data value_from value_fits told_value value_again a.values both.1) refl
+
 -- ---- answers
 
 names_again : (privileges : List Privilege) → all_of privilege_from (strings (names_of privileges)) ≡ Some privileges
 names_again [] = refl
 names_again (p ∷ ps) = rw (privilege_again p, names_again ps) refl
 
-answer_again : (a : Answer) → answer_fits a ≡ true → answer_from (answer_data a) ≡ Some a
-unfolding answer_from list_from has answer_data group_from listing_from members_from memberships_from groups_from grants_from may_from history_from log_from items_in number_in text_in
+answer_again : (a : Answer) → answer_fits a ≡ true → answer_from (answer_data a) ≡ Some (told_answer a)
+unfolding answer_from list_from has answer_data group_from listing_from members_from memberships_from groups_from grants_from may_from attributes_from history_from log_from items_in number_in text_in
 answer_again (answer.GroupGet display name) h = rw (name_there (codes "name") (answer_data (answer.GroupGet display name)) name refl h) refl
 answer_again (answer.FolderList attributes definitions folders groups) h =
     let d = answer_data (answer.FolderList attributes definitions folders groups) in
@@ -193,6 +227,7 @@ answer_again (answer.Rows composite rows) h = rw (composite_again composite, row
 answer_again (answer.Groups groups) h = rw (texts_there (codes "groups") (answer_data (answer.Groups groups)) groups refl) refl
 answer_again (answer.Grants grants) h = rw (all_again grant_data grant_from any (λ g _. grant_again g) grants (all_any grants)) refl
 answer_again (answer.May privileges) h = rw (names_again privileges) refl
+answer_again (answer.Attributes assignments) h = rw (all_told assign_data assign_from assign_fits told_assign assign_again assignments h) refl
 answer_again (answer.History history) h = rw (all_again span_data span_from span_fits span_again history h) refl
 answer_again (answer.Log entries last place) h = rw (all_again entry_data entry_from entry_fits entry_again entries (and_parts (list_all entry_fits entries) (is_u64 last && is_u64 place) h).0) refl
 
@@ -221,6 +256,9 @@ refusal_again refusal.HasMembers h = refl
 refusal_again (refusal.Circular name) h = refl
 refusal_again (refusal.InUse used) h = refl
 refusal_again refusal.NotEmpty h = refl
+refusal_again refusal.WrongOwner h = refl
+refusal_again refusal.WrongValue h = refl
+refusal_again refusal.Single h = refl
 refusal_again (refusal.Place kept last) h = refl
 refusal_again (refusal.Full kind limit) h = refl
 refusal_again (refusal.Vetoed rule) h = refl
@@ -254,6 +292,9 @@ fault_again refusal.HasMembers = refl
 fault_again (refusal.Circular name) = refl
 fault_again (refusal.InUse used) = refl
 fault_again refusal.NotEmpty = refl
+fault_again refusal.WrongOwner = refl
+fault_again refusal.WrongValue = refl
+fault_again refusal.Single = refl
 fault_again (refusal.Place kept last) = refl
 fault_again (refusal.Full kind limit) = refl
 fault_again (refusal.Vetoed rule) = refl
@@ -274,6 +315,7 @@ answer_goes (answer.Rows composite rows) = refl
 answer_goes (answer.Groups groups) = refl
 answer_goes (answer.Grants grants) = refl
 answer_goes (answer.May privileges) = refl
+answer_goes (answer.Attributes assignments) = refl
 answer_goes (answer.History history) = refl
 answer_goes (answer.Log entries last place) = refl
 
@@ -290,7 +332,7 @@ disk_again : reply_from (reply_data reply.KeepFault) ≡ Some reply.KeepFault
 unfolding reply_from reply_data has fault_from text_in
 disk_again = refl
 
-reply_again : (r : Reply) → reply_fits r ≡ true → reply_from (reply_data r) ≡ Some r
+reply_again : (r : Reply) → reply_fits r ≡ true → reply_from (reply_data r) ≡ Some (told r)
 unfolding reply_data
 reply_again (reply.Number n id) h = number_again n id
 reply_again (reply.Answer a) h = answer_goes a ∙ ap (option_map (λ v. reply.Answer v)) (answer_again a h)
@@ -337,7 +379,33 @@ strings_plain : (texts : List (List ℕ)) → are_plain (strings texts) ≡ true
 strings_plain texts = all_plain string any (λ x h. refl) texts (all_any texts)
 
 strings_flat : (texts : List (List ℕ)) → items_depth (strings texts) ≤ 1
-strings_flat texts = all_flat string (λ x. lit≤ tt) texts
+strings_flat texts = all_flat 1 string (λ x. lit≤ tt) texts
+
+integer_plain : (n : ℤ) → is_i64 n ≡ true → is_plain (number (of_integer n)) ≡ true
+integer_plain (pos n) h =
+    let below = ltb-true n 9223372036854775808 h in
+    lt-ltb n 18446744073709551616 (omega arith)
+integer_plain (negsuc n) h = h
+
+value_plain : (v : AttrValue) → value_fits v ≡ true → is_plain (value_data v) ≡ true
+value_plain (value.Int n) h = integer_plain n h
+value_plain (value.Text words) h = refl
+value_plain (value.Moment moment) h = refl
+
+assign_plain : (a : AssignShown) → assign_fits a ≡ true → is_plain (assign_data a) ≡ true
+assign_plain a h =
+    let both = and_parts (ltb a.id 4294967296) (list_all value_fits a.values) h in
+    let below = ltb-true a.id 4294967296 both.0 in
+    let wide : ltb a.id 18446744073709551616 ≡ true = lt-ltb _ _ (omega arith) in
+    rw (wide, all_plain value_data value_fits value_plain a.values both.1) refl
+
+value_flat : (v : AttrValue) → depth (value_data v) ≤ 0
+value_flat (value.Int n) = lit≤ tt
+value_flat (value.Text words) = lit≤ tt
+value_flat (value.Moment moment) = lit≤ tt
+
+assign_flat : (a : AssignShown) → depth (assign_data a) ≤ 2
+assign_flat a = omega (arith, all_flat 0 value_data value_flat a.values)
 
 answer_plain : (a : Answer) → answer_fits a ≡ true → is_plain (answer_data a) ≡ true
 unfolding answer_data
@@ -348,6 +416,7 @@ answer_plain (answer.Rows composite rows) h = rw (factors_plain composite, all_p
 answer_plain (answer.Groups groups) h = rw (strings_plain groups) refl
 answer_plain (answer.Grants grants) h = rw (all_plain grant_data any (λ g _. refl) grants (all_any grants)) refl
 answer_plain (answer.May privileges) h = rw (strings_plain (names_of privileges)) refl
+answer_plain (answer.Attributes assignments) h = rw (all_plain assign_data assign_fits assign_plain assignments h) refl
 answer_plain (answer.History history) h = rw (all_plain span_data span_fits (λ span _. span_plain span) history h) refl
 answer_plain (answer.Log entries last place) h =
     let both = and_parts (list_all entry_fits entries) (is_u64 last && is_u64 place) h in
@@ -359,12 +428,13 @@ unfolding answer_data
 answer_flat (answer.GroupGet display name) = lit≤ tt
 answer_flat (answer.FolderList attributes definitions folders groups) = omega (arith, strings_flat attributes, strings_flat definitions, strings_flat folders, strings_flat groups)
 answer_flat (answer.Members texts) = omega (arith, strings_flat texts)
-answer_flat (answer.Rows composite rows) = omega (arith, factors_flat composite, all_flat row_data row_flat rows)
+answer_flat (answer.Rows composite rows) = omega (arith, factors_flat composite, all_flat 1 row_data row_flat rows)
 answer_flat (answer.Groups groups) = omega (arith, strings_flat groups)
-answer_flat (answer.Grants grants) = omega (arith, all_flat grant_data (λ g. lit≤ tt) grants)
+answer_flat (answer.Grants grants) = omega (arith, all_flat 1 grant_data (λ g. lit≤ tt) grants)
 answer_flat (answer.May privileges) = omega (arith, strings_flat (names_of privileges))
-answer_flat (answer.History history) = omega (arith, all_flat span_data span_flat history)
-answer_flat (answer.Log entries last place) = omega (arith, all_flat entry_data (λ e. lit≤ tt) entries)
+answer_flat (answer.Attributes assignments) = omega (arith, all_flat 2 assign_data assign_flat assignments)
+answer_flat (answer.History history) = omega (arith, all_flat 1 span_data span_flat history)
+answer_flat (answer.Log entries last place) = omega (arith, all_flat 1 entry_data (λ e. lit≤ tt) entries)
 
 refusal_plain : (r : Refusal) → refusal_fits r ≡ true → is_plain (refusal_data r) ≡ true
 unfolding refusal_data refused
@@ -391,6 +461,9 @@ refusal_plain refusal.HasMembers h = refl
 refusal_plain (refusal.Circular name) h = refl
 refusal_plain (refusal.InUse used) h = refl
 refusal_plain refusal.NotEmpty h = refl
+refusal_plain refusal.WrongOwner h = refl
+refusal_plain refusal.WrongValue h = refl
+refusal_plain refusal.Single h = refl
 refusal_plain refusal.NoRoute h = refl
 refusal_plain refusal.NoMethod h = refl
 refusal_plain refusal.NoLength h = refl
@@ -419,6 +492,9 @@ refusal_flat refusal.HasMembers = lit≤ tt
 refusal_flat (refusal.Circular name) = lit≤ tt
 refusal_flat (refusal.InUse used) = lit≤ tt
 refusal_flat refusal.NotEmpty = lit≤ tt
+refusal_flat refusal.WrongOwner = lit≤ tt
+refusal_flat refusal.WrongValue = lit≤ tt
+refusal_flat refusal.Single = lit≤ tt
 refusal_flat (refusal.Place kept last) = lit≤ tt
 refusal_flat (refusal.Full kind limit) = lit≤ tt
 refusal_flat (refusal.Vetoed rule) = lit≤ tt
@@ -456,19 +532,43 @@ reply_flat (reply.Refused r) = refusal_flat r
 reply_flat reply.NoMemory = lit≤ tt
 reply_flat reply.KeepFault = lit≤ tt
 
--- ---- the text of a reply is read as that reply
+-- ---- what is told has the same text
 
-pub reads_back : (r : Reply) → IsWritable r → reply_of (text r) ≡ Some r
+same_items : {A : Type 0} (write : A → Data) (tell : A → A) → ((x : A) → write (tell x) ≡ write x) → (xs : List A) → items_of (map write (map tell xs)) ≡ items_of (map write xs)
+same_items write tell one [] = refl
+same_items write tell one (x ∷ xs) = rw (one x, same_items write tell one xs) refl
+
+same_value : (v : AttrValue) → value_data (told_value v) ≡ value_data v
+same_value (value.Int n) = refl
+same_value (value.Text words) = refl
+same_value (value.Moment moment) = refl
+
+same_assign : (a : AssignShown) → assign_data (told_assign a) ≡ assign_data a
+same_assign a = rw (same_items value_data told_value same_value a.values) refl
+
+same_answer : (a : Answer) → answer_data (told_answer a) ≡ answer_data a
+unfolding answer_data
+same_answer (answer.Attributes assignments) = rw (same_items assign_data told_assign same_assign assignments) refl
+same_answer _ = refl
+
+same_text : (r : Reply) → text (told r) ≡ text r
+unfolding text reply_data
+same_text (reply.Answer a) = ap compact_text (same_answer a)
+same_text _ = refl
+
+-- ---- the text of a reply is read as what it tells
+
+pub reads_back : (r : Reply) → IsWritable r → reply_of (text r) ≡ Some (told r)
 unfolding text reply_of
 reads_back r w = rw (is_utf8-from_IsUtf8 (text r) w.utf8, plain_read (reply_data r) (reply_plain r w.fits) (reply_flat r)) (reply_again r w.fits)
 
--- so what was found whose text this is, is the one reply that has it
-pub exact_found : {E : Type 0} (bytes : List ℕ) (r : Reply) (result : Result (Option Reply) E) → reply_of bytes ≡ Some r → IfOk result (λ found. text r ≡ bytes → found ≡ Some r) → IfOk result (λ found. (s : Reply) → IsWritable s → text s ≡ bytes → found ≡ Some s)
+-- so what was found whose text this is, is what each reply tells that has it
+pub exact_found : {E : Type 0} (bytes : List ℕ) (r : Reply) (result : Result (Option Reply) E) → reply_of bytes ≡ Some r → IfOk result (λ found. text r ≡ bytes → found ≡ Some r) → IfOk result (λ found. (s : Reply) → IsWritable s → text s ≡ bytes → found ≡ Some (told s))
 exact_found bytes r (Err e) read h = tt
 exact_found bytes r (Ok found) read h = λ s w e.
-    let same : r ≡ s = same_Some r s (sym read ∙ ap reply_of (sym e) ∙ reads_back s w) in
-    h (ap text same ∙ e) ∙ ap (λ (t : Reply). Some t) same
+    let same : r ≡ told s = same_Some r (told s) (sym read ∙ ap reply_of (sym e) ∙ reads_back s w) in
+    h (ap text same ∙ same_text s ∙ e) ∙ ap (λ (t : Reply). Some t) same
 
 -- and where nothing was found no reply has that text
-pub exact_none : (bytes : List ℕ) → reply_of bytes ≡ None → (s : Reply) → IsWritable s → text s ≡ bytes → None ≡ Some s
+pub exact_none : (bytes : List ℕ) → reply_of bytes ≡ None → (s : Reply) → IsWritable s → text s ≡ bytes → None ≡ Some (told s)
 exact_none bytes read s w e = sym read ∙ ap reply_of (sym e) ∙ reads_back s w

@@ -1,5 +1,5 @@
 -- The text of a plain value reads as that value.
-use Rattle.std.proofs.Common.{◌≡◌, ℕ, suc, ◌≤◌, ◌<◌, ◌^◌, Bool, true, false, ◌&&◌, ltb, pos, negsuc, List, [], ◌∷◌, map, Some, refl, sym, ap, ◌∙◌, arith, lit≤, append-nil}
+use Rattle.std.proofs.Common.{◌≡◌, ℕ, suc, ◌≤◌, ◌<◌, ◌^◌, Bool, true, false, ◌&&◌, ltb, pos, negsuc, List, [], ◌∷◌, map, Some, refl, sym, ap, ◌∙◌, arith, append-nil}
 use Rattle.std.specs.Prelude.{⊤}
 use Rattle.std.specs.List.{list_all}
 use Rattle.std.proofs.lemmas.Bool.{and_parts, and_from, ltb-true, false≢true}
@@ -170,10 +170,11 @@ ascends before (member k d ms) = comes_last k before && ascends (then_member bef
 
 abbrev is_whole : Num → Bool
 is_whole (unsigned n) = ltb n 18446744073709551616
-is_whole (negative z) = false
+is_whole (negative (pos n)) = false
+is_whole (negative (negsuc n)) = ltb n 9223372036854775808
 is_whole (float x) = false
 
--- numbers are whole and not negative, and the keys of each object ascend
+-- numbers are whole, and the keys of each object ascend
 abbrev mutual
   pub is_plain : Data → Bool
   is_plain null = true
@@ -206,7 +207,8 @@ ascends_is before (member k d ms) h = let both = and_parts _ _ h in (last_is k b
 
 whole_is : (n : Num) → is_whole n ≡ true → IsWhole n
 whole_is (unsigned n) h = ltb-true n 18446744073709551616 h
-whole_is (negative z) h = absurd (false≢true h)
+whole_is (negative (pos n)) h = absurd (false≢true h)
+whole_is (negative (negsuc n)) h = ltb-true n 9223372036854775808 h
 whole_is (float x) h = absurd (false≢true h)
 
 mutual
@@ -238,6 +240,6 @@ all_plain write fits one (x ∷ xs) h =
     let both = and_parts (fits x) (list_all fits xs) h in
     and_from _ _ (one x both.0) (all_plain write fits one xs both.1)
 
-pub all_flat : {A : Type 0} (write : A → Data) → ((x : A) → depth (write x) ≤ 1) → (xs : List A) → items_depth (items_of (map write xs)) ≤ 1
-all_flat write one [] = lit≤ tt
-all_flat write one (x ∷ xs) = omega (arith, one x, all_flat write one xs)
+pub all_flat : {A : Type 0} (n : ℕ) (write : A → Data) → ((x : A) → depth (write x) ≤ n) → (xs : List A) → items_depth (items_of (map write xs)) ≤ n
+all_flat n write one [] = omega arith
+all_flat n write one (x ∷ xs) = omega (arith, one x, all_flat n write one xs)

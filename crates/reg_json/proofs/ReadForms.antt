@@ -1,8 +1,8 @@
 -- What is read has its form.
-use Rattle.std.proofs.Common.{◌≡◌, ◌≤◌, ℕ, List, [], ◌∷◌, Bool, true, false, length, map, Option, Some, None, Result, Ok, Err, IfOk, IfSome, refl, sym, ap, subst, ◌∙◌, codes, cond, ok_or, option_map, drop, nat_eq, option_and_then}
+use Rattle.std.proofs.Common.{◌≡◌, ◌≤◌, ℕ, List, [], ◌∷◌, Bool, true, false, ◌&&◌, length, map, Option, Some, None, Result, Ok, Err, IfOk, IfSome, refl, sym, ap, subst, ◌∙◌, codes, cond, ok_or, option_map, drop, nat_eq, option_and_then}
 use Rattle.std.specs.List.{list_all, starts_with}
 use Rattle.std.specs.Str.{IsUtf8, bytes_eq}
-use Rattle.std.proofs.lemmas.Bool.{and_from, le-leb}
+use Rattle.std.proofs.lemmas.Bool.{and_from, and_parts, le-leb}
 use Rattle.std.proofs.lemmas.Str.{is_utf8-from_IsUtf8}
 use Rattle.serde_json.specs.Data.{Data}
 use Rattle.serde_json.specs.Find.{get, as_object}
@@ -11,7 +11,7 @@ use Rattle.reg_base.specs.Entities.{entity_of}
 use Rattle.reg_base.specs.MomentText.{moment_of}
 use Rattle.reg_base.specs.declared.entity.Entity.TheVariants.{Person, Group}
 use Rattle.reg_terms.specs.Limits.{max_display, max_moment}
-use Rattle.reg_terms.specs.Forms.{is_display, is_entity, is_folder_text, is_object_text, is_optional_moment, is_field, has_form, query_has_form, op_has_form}
+use Rattle.reg_terms.specs.Forms.{is_display, is_entity, is_folder_text, is_object_text, is_optional_moment, is_value, suits_some, is_field, has_form, query_has_form, op_has_form}
 use Rattle.reg_terms.specs.Parts.{field_kind}
 use Rattle.reg_terms.specs.Table.{row_of, field_kinds, made, op_fields, IsMade}
 use Rattle.reg_terms.specs.declared.field.FieldKind.{FieldKind}
@@ -27,6 +27,8 @@ use Rattle.reg_json.specs.declared.fields.Carrier.{Carrier}
 use Rattle.reg_json.specs.declared.fields.Carrier.TheVariants.{Line, Body}
 use Rattle.reg_json.specs.Steps.{◌>>=◌}
 use Rattle.reg_json.specs.Fields.{text_at, text_or_empty, optional_text_at, known_keys, no_other, display_at, set_op_at, inherit_kind_at, scope_at, privilege_at, whole_number, is_within, number_at, name_from, folder_from, extension_from, object_from, entity_from, moment_from}
+use Rattle.reg_json.specs.Attributes.{owners_named, owners_at, flag_at, def_kind_at, value_of, value_from, value_at, are_owners, owners_among}
+use Rattle.reg_json.specs.Taking.{texts_in}
 use Rattle.reg_json.specs.Ops.{form_at, all_stand, all_forms, fields_in, asked_in}
 use Rattle.reg_json.specs.Reading.{data_of, known_kind, request_in, reading_of, body_in, body_reading_of}
 use Rattle.reg_json.specs.Forms.{IsFormed, ReadForm}
@@ -117,6 +119,21 @@ unfolding moment_from
 moment_form field None = last refl
 moment_form field (Some text) = some_ok (λ moment. is_optional_moment moment ≡ true) (option_map Some (moment_of text)) (BadMoment field) (within_form (moment_of text) (read_within text))
 
+owners_some : (words : Option (List (List ℕ))) → IfSome (option_and_then owners_named words) (λ owners. suits_some owners ≡ true)
+owners_some None = tt
+owners_some (Some ws) = some_tested (are_owners ws && suits_some (owners_among ws)) (λ owners. suits_some owners ≡ true) (owners_among ws) (λ e. (and_parts _ _ e).1)
+
+owners_form : (key : List ℕ) (d : Data) → Keeps (λ owners. suits_some owners ≡ true) (owners_at key d)
+unfolding owners_at
+owners_form key d = some_ok (λ owners. suits_some owners ≡ true) (option_and_then owners_named (texts_in key d)) (BadRequest key) (owners_some (texts_in key d))
+
+given_form : (key : List ℕ) (d : Data) → Keeps (λ value. is_value value ≡ true) (value_from key d)
+given_form key d = pass (ok_or (value_of d) (BadRequest key)) (λ value. step (tested (is_value value) (λ _. is_value value ≡ true) true (BadRequest key) (λ e. e)) (λ fits e. last e))
+
+value_form : (key : List ℕ) (d : Data) → Keeps (λ value. is_value value ≡ true) (value_at key d)
+unfolding value_at
+value_form key d = pass (ok_or (get key d) (BadRequest key)) (λ found. given_form key found)
+
 -- ---- by the kinds of fields
 
 -- a field of a kind that has its form
@@ -136,6 +153,10 @@ form_kept kind.SetOp key d = pass (set_op_at key d) (λ v. last (record { is_kin
 form_kept kind.InheritKind key d = pass (inherit_kind_at key d) (λ v. last (record { is_kind = refl; fits = refl }))
 form_kept kind.Scope key d = pass (scope_at key d) (λ v. last (record { is_kind = refl; fits = refl }))
 form_kept kind.Privilege key d = pass (privilege_at key d) (λ v. last (record { is_kind = refl; fits = refl }))
+form_kept kind.Owners key d = step (owners_form key d) (λ v e. last (record { is_kind = refl; fits = e }))
+form_kept kind.Flag key d = pass (flag_at key d) (λ v. last (record { is_kind = refl; fits = refl }))
+form_kept kind.DefKind key d = pass (def_kind_at key d) (λ v. last (record { is_kind = refl; fits = refl }))
+form_kept kind.Value key d = step (value_form key d) (λ v e. last (record { is_kind = refl; fits = e }))
 form_kept (kind.Number least most) key d = step (number_form least most key d) (λ v e. last (record { is_kind = refl; fits = e }))
 
 record AreForms (ks : List FieldKind) (fs : List Field) : Type 0 where

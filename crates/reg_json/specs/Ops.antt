@@ -13,6 +13,7 @@ use Rattle.reg_terms.specs.declared.refusal.Refusal.TheVariants.{BadRequest}
 use Rattle.reg_terms.specs.Table.{row_of, made}
 use Rattle.reg_json.specs.declared.fields.Carrier.{Carrier}
 use Rattle.reg_json.specs.Steps.{◌>>=◌}
+use Rattle.reg_json.specs.Attributes.{owners_at, flag_at, def_kind_at, value_at}
 use Rattle.reg_json.specs.Fields.{known_keys, no_other, text_at, optional_text_at, display_at, set_op_at, inherit_kind_at, scope_at, privilege_at, number_at, name_from, folder_from, extension_from, entity_from, object_from, moment_from}
 
 -- ---- by the kinds of fields
@@ -51,6 +52,18 @@ stands_at kind.Scope key d = do
   Ok true
 stands_at kind.Privilege key d = do
   word ← privilege_at key d
+  Ok true
+stands_at kind.Owners key d = do
+  owners ← owners_at key d
+  Ok true
+stands_at kind.Flag key d = do
+  flag ← flag_at key d
+  Ok true
+stands_at kind.DefKind key d = do
+  word ← def_kind_at key d
+  Ok true
+stands_at kind.Value key d = do
+  value ← value_at key d
   Ok true
 stands_at (kind.Number least most) key d = do
   value ← number_at least most key d
@@ -97,6 +110,18 @@ form_at kind.Scope key d = do
 form_at kind.Privilege key d = do
   privilege ← privilege_at key d
   Ok (field.Privilege privilege)
+form_at kind.Owners key d = do
+  owners ← owners_at key d
+  Ok (field.Owners owners)
+form_at kind.Flag key d = do
+  flag ← flag_at key d
+  Ok (field.Flag flag)
+form_at kind.DefKind key d = do
+  kind ← def_kind_at key d
+  Ok (field.DefKind kind)
+form_at kind.Value key d = do
+  value ← value_at key d
+  Ok (field.Value value)
 form_at (kind.Number least most) key d = do
   value ← number_at least most key d
   Ok (field.Number value least most)

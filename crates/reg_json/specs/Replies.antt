@@ -1,15 +1,19 @@
 -- The text of a reply: compact JSON (RFC 8259) whose keys ascend by bytes.
 use Rattle.std.specs.Prelude.{ℕ, List, Option, None, Some, map, true, codes}
+use Rattle.serde_json.specs.Find.{of_integer}
 use Rattle.serde_json.specs.Data.{Data, Items, null, array, object, member, no_members, number, unsigned, boolean, string}
 use Rattle.serde_json.specs.View.{items_of}
 use Rattle.serde_json.specs.Written.{compact_text}
 use Rattle.reg_base.specs.MomentText.{text_of}
 use Rattle.reg_base.specs.declared.privilege.Privilege.{Privilege}
 use Rattle.reg_terms.specs.Privileges.{line_of}
+use Rattle.reg_terms.specs.declared.kinds.AttrValue.{AttrValue}
+use Rattle.reg_terms.specs.declared.kinds.AttrValue.TheVariants as value
 use Rattle.reg_terms.specs.declared.kinds.SetOp.{SetOp}
 use Rattle.reg_terms.specs.declared.kinds.SetOp.TheVariants.{Intersection, Complement}
 use Rattle.reg_terms.specs.declared.query.Answer.{Answer}
 use Rattle.reg_terms.specs.declared.query.Answer.TheVariants as answer
+use Rattle.reg_terms.specs.declared.shown.AssignShown.{AssignShown}
 use Rattle.reg_terms.specs.declared.shown.FactorsShown.{FactorsShown}
 use Rattle.reg_terms.specs.declared.shown.GrantShown.{GrantShown}
 use Rattle.reg_terms.specs.declared.shown.RowShown.{RowShown}
@@ -71,6 +75,24 @@ entry_data entry = object (member (codes "at") (string (text_of entry.at)) (memb
 abbrev pub entry_items : List EntryShown → Items
 entry_items entries = items_of (map entry_data entries)
 
+-- a value of an assignment as JSON data: an integer as a number, a text, and a moment by its text
+abbrev pub value_data : AttrValue → Data
+value_data (value.Int n) = number (of_integer n)
+value_data (value.Text words) = string words
+value_data (value.Moment moment) = string (text_of moment)
+
+-- values as an array's items
+abbrev pub value_items : List AttrValue → Items
+value_items values = items_of (map value_data values)
+
+-- an assignment as JSON data
+abbrev pub assign_data : AssignShown → Data
+assign_data assign = object (member (codes "attribute") (string assign.attribute) (member (codes "id") (number (unsigned assign.id)) (member (codes "values") (array (value_items assign.values)) no_members)))
+
+-- assignments as an array's items
+abbrev pub assign_items : List AssignShown → Items
+assign_items assigns = items_of (map assign_data assigns)
+
 -- a query's answer as JSON data
 unfoldable pub answer_data : Answer → Data
 answer_data (answer.GroupGet display name) = object (member (codes "display") (string display) (member (codes "name") (string name) (member (codes "ok") (boolean true) no_members)))
@@ -80,6 +102,7 @@ answer_data (answer.Rows composite rows) = object (member (codes "composite") (f
 answer_data (answer.Groups groups) = object (member (codes "groups") (array (strings groups)) (member (codes "ok") (boolean true) no_members))
 answer_data (answer.Grants grants) = object (member (codes "grants") (array (grant_items grants)) (member (codes "ok") (boolean true) no_members))
 answer_data (answer.May privileges) = object (member (codes "ok") (boolean true) (member (codes "privileges") (array (strings (names_of privileges))) no_members))
+answer_data (answer.Attributes assignments) = object (member (codes "assignments") (array (assign_items assignments)) (member (codes "ok") (boolean true) no_members))
 answer_data (answer.History history) = object (member (codes "history") (array (span_items history)) (member (codes "ok") (boolean true) no_members))
 answer_data (answer.Log entries last place) = object (member (codes "entries") (array (entry_items entries)) (member (codes "last") (number (unsigned last)) (member (codes "ok") (boolean true) (member (codes "place") (number (unsigned place)) no_members))))
 

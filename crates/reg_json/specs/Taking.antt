@@ -1,8 +1,8 @@
 -- What JSON data say, taken apart by their keys: the opposite of how a reply is written.
-use Rattle.std.specs.Prelude.{ℕ, List, [], ◌∷◌, Bool, ◌==◌, nat_lt, Option, Some, None, codes, is_some, option_and_then, option_map, if◌then◌else◌}
+use Rattle.std.specs.Prelude.{ℕ, ◌^◌, List, [], ◌∷◌, Bool, ◌==◌, nat_lt, Option, Some, None, codes, is_some, option_and_then, option_map, if◌then◌else◌}
 use Rattle.std.specs.Str.{bytes_eq, is_utf8}
 use Rattle.serde_json.specs.Data.{Data, Items, no_items, item}
-use Rattle.serde_json.specs.Find.{get, as_str, as_null, as_array}
+use Rattle.serde_json.specs.Find.{get, as_str, as_null, as_array, as_i64, as_number}
 use Rattle.serde_json.specs.Read.{read}
 use Rattle.reg_base.specs.Names.{name_of}
 use Rattle.reg_base.specs.MomentText.{moment_of}
@@ -11,7 +11,10 @@ use Rattle.reg_terms.specs.Parts.{◌>>=◌}
 use Rattle.reg_terms.specs.Privileges.{privilege_named}
 use Rattle.reg_terms.specs.EntryWords.{kind_worded}
 use Rattle.reg_terms.specs.declared.entry_kinds.EntryKind.{EntryKind}
+use Rattle.reg_terms.specs.declared.kinds.AttrValue.{AttrValue}
+use Rattle.reg_terms.specs.declared.kinds.AttrValue.TheVariants as value
 use Rattle.reg_terms.specs.declared.kinds.SetOp.{SetOp}
+use Rattle.reg_terms.specs.declared.shown.AssignShown.{AssignShown}
 use Rattle.reg_terms.specs.declared.shown.FactorsShown.{FactorsShown}
 use Rattle.reg_terms.specs.declared.shown.GrantShown.{GrantShown}
 use Rattle.reg_terms.specs.declared.shown.RowShown.{RowShown}
@@ -153,6 +156,26 @@ entry_from d = do
   object ← text_in (codes "object") d
   Some (record { at = at; entity = entity; kind = kind; number = number; object = object; seq = seq })
 
+-- a value of an assignment: a text, or a whole number of 64 bits
+unfoldable pub value_from : Data → Option AttrValue
+value_from d =
+    if is_some (as_str d) then option_map (λ words. value.Text words) (as_str d) else option_map (λ n. value.Int n) (option_and_then as_i64 (as_number d))
+
+-- the number of an assignment, of 32 bits
+unfoldable pub id_in : List ℕ → Data → Option ℕ
+id_in key d = do
+  number ← number_in key d
+  if nat_lt number (2 ^ 32) then Some number else None
+
+-- an assignment
+unfoldable pub assign_from : Data → Option AssignShown
+assign_from d = do
+  id ← id_in (codes "id") d
+  attribute ← text_in (codes "attribute") d
+  items ← items_in (codes "values") d
+  values ← all_of value_from items
+  Some (record { attribute = attribute; id = id; values = values })
+
 -- ---- answers
 
 -- a group by its name
@@ -200,6 +223,12 @@ may_from d = do
   items ← items_in (codes "privileges") d
   option_map (λ v. answer.May v) (all_of privilege_from items)
 
+-- the attributes that are assigned to an object
+unfoldable pub attributes_from : Data → Option Answer
+attributes_from d = do
+  items ← items_in (codes "assignments") d
+  option_map (λ v. answer.Attributes v) (all_of assign_from items)
+
 -- who was a member of a group, and when
 unfoldable pub history_from : Data → Option Answer
 history_from d = do
@@ -220,7 +249,8 @@ unfoldable pub list_from : Data → Option Answer
 list_from d =
     if has (codes "grants") d then grants_from d else
     (if has (codes "privileges") d then may_from d else
-    (if has (codes "history") d then history_from d else log_from d))
+    (if has (codes "assignments") d then attributes_from d else
+    (if has (codes "history") d then history_from d else log_from d)))
 
 -- an answer, by a key that none of those behind it has
 unfoldable pub answer_from : Data → Option Answer
@@ -241,7 +271,10 @@ bare_refusal code =
     (if code == 12 then Some refusal.Already else
     (if code == 13 then Some refusal.NoSuch else
     (if code == 15 then Some refusal.HasMembers else
-    (if code == 18 then Some refusal.NotEmpty else None)))))
+    (if code == 18 then Some refusal.NotEmpty else
+    (if code == 19 then Some refusal.WrongOwner else
+    (if code == 20 then Some refusal.WrongValue else
+    (if code == 21 then Some refusal.Single else None))))))))
 
 -- of HTTP
 unfoldable pub http_refusal : ℕ → Option Refusal

@@ -3,7 +3,10 @@ use Rattle.std.specs.Prelude.{◌≡◌, ℕ, Bool, true, ◌&&◌, nat_lt, Opti
 use Rattle.std.specs.List.{list_all}
 use Rattle.std.specs.Str.{IsUtf8}
 use Rattle.reg_base.specs.Names.{is_name}
-use Rattle.reg_terms.specs.Forms.{is_moment, is_optional_moment}
+use Rattle.reg_terms.specs.Forms.{is_i64, is_moment, is_optional_moment}
+use Rattle.reg_terms.specs.declared.kinds.AttrValue.{AttrValue}
+use Rattle.reg_terms.specs.declared.kinds.AttrValue.TheVariants as value
+use Rattle.reg_terms.specs.declared.shown.AssignShown.{AssignShown}
 use Rattle.reg_terms.specs.declared.shown.RowShown.{RowShown}
 use Rattle.reg_terms.specs.declared.changes_shown.SpanShown.{SpanShown}
 use Rattle.reg_terms.specs.declared.changes_shown.EntryShown.{EntryShown}
@@ -36,10 +39,20 @@ span_fits span = is_moment span.from && is_optional_moment span.to
 abbrev pub entry_fits : EntryShown → Bool
 entry_fits entry = is_moment entry.at && (is_u64 entry.number && is_u64 entry.seq)
 
+-- a value of an assignment has 64 bits where it is an integer
+abbrev pub value_fits : AttrValue → Bool
+value_fits (value.Int n) = is_i64 n
+value_fits _ = true
+
+-- the number of an assignment has 32 bits
+abbrev pub assign_fits : AssignShown → Bool
+assign_fits assign = nat_lt assign.id 4294967296 && list_all value_fits assign.values
+
 -- the names, moments and numbers of an answer have their forms
 abbrev pub answer_fits : Answer → Bool
 answer_fits (answer.GroupGet display name) = is_name name
 answer_fits (answer.Rows composite rows) = list_all row_fits rows
+answer_fits (answer.Attributes assignments) = list_all assign_fits assignments
 answer_fits (answer.History history) = list_all span_fits history
 answer_fits (answer.Log entries last place) = list_all entry_fits entries && (is_u64 last && is_u64 place)
 answer_fits _ = true

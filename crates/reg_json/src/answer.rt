@@ -9,10 +9,12 @@ ghost use Rattle.reg_terms.specs.declared.query.Answer.TheVariants as answer;
 
 use crate::flat::{Scalar, put_object};
 use crate::shown::{put_entries, put_factors, put_grants, put_privileges, put_rows, put_spans};
+use crate::shown_attributes::put_assigns;
 use json::Writer;
 use reg_base::{Name, Text};
 use reg_terms::{
-    Answer, EntriesShown, FactorsShown, GrantsShown, Privileges, RowsShown, SpansShown, Texts,
+    Answer, AssignsShown, EntriesShown, FactorsShown, GrantsShown, Privileges, RowsShown,
+    SpansShown, Texts,
 };
 use std::alloc::AllocError;
 
@@ -142,6 +144,18 @@ fn put_may(out: &mut Writer, privileges: &Privileges) -> Result<(), AllocError>
 }
 
 #[tactic(auto, unfolding(crate::specs::Replies::answer_data))]
+fn put_assigned(out: &mut Writer, assignments: &AssignsShown) -> Result<(), AllocError>
+    ensures ok { OnOk result (out.new.tokens ≡ out.old.tokens ++ json_tokens (outline (answer_data (answer.Attributes assignments.now)))) }
+    ensures before { out.new.before ≡ out.old.before }
+{
+    out.begin_object()?;
+    out.key("assignments")?;
+    put_assigns(out, assignments.list())?;
+    put_ok(out)?;
+    out.end_object()
+}
+
+#[tactic(auto, unfolding(crate::specs::Replies::answer_data))]
 fn put_history(out: &mut Writer, history: &SpansShown) -> Result<(), AllocError>
     ensures ok { OnOk result (out.new.tokens ≡ out.old.tokens ++ json_tokens (outline (answer_data (answer.History history.now)))) }
     ensures before { out.new.before ≡ out.old.before }
@@ -199,6 +213,7 @@ pub fn put_answer(out: &mut Writer, answer: &Answer) -> Result<(), AllocError>
         Answer::Groups { groups } => put_groups(out, groups),
         Answer::Grants { grants } => put_granted(out, grants),
         Answer::May { privileges } => put_may(out, privileges),
+        Answer::Attributes { assignments } => put_assigned(out, assignments),
         Answer::History { history } => put_history(out, history),
         Answer::Log {
             entries,

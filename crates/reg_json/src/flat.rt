@@ -21,7 +21,8 @@ pub enum Scalar<'a> {
     Flag(bool),
 }
 
-fn put_moment(out: &mut Writer, moment: Moment) -> Result<(), AllocError>
+/// Writes a moment by its text. The only error is out of memory.
+pub fn put_moment(out: &mut Writer, moment: Moment) -> Result<(), AllocError>
     ensures ok { OnOk result (out.new.tokens ≡ out.old.tokens ++ string (text_of moment) ∷ []) }
     ensures before { out.new.before ≡ out.old.before }
 {

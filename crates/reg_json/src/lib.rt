@@ -3,6 +3,7 @@
 
 mod answer;
 mod array;
+mod attributes;
 mod fault;
 mod fields;
 mod flat;
@@ -15,7 +16,9 @@ mod reply;
 mod request;
 mod said;
 mod shown;
+mod shown_attributes;
 mod taken_answer;
+mod taken_attributes;
 mod taken_refusal;
 mod taken_shown;
 mod taking;

@@ -4,6 +4,7 @@ ghost use Rattle.serde_json.specs.View.{view};
 ghost use Rattle.reg_json.specs.Steps.{Gives};
 ghost use Rattle.reg_json.specs.Ops.{stands_at, form_at, all_stand, all_forms, fields_in, asked_in};
 
+use crate::attributes::{def_kind_at, flag_at, owners_at, value_at};
 use crate::fault::{ReadFault, bad};
 use crate::fields::{
     Carrier, display_at, inherit_kind_at, no_other, number_at, optional_text_at, privilege_at,
@@ -49,6 +50,22 @@ fn stands_at(alloc: Global, value: &Value, key: &str, kind: FieldKind) -> Result
             Err(fault) => Err(fault),
         },
         FieldKind::Privilege => match privilege_at(alloc, value, key) {
+            Ok(_) => Ok(true),
+            Err(fault) => Err(fault),
+        },
+        FieldKind::Owners => match owners_at(alloc, value, key) {
+            Ok(_) => Ok(true),
+            Err(fault) => Err(fault),
+        },
+        FieldKind::Flag => match flag_at(alloc, value, key) {
+            Ok(_) => Ok(true),
+            Err(fault) => Err(fault),
+        },
+        FieldKind::DefKind => match def_kind_at(alloc, value, key) {
+            Ok(_) => Ok(true),
+            Err(fault) => Err(fault),
+        },
+        FieldKind::Value => match value_at(alloc, value, key) {
             Ok(_) => Ok(true),
             Err(fault) => Err(fault),
         },
@@ -112,6 +129,22 @@ fn form_at(alloc: Global, value: &Value, key: &str, kind: FieldKind) -> Result<F
         },
         FieldKind::Privilege => match privilege_at(alloc, value, key) {
             Ok(privilege) => Ok(Field::Privilege(privilege)),
+            Err(fault) => Err(fault),
+        },
+        FieldKind::Owners => match owners_at(alloc, value, key) {
+            Ok(owners) => Ok(Field::Owners(owners)),
+            Err(fault) => Err(fault),
+        },
+        FieldKind::Flag => match flag_at(alloc, value, key) {
+            Ok(flag) => Ok(Field::Flag(flag)),
+            Err(fault) => Err(fault),
+        },
+        FieldKind::DefKind => match def_kind_at(alloc, value, key) {
+            Ok(kind) => Ok(Field::DefKind(kind)),
+            Err(fault) => Err(fault),
+        },
+        FieldKind::Value => match value_at(alloc, value, key) {
+            Ok(given) => Ok(Field::Value(given)),
             Err(fault) => Err(fault),
         },
         FieldKind::Number { least, most } => match number_at(alloc, value, key, least, most) {

@@ -6,6 +6,7 @@ ghost use Rattle.reg_terms.specs.declared.reply.Reply.{Reply};
 ghost use Rattle.reg_json.specs.Replies.{text};
 ghost use Rattle.reg_json.specs.Takes.{Takes};
 ghost use Rattle.reg_json.specs.Taking.{accepted_from, fault_from, reply_from, reply_of};
+ghost use Rattle.reg_json.specs.Told.{told};
 ghost use Rattle.reg_json.specs.Writable.{IsWritable};
 
 use crate::reply::append_reply;
@@ -96,13 +97,14 @@ fn with_text(alloc: Global, reply: Reply, bytes: &[u8]) -> Result<Option<Reply>,
     }
 }
 
-/// The reply whose text these bytes are, as `write_reply` writes it. None exactly where no reply has that
+/// The reply whose text these bytes are, as `write_reply` writes it. A moment among the values of
+/// assignments prints as its text does, and is read as that text. None exactly where no reply has that
 /// text; the only error is out of memory.
 pub fn read_reply(alloc: Global, bytes: &[u8]) -> Result<Option<Reply>, AllocError>
     ensures found { IfOk result (λ found. IfSome found (λ reply. text reply ≡ bytes.now)) }
 
-    // The reply whose text it is is found, so no two have one text.
-    ensures exact { IfOk result (λ found. (reply : Reply) → IsWritable reply → text reply ≡ bytes.now → found ≡ Some reply) }
+    // What the text of a reply tells is found, so two of one text differ at most in moments among values.
+    ensures exact { IfOk result (λ found. (reply : Reply) → IsWritable reply → text reply ≡ bytes.now → found ≡ Some (told reply)) }
 {
     match reply_of(alloc, bytes) {
         Ok(reply) => with_text(alloc, reply, bytes),

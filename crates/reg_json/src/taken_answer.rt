@@ -2,8 +2,9 @@
 ghost use Rattle.std.specs.Prelude.{◌≡◌};
 ghost use Rattle.serde_json.specs.View.{view};
 ghost use Rattle.reg_json.specs.Takes.{Takes};
-ghost use Rattle.reg_json.specs.Taking.{group_from, listing_from, members_from, memberships_from, groups_from, grants_from, may_from, history_from, log_from, list_from, answer_from};
+ghost use Rattle.reg_json.specs.Taking.{group_from, listing_from, members_from, memberships_from, groups_from, grants_from, may_from, attributes_from, history_from, log_from, list_from, answer_from};
 
+use crate::taken_attributes::assigns_of;
 use crate::taken_shown::{
     entries_of, factors_or_null, grants_of, privileges_of, rows_of, spans_of,
 };
@@ -82,6 +83,15 @@ fn may_from(alloc: Global, value: &Value) -> Result<Answer, TakeFault>
     Ok(Answer::May { privileges })
 }
 
+#[tactic(auto, unfolding(crate::specs::Taking::attributes_from))]
+fn attributes_from(alloc: Global, value: &Value) -> Result<Answer, TakeFault>
+    ensures { Takes (λ a. a) result (attributes_from (view value.now)) }
+{
+    let items = items_in(value, "assignments")?;
+    let assignments = assigns_of(alloc, items)?;
+    Ok(Answer::Attributes { assignments })
+}
+
 #[tactic(auto, unfolding(crate::specs::Taking::history_from))]
 fn history_from(alloc: Global, value: &Value) -> Result<Answer, TakeFault>
     ensures { Takes (λ a. a) result (history_from (view value.now)) }
@@ -114,6 +124,8 @@ fn list_from(alloc: Global, value: &Value) -> Result<Answer, TakeFault>
         grants_from(alloc, value)
     } else if has(value, "privileges") {
         may_from(alloc, value)
+    } else if has(value, "assignments") {
+        attributes_from(alloc, value)
     } else if has(value, "history") {
         history_from(alloc, value)
     } else {

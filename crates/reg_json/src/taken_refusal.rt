@@ -21,6 +21,9 @@ fn bare_refusal(code: u64) -> Result<Refusal, TakeFault>
         13 => Ok(Refusal::NoSuch),
         15 => Ok(Refusal::HasMembers),
         18 => Ok(Refusal::NotEmpty),
+        19 => Ok(Refusal::WrongOwner),
+        20 => Ok(Refusal::WrongValue),
+        21 => Ok(Refusal::Single),
         _ => Err(TakeFault::Unlike),
     }
 }

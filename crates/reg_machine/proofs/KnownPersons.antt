@@ -7,7 +7,7 @@ use Rattle.reg_base.specs.declared.entity.Entity.{Entity}
 use Rattle.reg_terms.specs.declared.command.Stamped.{Stamped}
 use Rattle.reg_terms.specs.declared.command.Command.{Command}
 use Rattle.reg_terms.specs.declared.event.Event.{Event}
-use Rattle.reg_terms.specs.declared.event.Event.TheVariants.{FolderMade, FolderRenamed, FolderMoved, FolderGone, GroupMade, GroupRenamed, GroupMoved, GroupGone, RowAdded, RowRemoved, RowRedated, Composed, Decomposed, GrantAdded, GrantRemoved, InheritAdded, InheritRemoved, RuleMade, RuleGone, ConsumerAdded, ConsumerAcked, SubjectMade}
+use Rattle.reg_terms.specs.declared.event.Event.TheVariants.{FolderMade, FolderRenamed, FolderMoved, FolderGone, GroupMade, GroupRenamed, GroupMoved, GroupGone, RowAdded, RowRemoved, RowRedated, Composed, Decomposed, GrantAdded, GrantRemoved, InheritAdded, InheritRemoved, DefinitionMade, DefinitionGone, AttributeMade, AttributeGone, AssignMade, AssignGone, ValueAdded, ValueRemoved, RuleMade, RuleGone, ConsumerAdded, ConsumerAcked, SubjectMade}
 use Rattle.reg_terms.specs.declared.kinds.Member.{Member}
 use Rattle.reg_terms.specs.declared.kinds.Member.TheVariants.{Person, Group}
 use Rattle.reg_terms.specs.declared.kinds.SetOp.{SetOp}
@@ -145,6 +145,14 @@ stays (GrantAdded row) f s h = h
 stays (GrantRemoved row) f s h = h
 stays (InheritAdded row) f s h = h
 stays (InheritRemoved row) f s h = h
+stays (DefinitionMade row) f s h = h
+stays (DefinitionGone id) f s h = h
+stays (AttributeMade row) f s h = h
+stays (AttributeGone id) f s h = h
+stays (AssignMade row) f s h = h
+stays (AssignGone id) f s h = h
+stays (ValueAdded id v) f s h = h
+stays (ValueRemoved id v) f s h = h
 stays (RuleMade row) f s h = h
 stays (RuleGone id) f s h = h
 stays (ConsumerAdded row) f s h = h

@@ -4,7 +4,7 @@ use Rattle.std.proofs.lemmas.Bool.{cases_Bool}
 use Rattle.std.proofs.lemmas.Bool.Decides.{nat_tests}
 use Rattle.reg_terms.specs.Kinds.{same_object}
 use Rattle.reg_terms.specs.declared.event.Event.{Event}
-use Rattle.reg_terms.specs.declared.event.Event.TheVariants.{FolderMade, FolderRenamed, FolderMoved, FolderGone, GroupMade, GroupRenamed, GroupMoved, GroupGone, RowAdded, RowRemoved, RowRedated, Composed, Decomposed, GrantAdded, GrantRemoved, InheritAdded, InheritRemoved, RuleMade, RuleGone, ConsumerAdded, ConsumerAcked, SubjectMade}
+use Rattle.reg_terms.specs.declared.event.Event.TheVariants.{FolderMade, FolderRenamed, FolderMoved, FolderGone, GroupMade, GroupRenamed, GroupMoved, GroupGone, RowAdded, RowRemoved, RowRedated, Composed, Decomposed, GrantAdded, GrantRemoved, InheritAdded, InheritRemoved, DefinitionMade, DefinitionGone, AttributeMade, AttributeGone, AssignMade, AssignGone, ValueAdded, ValueRemoved, RuleMade, RuleGone, ConsumerAdded, ConsumerAcked, SubjectMade}
 use Rattle.reg_terms.specs.declared.kinds.Object.{Object}
 use Rattle.reg_terms.specs.declared.kinds.Object.TheVariants.{Folder, Group, Def, Attr, Subject}
 use Rattle.reg_terms.specs.declared.rows.Made.{Made}
@@ -18,7 +18,7 @@ use Rattle.reg_facts.proofs.Sounding.{happened_sound}
 use Rattle.reg_audit.specs.Lives.{begun, ended}
 use Rattle.reg_audit.specs.Objects.{among, gone_by, made_by, object_gone, object_made}
 use Rattle.reg_machine.specs.Standing.{lives_at, stands, was_made, LifeBy, IsLived}
-use Rattle.reg_machine.proofs.ObjectsStand.{MadeOne, CutOne, KeptAll, by_names, folder_stands, group_stands, subject_stands, folder_named_still, folder_moved_still, group_named_still, group_moved_still, folder_stands_no_more, group_stands_no_more, folder_is_there, group_is_there}
+use Rattle.reg_machine.proofs.ObjectsStand.{MadeOne, CutOne, KeptAll, by_names, folder_stands, group_stands, subject_stands, folder_named_still, folder_moved_still, group_named_still, group_moved_still, folder_stands_no_more, group_stands_no_more, folder_is_there, group_is_there, definition_stands, attribute_stands, definition_stands_no_more, attribute_stands_no_more, definition_is_there, attribute_is_there}
 
 -- when an object was made and when it went
 abbrev pub Life : Type 0
@@ -76,13 +76,13 @@ module _ (at : ℕ) (f g : Lists) (o x : Object) (life : Life) (h : IsLived at f
     by = h.by;
   }
 
--- a rule is no object
-no_object : (made : Made) (n : ℕ) (o : Object) → was_made (record made { rules = n }) o ≡ was_made made o
-no_object made n (Folder d) = refl
-no_object made n (Group g) = refl
-no_object made n (Def a) = refl
-no_object made n (Attr a) = refl
-no_object made n (Subject s) = refl
+-- neither a rule nor an assignment is an object
+no_object : (made : Made) (rules assigns : ℕ) (o : Object) → was_made (record made { rules = rules; assigns = assigns }) o ≡ was_made made o
+no_object made rules assigns (Folder d) = refl
+no_object made rules assigns (Group g) = refl
+no_object made rules assigns (Def a) = refl
+no_object made rules assigns (Attr a) = refl
+no_object made rules assigns (Subject s) = refl
 
 over : (a at : ℕ) → lives_at at (Some (a, Some at)) ≡ false
 over a at = let no : nat_lt at at ≡ false = grind (arith, nat_tests) in rw no (never (nat_le a at))
@@ -172,6 +172,20 @@ group_less f n (Def y) e h = h
 group_less f n (Attr y) e h = h
 group_less f n (Subject y) e h = h
 
+definition_less : (f : Lists) (n : ℕ) (o : Object) → n ≡ f.made.definitions + 1 → was_made (record f.made { definitions = n }) o ≡ false → was_made f.made o ≡ false
+definition_less f n (Folder y) e h = h
+definition_less f n (Group y) e h = h
+definition_less f n (Def y) e h = below y n f.made.definitions e h
+definition_less f n (Attr y) e h = h
+definition_less f n (Subject y) e h = h
+
+attribute_less : (f : Lists) (n : ℕ) (o : Object) → n ≡ f.made.attributes + 1 → was_made (record f.made { attributes = n }) o ≡ false → was_made f.made o ≡ false
+attribute_less f n (Folder y) e h = h
+attribute_less f n (Group y) e h = h
+attribute_less f n (Def y) e h = h
+attribute_less f n (Attr y) e h = below y n f.made.attributes e h
+attribute_less f n (Subject y) e h = h
+
 subject_less : (f : Lists) (n : ℕ) (o : Object) → n ≡ f.made.subjects + 1 → was_made (record f.made { subjects = n }) o ≡ false → was_made f.made o ≡ false
 subject_less f n (Folder y) e h = h
 subject_less f n (Group y) e h = h
@@ -179,7 +193,7 @@ subject_less f n (Def y) e h = h
 subject_less f n (Attr y) e h = h
 subject_less f n (Subject y) e h = below y n f.made.subjects e h
 
--- where neither folders nor groups nor subjects change, all stand still
+-- where neither what is placed nor subjects change, all stand still
 pub rest_still : (f g : Lists) → placed g ≡ placed f → g.subjects ≡ f.subjects → KeptAll f g
 rest_still f g same subjects = by_names f g subjects (λ o. rw same refl)
 
@@ -203,7 +217,15 @@ event_lived at (GrantAdded row) f o life s suits h = (still_lived at f (happened
 event_lived at (GrantRemoved row) f o life s suits h = (still_lived at f (happened (GrantRemoved row) f) o o life h (rest_still f (happened (GrantRemoved row) f) refl refl) refl, λ v w. refl)
 event_lived at (InheritAdded row) f o life s suits h = (still_lived at f (happened (InheritAdded row) f) o o life h (rest_still f (happened (InheritAdded row) f) refl refl) refl, λ v w. refl)
 event_lived at (InheritRemoved row) f o life s suits h = (still_lived at f (happened (InheritRemoved row) f) o o life h (rest_still f (happened (InheritRemoved row) f) refl refl) refl, λ v w. refl)
-event_lived at (RuleMade row) f o life s suits h = (still_lived at f (happened (RuleMade row) f) o o life h (rest_still f (happened (RuleMade row) f) refl refl) (no_object f.made row.id o), λ v w. refl)
+event_lived at (DefinitionMade row) f o life s suits h = made_lived at f (happened (DefinitionMade row) f) o (Def row.id) life h (definition_stands row f) (above row.id f.made.definitions suits.0) (λ k n. definition_less f row.id o suits.0 k) (itself row.id)
+event_lived at (DefinitionGone id) f o life s suits h = cut_lived at f (happened (DefinitionGone id) f) o (Def id) life h (definition_stands_no_more id f) (definition_is_there id f suits.0) refl
+event_lived at (AttributeMade row) f o life s suits h = made_lived at f (happened (AttributeMade row) f) o (Attr row.id) life h (attribute_stands row f) (above row.id f.made.attributes suits.0) (λ k n. attribute_less f row.id o suits.0 k) (itself row.id)
+event_lived at (AttributeGone id) f o life s suits h = cut_lived at f (happened (AttributeGone id) f) o (Attr id) life h (attribute_stands_no_more id f) (attribute_is_there id f suits.0) refl
+event_lived at (AssignMade row) f o life s suits h = (still_lived at f (happened (AssignMade row) f) o o life h (rest_still f (happened (AssignMade row) f) refl refl) (no_object f.made f.made.rules row.id o), λ v w. refl)
+event_lived at (AssignGone id) f o life s suits h = (still_lived at f (happened (AssignGone id) f) o o life h (rest_still f (happened (AssignGone id) f) refl refl) refl, λ v w. refl)
+event_lived at (ValueAdded id v) f o life s suits h = (still_lived at f (happened (ValueAdded id v) f) o o life h (rest_still f (happened (ValueAdded id v) f) refl refl) refl, λ v w. refl)
+event_lived at (ValueRemoved id v) f o life s suits h = (still_lived at f (happened (ValueRemoved id v) f) o o life h (rest_still f (happened (ValueRemoved id v) f) refl refl) refl, λ v w. refl)
+event_lived at (RuleMade row) f o life s suits h = (still_lived at f (happened (RuleMade row) f) o o life h (rest_still f (happened (RuleMade row) f) refl refl) (no_object f.made row.id f.made.assigns o), λ v w. refl)
 event_lived at (RuleGone id) f o life s suits h = (still_lived at f (happened (RuleGone id) f) o o life h (rest_still f (happened (RuleGone id) f) refl refl) refl, λ v w. refl)
 event_lived at (ConsumerAdded row) f o life s suits h = (still_lived at f (happened (ConsumerAdded row) f) o o life h (rest_still f (happened (ConsumerAdded row) f) refl refl) refl, λ v w. refl)
 event_lived at (ConsumerAcked name seq) f o life s suits h = (still_lived at f (happened (ConsumerAcked name seq) f) o o life h (rest_still f (happened (ConsumerAcked name seq) f) refl refl) refl, λ v w. refl)
@@ -229,6 +251,20 @@ group_once f n (Group y) e h = (higher n y f.made.groups e h, within n y f.made.
 group_once f n (Def y) e h = (refl, h)
 group_once f n (Attr y) e h = (refl, h)
 group_once f n (Subject y) e h = (refl, h)
+
+definition_once : (f : Lists) (n : ℕ) (o : Object) → n ≡ f.made.definitions + 1 → was_made f.made o ≡ true → (same_object (Def n) o ≡ false) × (was_made (record f.made { definitions = n }) o ≡ true)
+definition_once f n (Folder y) e h = (refl, h)
+definition_once f n (Group y) e h = (refl, h)
+definition_once f n (Def y) e h = (higher n y f.made.definitions e h, within n y f.made.definitions e h)
+definition_once f n (Attr y) e h = (refl, h)
+definition_once f n (Subject y) e h = (refl, h)
+
+attribute_once : (f : Lists) (n : ℕ) (o : Object) → n ≡ f.made.attributes + 1 → was_made f.made o ≡ true → (same_object (Attr n) o ≡ false) × (was_made (record f.made { attributes = n }) o ≡ true)
+attribute_once f n (Folder y) e h = (refl, h)
+attribute_once f n (Group y) e h = (refl, h)
+attribute_once f n (Def y) e h = (refl, h)
+attribute_once f n (Attr y) e h = (higher n y f.made.attributes e h, within n y f.made.attributes e h)
+attribute_once f n (Subject y) e h = (refl, h)
 
 subject_once : (f : Lists) (n : ℕ) (o : Object) → n ≡ f.made.subjects + 1 → was_made f.made o ≡ true → (same_object (Subject n) o ≡ false) × (was_made (record f.made { subjects = n }) o ≡ true)
 subject_once f n (Folder y) e h = (refl, h)
@@ -257,6 +293,14 @@ never_again (GrantAdded row ∷ es) f o was suit = never_again es (happened (Gra
 never_again (GrantRemoved row ∷ es) f o was suit = never_again es (happened (GrantRemoved row) f) o was suit.1
 never_again (InheritAdded row ∷ es) f o was suit = never_again es (happened (InheritAdded row) f) o was suit.1
 never_again (InheritRemoved row ∷ es) f o was suit = never_again es (happened (InheritRemoved row) f) o was suit.1
+never_again (DefinitionMade row ∷ es) f o was suit = let one = definition_once f row.id o suit.0.0 was in rw one.0 (never_again es (happened (DefinitionMade row) f) o one.1 suit.1)
+never_again (DefinitionGone id ∷ es) f o was suit = never_again es (happened (DefinitionGone id) f) o was suit.1
+never_again (AttributeMade row ∷ es) f o was suit = let one = attribute_once f row.id o suit.0.0 was in rw one.0 (never_again es (happened (AttributeMade row) f) o one.1 suit.1)
+never_again (AttributeGone id ∷ es) f o was suit = never_again es (happened (AttributeGone id) f) o was suit.1
+never_again (AssignMade row ∷ es) f o was suit = never_again es (happened (AssignMade row) f) o (no_object f.made f.made.rules row.id o ∙ was) suit.1
+never_again (AssignGone id ∷ es) f o was suit = never_again es (happened (AssignGone id) f) o was suit.1
+never_again (ValueAdded id v ∷ es) f o was suit = never_again es (happened (ValueAdded id v) f) o was suit.1
+never_again (ValueRemoved id v ∷ es) f o was suit = never_again es (happened (ValueRemoved id v) f) o was suit.1
 never_again (RuleMade row ∷ es) f o was suit = never_again es (happened (RuleMade row) f) o was suit.1
 never_again (RuleGone id ∷ es) f o was suit = never_again es (happened (RuleGone id) f) o was suit.1
 never_again (ConsumerAdded row ∷ es) f o was suit = never_again es (happened (ConsumerAdded row) f) o was suit.1
@@ -323,6 +367,14 @@ in_turn at (GrantAdded row) es f o life suits rest h = refl
 in_turn at (GrantRemoved row) es f o life suits rest h = refl
 in_turn at (InheritAdded row) es f o life suits rest h = refl
 in_turn at (InheritRemoved row) es f o life suits rest h = refl
+in_turn at (DefinitionMade row) es f o life suits rest h = ap (ended at (gone_by es) o) (first_made at o (Def row.id) (made_by es) life)
+in_turn at (DefinitionGone id) es f o life suits rest h = first_gone at o (Def id) (made_by es) (gone_by es) life (λ same. never_again es (happened (DefinitionGone id) f) o (stood_made at f o (Def id) life h (definition_is_there id f suits.0) same) rest)
+in_turn at (AttributeMade row) es f o life suits rest h = ap (ended at (gone_by es) o) (first_made at o (Attr row.id) (made_by es) life)
+in_turn at (AttributeGone id) es f o life suits rest h = first_gone at o (Attr id) (made_by es) (gone_by es) life (λ same. never_again es (happened (AttributeGone id) f) o (stood_made at f o (Attr id) life h (attribute_is_there id f suits.0) same) rest)
+in_turn at (AssignMade row) es f o life suits rest h = refl
+in_turn at (AssignGone id) es f o life suits rest h = refl
+in_turn at (ValueAdded id v) es f o life suits rest h = refl
+in_turn at (ValueRemoved id v) es f o life suits rest h = refl
 in_turn at (RuleMade row) es f o life suits rest h = refl
 in_turn at (RuleGone id) es f o life suits rest h = refl
 in_turn at (ConsumerAdded row) es f o life suits rest h = refl

@@ -5,9 +5,11 @@ use Rattle.std.proofs.lemmas.Bool.Decides.{nat_tests}
 use Rattle.std.proofs.lemmas.List.{append-nil, append_assoc}
 use Rattle.std.specs.List.{list_any}
 use Rattle.reg_terms.specs.Kinds.{same_object}
-use Rattle.reg_terms.specs.declared.event.Event.TheVariants.{FolderMade, FolderRenamed, FolderMoved, FolderGone, SubjectMade, GroupMade, GroupRenamed, GroupMoved, GroupGone}
+use Rattle.reg_terms.specs.declared.event.Event.TheVariants.{FolderMade, FolderRenamed, FolderMoved, FolderGone, SubjectMade, GroupMade, GroupRenamed, GroupMoved, GroupGone, DefinitionMade, DefinitionGone, AttributeMade, AttributeGone}
 use Rattle.reg_terms.specs.declared.kinds.Object.{Object}
 use Rattle.reg_terms.specs.declared.kinds.Object.TheVariants.{Folder, Group, Def, Attr, Subject}
+use Rattle.reg_terms.specs.declared.rows.AttributeRow.{AttributeRow}
+use Rattle.reg_terms.specs.declared.rows.DefinitionRow.{DefinitionRow}
 use Rattle.reg_terms.specs.declared.rows.FolderRow.{FolderRow}
 use Rattle.reg_terms.specs.declared.rows.GroupRow.{GroupRow}
 use Rattle.reg_terms.specs.declared.rows.SubjectRow.{SubjectRow}
@@ -17,6 +19,7 @@ use Rattle.reg_facts.specs.Lists.{Lists, root}
 use Rattle.reg_facts.specs.Naming.{Placed, placed, placed_folders, placed_group, placed_definition, placed_attribute, place_of}
 use Rattle.reg_facts.specs.Sound.{has_subject, is_named, IsSound}
 use Rattle.reg_facts.specs.Suiting.{IsPlaced}
+use Rattle.reg_facts.proofs.AttributesPlaced.{before_attributes, attribute_cut, attribute_put, attribute_split, definition_cut, definition_put, definition_split}
 use Rattle.reg_facts.proofs.Changes.{alter, kept}
 use Rattle.reg_facts.proofs.Edited.{begins_parent, folder_altered, folder_cut, folders_sited, folders_titled, group_cut, group_sited, group_titled, places_folder, places_group, sited, titled}
 use Rattle.reg_facts.proofs.Frames.{rest_places}
@@ -156,6 +159,20 @@ group_stands row f o = go o
     go (Def x) = named (Def x)
     go (Attr x) = named (Attr x)
 
+-- where an object is named more, it stands, and subjects stay
+by_names_more : (f g : Lists) (x : Object) → g.subjects ≡ f.subjects → ((s : ℕ) → same_object x (Subject s) ≡ false) → ((o : Object) → is_named o g ≡ (same_object x o || is_named o f)) → MadeOne x f g
+by_names_more f g x same none named (Subject s) = rw (none s, same) refl
+by_names_more f g x same none named (Folder y) = named (Folder y)
+by_names_more f g x same none named (Group y) = named (Group y)
+by_names_more f g x same none named (Def y) = named (Def y)
+by_names_more f g x same none named (Attr y) = named (Attr y)
+
+pub definition_stands : (row : DefinitionRow) (f : Lists) → MadeOne (Def row.id) f (happened (DefinitionMade row) f)
+definition_stands row f = by_names_more f (happened (DefinitionMade row) f) (Def row.id) refl (λ s. refl) (λ o. named_insert f (happened (DefinitionMade row) f) o (before_attributes f) (map placed_attribute f.attributes) (placed_definition row) (definition_split f) (definition_put row f))
+
+pub attribute_stands : (row : AttributeRow) (f : Lists) → MadeOne (Attr row.id) f (happened (AttributeMade row) f)
+attribute_stands row f = by_names_more f (happened (AttributeMade row) f) (Attr row.id) refl (λ s. refl) (λ o. named_insert f (happened (AttributeMade row) f) o (placed f) [] (placed_attribute row) (attribute_split f) (attribute_put row f))
+
 subject_more : (s : ℕ) (ss : List SubjectRow) (row : SubjectRow) → has_subject s (ss ++ row ∷ []) ≡ ((row.id == s) || has_subject s ss)
 subject_more s ss row = any_inserted (λ (r : SubjectRow). r.id == s) ss [] row ∙ ap (λ rows. (row.id == s) || has_subject s rows) (append-nil ss)
 
@@ -209,6 +226,12 @@ pub group_stands_no_more : (id : ℕ) (f : Lists) → CutOne (Group id) f (happe
 group_stands_no_more id f = by_names_cut f (happened (GroupGone id) f) (Group id) refl (λ s. refl) (λ o. named_cut f (happened (GroupGone id) f) o (Group id) refl
     (placed_is (happened (GroupGone id) f) ∙ group_cut f.folders f.definitions f.attributes id f.groups ∙ ap (filter (kept (Group id))) (sym (placed_is f))))
 
+pub definition_stands_no_more : (id : ℕ) (f : Lists) → CutOne (Def id) f (happened (DefinitionGone id) f)
+definition_stands_no_more id f = by_names_cut f (happened (DefinitionGone id) f) (Def id) refl (λ s. refl) (λ o. named_cut f (happened (DefinitionGone id) f) o (Def id) refl (definition_cut id f))
+
+pub attribute_stands_no_more : (id : ℕ) (f : Lists) → CutOne (Attr id) f (happened (AttributeGone id) f)
+attribute_stands_no_more id f = by_names_cut f (happened (AttributeGone id) f) (Attr id) refl (λ s. refl) (λ o. named_cut f (happened (AttributeGone id) f) o (Attr id) refl (attribute_cut id f))
+
 -- what is placed stands
 any_placed : (o : Object) (ps : List Placed) (p : Placed) → place_of o ps ≡ Some p → among o ps ≡ true
 any_placed o [] p h = cc
@@ -226,3 +249,9 @@ folder_is_there id f at = either (same_object (Folder id) (Folder root)) (among 
 
 pub group_is_there : (id : ℕ) (f : Lists) → IsPlaced (Group id) f → stands (Group id) f ≡ true
 group_is_there id f at = either (same_object (Group id) (Folder root)) (among (Group id) (placed f)) (any_placed (Group id) (placed f) at.place at.at)
+
+pub definition_is_there : (id : ℕ) (f : Lists) → IsPlaced (Def id) f → stands (Def id) f ≡ true
+definition_is_there id f at = either (same_object (Def id) (Folder root)) (among (Def id) (placed f)) (any_placed (Def id) (placed f) at.place at.at)
+
+pub attribute_is_there : (id : ℕ) (f : Lists) → IsPlaced (Attr id) f → stands (Attr id) f ≡ true
+attribute_is_there id f at = either (same_object (Attr id) (Folder root)) (among (Attr id) (placed f)) (any_placed (Attr id) (placed f) at.place at.at)

@@ -18,6 +18,7 @@ use Rattle.reg_pit.specs.Past.{NotedBy, member_spans, all_member_spans}
 use Rattle.reg_pit.specs.Spans.{spans_until}
 use Rattle.reg_pit.specs.declared.past.Past.{Past}
 use Rattle.reg_audit.specs.Audit.{IsAudit}
+use Rattle.reg_audit.specs.Definitions.{definition_in}
 use Rattle.reg_audit.specs.Lines.{log_of}
 use Rattle.reg_audit.specs.Lives as audit
 use Rattle.reg_audit.specs.Lives.{life_of, gone_of, gone_name}
@@ -27,7 +28,7 @@ use Rattle.reg_facts.specs.Consumers.{consumer_place}
 use Rattle.reg_log.specs.Places.{place_of}
 use Rattle.reg_log.specs.declared.consumers.Places.{Places}
 use Rattle.reg_machine.specs.History.{State, facts}
-use Rattle.reg_machine.specs.Past.{all_spans, gone, gone_named, gone_names, last_named, life, log, named_groups, spans, steps, was_member}
+use Rattle.reg_machine.specs.Past.{all_spans, def_of, gone, gone_named, gone_names, last_named, life, log, named_groups, spans, steps, was_member}
 use Rattle.reg_machine.specs.Recording.{IsRecorded, Recording}
 use Rattle.reg_machine.proofs.Lived.{last_left, last_moment_by}
 
@@ -68,6 +69,10 @@ module _ (history : List Stamped) (r : Recording) (s : State) (h : IsRecorded hi
   pub life_told : (o : Object) (found : Option (ℕ × Option ℕ)) → ((ss : List Step) → IsAudit ss r.audit → found ≡ life_of o ss) → found ≡ life s.history s.clock o
   unfolding life
   life_told o found told = subst (λ (x : State). found ≡ life x.history x.clock o) is (told (steps history r.now.clock) h.audit)
+
+  pub def_told : (a : ℕ) (found : Option ℕ) → ((ss : List Step) → IsAudit ss r.audit → found ≡ definition_in a ss) → found ≡ def_of s.history s.clock a
+  unfolding def_of
+  def_told a found told = subst (λ (x : State). found ≡ def_of x.history x.clock a) is (told (steps history r.now.clock) h.audit)
 
   pub gone_told : (groups : List ℕ) → ((ss : List Step) → IsAudit ss r.audit → groups ≡ gone_of ss) → groups ≡ gone s.history s.clock
   unfolding gone

@@ -4,14 +4,17 @@ use Rattle.reg_base.specs.declared.entity.Entity.{Entity}
 use Rattle.reg_terms.specs.declared.command.Stamped.{Stamped}
 use Rattle.reg_terms.specs.declared.command.Command.{Command}
 use Rattle.reg_terms.specs.declared.event.Event.{Event}
+use Rattle.reg_terms.specs.declared.event.Event.TheVariants.{AssignMade}
 use Rattle.reg_terms.specs.declared.kinds.Member.{Member}
 use Rattle.reg_facts.specs.Events.{all_happened, events_of, happened}
 use Rattle.reg_facts.specs.Lists as the_facts
 use Rattle.reg_facts.specs.Lists.{Lists}
 use Rattle.reg_facts.specs.Sound.{IsSound}
+use Rattle.reg_facts.specs.Suiting.{AllSuit, Suits}
 use Rattle.reg_facts.proofs.Sounding.{start_sound}
 use Rattle.reg_effect.specs.declared.live.Live.{Live}
 use Rattle.reg_effect.specs.Member.{member}
+use Rattle.reg_audit.specs.Assigning.{AllMakeNew, MakesNew}
 use Rattle.reg_audit.specs.Audit.{IsAudit}
 use Rattle.reg_audit.specs.Steps.{Step, FollowsOn, left_by}
 use Rattle.reg_effect.specs.Deltas.{ended}
@@ -25,6 +28,7 @@ use Rattle.reg_machine.specs.Past.{AreKnown, AreLived, command_step, date_step, 
 use Rattle.reg_machine.specs.Recording.{IsRecorded, Recording, Records, carried_step, settled_after}
 use Rattle.reg_machine.specs.Refusals.{refusal}
 use Rattle.reg_machine.specs.Standing.{AreStood}
+use Rattle.reg_machine.proofs.Defined.{defined_later, defined_next, defined_push, defined_start}
 use Rattle.reg_machine.proofs.Due.{due_some}
 use Rattle.reg_machine.proofs.InStep.{command_in_step, later_in_step, next_in_step}
 use Rattle.reg_machine.proofs.KnownPersons.{known_later, known_next, known_push, known_start}
@@ -32,7 +36,7 @@ use Rattle.reg_machine.proofs.Lived.{last_is, last_left, last_moment_by, lived_l
 use Rattle.reg_machine.proofs.Settled.{settle_is}
 use Rattle.reg_machine.proofs.StepByStep.{no_steps, steps_next, steps_none, steps_push}
 use Rattle.reg_machine.proofs.Starting.{start_in_step}
-use Rattle.reg_machine.proofs.Stood.{stood_later, stood_next, stood_push, stood_start}
+use Rattle.reg_machine.proofs.Stood.{all_suit, stood_later, stood_next, stood_push, stood_start}
 
 -- rows that go change no consumer
 rows_keep : (rows : List (ℕ × Member)) (f : Lists) → (all_happened (map pair_gone rows) f).consumers ≡ f.consumers
@@ -46,25 +50,66 @@ settle_consumers pairs at f = ap (λ (x : Lists). x.consumers) (settle_is pairs 
 date_consumers : (a d : ℕ) (f : Lists) → (date_passed a d f).consumers ≡ f.consumers
 date_consumers a d f = settle_consumers (ended (live a f) (live d (without_ended d f))) d (without_ended d f)
 
+-- and neither assignments
+rows_leave : (rows : List (ℕ × Member)) (f : Lists) → (all_happened (map pair_gone rows) f).assigns ≡ f.assigns
+rows_leave [] f = refl
+rows_leave (row ∷ rows) f = rows_leave rows (happened (pair_gone row) f)
+
+settle_assigns : (pairs : List (ℕ × ℕ)) (at : ℕ) (f : Lists) → (settle pairs at f).assigns ≡ f.assigns
+settle_assigns pairs at f = ap (λ (x : Lists). x.assigns) (settle_is pairs at f)
+
+date_assigns : (a d : ℕ) (f : Lists) → (date_passed a d f).assigns ≡ f.assigns
+date_assigns a d f = settle_assigns (ended (live a f) (live d (without_ended d f))) d (without_ended d f)
+
+rows_count : (rows : List (ℕ × Member)) (f : Lists) → (all_happened (map pair_gone rows) f).made.assigns ≡ f.made.assigns
+rows_count [] f = refl
+rows_count (row ∷ rows) f = rows_count rows (happened (pair_gone row) f)
+
+settle_count : (pairs : List (ℕ × ℕ)) (at : ℕ) (f : Lists) → (settle pairs at f).made.assigns ≡ f.made.assigns
+settle_count pairs at f = ap (λ (x : Lists). x.made.assigns) (settle_is pairs at f)
+
+date_count : (a d : ℕ) (f : Lists) → (date_passed a d f).made.assigns ≡ f.made.assigns
+date_count a d f = settle_count (ended (live a f) (live d (without_ended d f))) d (without_ended d f)
+
+-- an assignment that is made has a later id than all before, and no value yet
+makes_new : (e : Event) (f : Lists) → Suits e f → MakesNew e f
+makes_new (AssignMade row) f suits = (omega (arith, suits.0), suits.4)
+makes_new e f suits = tt
+
+all_make_new : (es : List Event) (f : Lists) → AllSuit es f → AllMakeNew es f
+all_make_new [] f suit = tt
+all_make_new (e ∷ es) f suit = (makes_new e f suit.0, all_make_new es (happened e f) suit.1)
+
+rows_make_none : (rows : List (ℕ × Member)) (f : Lists) → AllMakeNew (map pair_gone rows) f
+rows_make_none [] f = tt
+rows_make_none (row ∷ rows) f = (tt, rows_make_none rows (happened (pair_gone row) f))
+
 -- a step from the live data at the clock on comes after those of the history
-follows : (history : List Stamped) (clock : ℕ) (step : Step) → AreLived history clock → clock ≤ step.at → step.live ≡ live clock (facts history clock) → step.before ≡ facts history clock → step.after.consumers ≡ (all_happened step.events step.before).consumers → FollowsOn (steps history clock) step
-follows history clock step h later is from after =
+follows : (history : List Stamped) (clock : ℕ) (step : Step) → AreLived history clock → clock ≤ step.at → step.live ≡ live clock (facts history clock) → step.before ≡ facts history clock → step.after.consumers ≡ (all_happened step.events step.before).consumers
+    → step.after.assigns ≡ (all_happened step.events step.before).assigns → step.after.made.assigns ≡ (all_happened step.events step.before).made.assigns → AllMakeNew step.events step.before → FollowsOn (steps history clock) step
+follows history clock step h later is from after assigned made new =
     let moment = last_moment_by clock (steps history clock) h.by in
     record {
       later = omega (arith, moment, later);
       members = λ g s. ap (λ (L : Live). member L g s) is ∙ (sym (h.lived clock g s (omega arith)) ∙ ap (λ o. member (left_by o) g s) (last_is clock (steps history clock) h.by));
       before = from ∙ sym (last_left history clock h);
       consumers_after = after;
+      assigns_after = assigned;
+      made_after = made;
+      new_assigns = new;
     }
 
 -- the next date comes after the steps so far, and so does what events make at the clock
 pub next_follows : (history : List Stamped) (d : ℕ) (r : Recording) → IsRecorded history r → due r.now.clock d r.now.facts.rows ≡ Some d → FollowsOn (steps history r.now.clock) (date_step r.now.clock d r.now.facts)
 next_follows history d r h first =
     let later = (due_some r.now.clock d d r.now.facts.rows first).later in
-    follows history r.now.clock (date_step r.now.clock d r.now.facts) h.lived (omega (arith, later)) (ap (λ (f : Lists). live r.now.clock f) h.in_step.facts) h.in_step.facts (date_consumers r.now.clock d r.now.facts ∙ sym (rows_keep (ending d r.now.facts.rows) r.now.facts))
+    follows history r.now.clock (date_step r.now.clock d r.now.facts) h.lived (omega (arith, later)) (ap (λ (f : Lists). live r.now.clock f) h.in_step.facts) h.in_step.facts (date_consumers r.now.clock d r.now.facts ∙ sym (rows_keep (ending d r.now.facts.rows) r.now.facts)) (date_assigns r.now.clock d r.now.facts ∙ sym (rows_leave (ending d r.now.facts.rows) r.now.facts))
+    (date_count r.now.clock d r.now.facts ∙ sym (rows_count (ending d r.now.facts.rows) r.now.facts)) (rows_make_none (ending d r.now.facts.rows) r.now.facts)
 
-pub carried_follows : (history : List Stamped) (r : Recording) (es : List Event) → IsRecorded history r → FollowsOn (steps history r.now.clock) (carried_step r.now es)
-carried_follows history r es h = follows history r.now.clock (carried_step r.now es) h.lived (omega arith) (ap (λ (f : Lists). live r.now.clock f) h.in_step.facts) h.in_step.facts (settle_consumers (ended (live r.now.clock r.now.facts) (live r.now.clock (all_happened es r.now.facts))) r.now.clock (all_happened es r.now.facts))
+pub carried_follows : (history : List Stamped) (r : Recording) (es : List Event) → IsRecorded history r → AllHold r.now.clock es r.now.facts → FollowsOn (steps history r.now.clock) (carried_step r.now es)
+carried_follows history r es h hold = follows history r.now.clock (carried_step r.now es) h.lived (omega arith) (ap (λ (f : Lists). live r.now.clock f) h.in_step.facts) h.in_step.facts (settle_consumers (ended (live r.now.clock r.now.facts) (live r.now.clock (all_happened es r.now.facts))) r.now.clock (all_happened es r.now.facts))
+    (settle_assigns (ended (live r.now.clock r.now.facts) (live r.now.clock (all_happened es r.now.facts))) r.now.clock (all_happened es r.now.facts))
+    (settle_count (ended (live r.now.clock r.now.facts) (live r.now.clock (all_happened es r.now.facts))) r.now.clock (all_happened es r.now.facts)) (all_make_new es r.now.facts (all_suit r.now.clock es r.now.facts hold))
 
 known_then : (history : List Stamped) (d : ℕ) (r new : Recording) → IsRecorded history r → new.now ≡ record { clock = d; facts = date_passed r.now.clock d r.now.facts } → due r.now.clock d (facts history r.now.clock).rows ≡ Some d → IsInStep history new.now → IsSound new.now.facts → AreKnown history new.now.clock
 known_then history d r new h is there stands sound =
@@ -106,6 +151,7 @@ next_recorded history d r new h first is records sound =
       lived = rw is (lived_next history r.now.clock d h.in_step.by h.lived there);
       known = known_then history d r new h is there stands sound;
       stood = stood_then history d r new h is there stands sound;
+      defined = rw is (defined_next history r.now.clock d h.in_step.by h.defined there);
     }
 
 -- a clock up to which no date comes
@@ -118,6 +164,7 @@ later_recorded history u r new h later none is same =
       lived = rw is (lived_later history r.now.clock u h.in_step.by h.lived later there);
       known = rw is (known_later history r.now.clock u h.in_step.by h.known later there);
       stood = rw is (stood_later history r.now.clock u h.in_step.by h.stood later there);
+      defined = rw is (defined_later history r.now.clock u h.in_step.by h.defined later there);
     }
 
 -- a command more
@@ -126,7 +173,7 @@ pub command_recorded : (history : List Stamped) (by : Entity) (c : Command) (r n
 command_recorded history by c r new es h allowed are hold is records sound =
     let stands = command_in_step history by c r.now new.now es h.in_step allowed are is in
     let step = carried_step r.now es in
-    let more = records (steps history r.now.clock) h.audit (carried_follows history r es h) in
+    let more = records (steps history r.now.clock) h.audit (carried_follows history r es h hold) in
     let same : step ≡ command_step r.now.clock by c r.now.facts = ap (carried_step r.now) are in
     let led : steps history r.now.clock ++ step ∷ [] ≡ steps (history ++ (record { at = r.now.clock; by = by; command = c }) ∷ []) r.now.clock =
     ap (λ (x : Step). steps history r.now.clock ++ x ∷ []) same
@@ -138,6 +185,7 @@ command_recorded history by c r new es h allowed are hold is records sound =
       lived = rw is (lived_push history r.now.clock by c h.in_step.by h.lived);
       known = known_more history by c r new h (ap (λ (n : Now). n.clock) is) stands sound;
       stood = stood_more history by c r new es h (ap (λ (n : Now). n.clock) is) stands are hold sound;
+      defined = rw is (defined_push history r.now.clock by c h.in_step.by h.defined (subst (λ (f : Lists). AllHold r.now.clock (events_of r.now.clock by c f) f) h.in_step.facts (subst (λ (xs : List Event). AllHold r.now.clock xs r.now.facts) are hold)));
     }
 
 -- nothing stands in an empty history
@@ -148,4 +196,5 @@ start_recorded r is none = record {
   lived = rw is lived_start;
   known = rw is known_start;
   stood = rw is (stood_start start_sound);
+  defined = rw is defined_start;
 }

@@ -24,7 +24,7 @@ use Rattle.reg_rules.specs.Actions.{days_later, removal, ending, action_of, with
 use Rattle.reg_rules.specs.Live.{live, begun, row_on}
 use Rattle.reg_rules.specs.Settling.{listed, acting, rule_actions, round_actions, settling_in, settling, settle}
 use Rattle.reg_machine.specs.Invariant.{IsOpen}
-use Rattle.reg_machine.specs.Owners.{owns, is_ruled}
+use Rattle.reg_machine.specs.Owners.{owns, may_lose}
 
 -- ---- nothing changes but rows
 
@@ -294,16 +294,16 @@ group_apart g m owner s form free owned row e = elim (cases_Bool (is_row owner (
       absurd (both_ways (owns g form) free (subst (λ (x : ℕ). owns x form ≡ true) same owned))
 ]
 
-rules_elsewhere : (g : ℕ) (m : Member) (rules : List RuleRow) → is_ruled g m rules ≡ false → AllByRecursion (IsElsewhere g m) rules
+rules_elsewhere : (g : ℕ) (m : Member) (rules : List RuleRow) → may_lose g m rules ≡ false → AllByRecursion (IsElsewhere g m) rules
 rules_elsewhere g m [] h = tt
 rules_elsewhere g (Group x) (rule ∷ rules) h = (λ owner s owned. nested_apart g x owner s, rules_elsewhere g (Group x) rules refl)
 rules_elsewhere g (Person p) (rule ∷ rules) h =
-    let w = or_parts (owns g rule.form) (is_ruled g (Person p) rules) h in
+    let w = or_parts (owns g rule.form) (may_lose g (Person p) rules) h in
     (λ owner s owned. group_apart g (Person p) owner s rule.form w.0 owned, rules_elsewhere g (Person p) rules w.1)
 
 -- the rows of a group and a member are these, and no rule acts on them
 abbrev AreOnly : ℕ → Member → List MemberRow → Lists → Type 0
-AreOnly g m rows f = (only g m f.rows ≡ rows) × (is_ruled g m f.rules ≡ false)
+AreOnly g m rows f = (only g m f.rows ≡ rows) × (may_lose g m f.rules ≡ false)
 
 act_only : (at g : ℕ) (m : Member) (rows : List MemberRow) (rule : RuleRow) (x s : ℕ) (f : Lists) → IsElsewhere g m rule → AreOnly g m rows f → AreOnly g m rows (all_done (acting at rule x s f) f)
 act_only at g m rows rule x s f elsewhere h = acting_keeps at (AreOnly g m rows) rule.id rule.form x s f
@@ -311,5 +311,5 @@ act_only at g m rows rule x s f elsewhere h = acting_keeps at (AreOnly g m rows)
     (λ owner until owned may. (only_ended g m owner s until f.rows (elsewhere owner s owned) ∙ h.0, h.1))
     h
 
-pub settle_only : (at g : ℕ) (m : Member) (pairs : List (ℕ × ℕ)) (f : Lists) → is_ruled g m f.rules ≡ false → only g m (settle pairs at f).rows ≡ only g m f.rows
+pub settle_only : (at g : ℕ) (m : Member) (pairs : List (ℕ × ℕ)) (f : Lists) → may_lose g m f.rules ≡ false → only g m (settle pairs at f).rows ≡ only g m f.rows
 settle_only at g m pairs f free = (settle_keeps at (AreOnly g m (only g m f.rows)) (IsElsewhere g m) (λ x h. rules_elsewhere g m x.rules h.1) (λ rule x s k elsewhere h. act_only at g m (only g m f.rows) rule x s k elsewhere h) pairs f (refl, free)).0

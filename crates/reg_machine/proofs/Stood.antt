@@ -146,7 +146,7 @@ stood_next history t d by h first sound =
 
 -- ---- a command more
 
-all_suit : (at : ℕ) (es : List Event) (f : Lists) → AllHold at es f → AllSuit es f
+pub all_suit : (at : ℕ) (es : List Event) (f : Lists) → AllHold at es f → AllSuit es f
 all_suit at [] f h = tt
 all_suit at (e ∷ es) f h = (h.0.suits, all_suit at es (happened e f) h.1)
 

@@ -15,6 +15,6 @@ owns g (Veto owner condition) = false
 owns g (OnCreate folder scope privilege holder) = false
 
 -- whether some rule may do so with a group's row of a member: a row of a nested group none does
-abbrev pub is_ruled : ℕ → Member → List RuleRow → Bool
-is_ruled g (Person s) rules = list_any (λ (rule : RuleRow). owns g rule.form) rules
-is_ruled g (Group h) rules = false
+abbrev pub may_lose : ℕ → Member → List RuleRow → Bool
+may_lose g (Person s) rules = list_any (λ (rule : RuleRow). owns g rule.form) rules
+may_lose g (Group h) rules = false

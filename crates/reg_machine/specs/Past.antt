@@ -18,6 +18,7 @@ use Rattle.reg_effect.specs.Member.{member}
 use Rattle.std.specs.List.{AllByRecursion}
 use Rattle.std.specs.Option.{option_or}
 use Rattle.std.specs.Str.{bytes_eq}
+use Rattle.reg_audit.specs.Definitions.{definition_in}
 use Rattle.reg_audit.specs.Lines.{log_of}
 use Rattle.reg_audit.specs.Lives.{life_of, gone_of, gone_name, all_gone}
 use Rattle.reg_audit.specs.declared.gone.Gone.{Gone}
@@ -104,6 +105,10 @@ unfoldable pub log : List Stamped → ℕ → List Line
 log history t = log_of (steps history t)
 
 -- ---- what was made, and what is gone
+
+-- the definition of which an attribute was made, if it was ever made
+unfoldable pub def_of : List Stamped → ℕ → ℕ → Option ℕ
+def_of history now a = definition_in a (steps history now)
 
 -- when an object was made and when it went
 unfoldable pub life : List Stamped → ℕ → Object → Option (ℕ × Option ℕ)

@@ -3,7 +3,7 @@ ghost use Rattle.std.specs.Prelude.{◌≡◌, ◌&&◌, not, is_some, IfOk, Som
 ghost use Rattle.reg_base.specs.Entities.{entity_of};
 ghost use Rattle.reg_facts.specs.Grants.{grant_for};
 ghost use Rattle.reg_machine.specs.Checks.{grant_add_checks, grant_remove_checks, inherit_add_checks, inherit_remove_checks, bare_text, names_internal, takes_no_grant, is_foreign, is_system, is_unknown, grant_stands, inherit_stands};
-ghost use Rattle.reg_machine.specs.History.{facts};
+ghost use Rattle.reg_machine.specs.History.{now_facts};
 ghost use Rattle.reg_machine.specs.Refusals.{first_of};
 
 use crate::Machine;
@@ -16,7 +16,7 @@ use reg_terms::{MAX_GRANTS, MAX_INHERITS, privilege_kind};
 use std::alloc::{AllocError, Global};
 
 /// What a text names isn't found: a group by its name, and all else by the text.
-fn missing_object(alloc: Global, text: &Text) -> Result<Option<Refusal>, AllocError>
+pub fn missing_object(alloc: Global, text: &Text) -> Result<Option<Refusal>, AllocError>
     ensures { IfOk result (λ found. found ≡ Some (Refusal.NotFound (bare_text (entity_of text.now) text.now))) }
 {
     match Entity::parse(alloc, text.bytes())? {
@@ -37,7 +37,7 @@ fn names_internal(alloc: Global, text: &Text) -> Result<bool, AllocError>
 
 /// Whether a text, of which this object was found, names neither an object that stands nor an
 /// entity of the registry itself.
-fn is_missing(alloc: Global, text: &Text, found: &Option<Object>) -> Result<bool, AllocError>
+pub fn is_missing(alloc: Global, text: &Text, found: &Option<Object>) -> Result<bool, AllocError>
     ensures { IfOk result (λ b. b ≡ (not (is_some found.now) && not (names_internal (entity_of text.now)))) }
 {
     if found.is_some() {
@@ -106,14 +106,14 @@ fn grant_for(
 impl<K: Kept> Machine<K> {
     /// Whether the person or the group that an entity names doesn't stand.
     pub(crate) fn is_unknown(&self, entity: &Entity) -> bool
-        ensures { result ≡ is_unknown entity.now (facts self.now.history self.now.clock) }
+        ensures { result ≡ is_unknown entity.now (now_facts self.now) }
     {
         !is_internal(entity) && self.facts().member_of(entity).is_none()
     }
 
     /// Whether the grant that a command speaks of stands.
     fn grant_stands(&self, row: &Option<GrantRow>) -> bool
-        ensures { result ≡ grant_stands row.now (facts self.now.history self.now.clock) }
+        ensures { result ≡ grant_stands row.now (now_facts self.now) }
     {
         match row {
             Some(row) => self.facts().has_grant(row),
@@ -123,7 +123,7 @@ impl<K: Kept> Machine<K> {
 
     /// Whether the inherit that a command speaks of stands.
     fn inherit_stands(&self, row: &Option<InheritRow>) -> bool
-        ensures { result ≡ inherit_stands row.now (facts self.now.history self.now.clock) }
+        ensures { result ≡ inherit_stands row.now (now_facts self.now) }
     {
         match row {
             Some(row) => self.facts().has_inherit(row),
@@ -138,7 +138,7 @@ impl<K: Kept> Machine<K> {
         privilege: Privilege,
         holder: &Entity,
     ) -> Result<Option<Refusal>, AllocError>
-        ensures { IfOk result (λ found. found ≡ first_of (grant_add_checks self.now.history (facts self.now.history self.now.clock) object.now privilege holder.now)) }
+        ensures { IfOk result (λ found. found ≡ first_of (grant_add_checks self.now.history (now_facts self.now) object.now privilege holder.now)) }
     {
         let found = self.facts().object_of(alloc, object)?;
         if is_missing(alloc, object, &found)? {
@@ -173,7 +173,7 @@ impl<K: Kept> Machine<K> {
         privilege: Privilege,
         holder: &Entity,
     ) -> Result<Option<Refusal>, AllocError>
-        ensures { IfOk result (λ found. found ≡ first_of (grant_remove_checks self.now.history (facts self.now.history self.now.clock) object.now privilege holder.now)) }
+        ensures { IfOk result (λ found. found ≡ first_of (grant_remove_checks self.now.history (now_facts self.now) object.now privilege holder.now)) }
     {
         let found = self.facts().object_of(alloc, object)?;
         if is_missing(alloc, object, &found)? {
@@ -207,7 +207,7 @@ impl<K: Kept> Machine<K> {
         privilege: Privilege,
         holder: &Entity,
     ) -> Result<Option<Refusal>, AllocError>
-        ensures { IfOk result (λ found. found ≡ first_of (inherit_add_checks self.now.history (facts self.now.history self.now.clock) folder.now kind scope privilege holder.now)) }
+        ensures { IfOk result (λ found. found ≡ first_of (inherit_add_checks self.now.history (now_facts self.now) folder.now kind scope privilege holder.now)) }
     {
         if self.facts().folder_id(folder.as_str()).is_none() {
             return not_found(alloc, folder.as_str());
@@ -242,7 +242,7 @@ impl<K: Kept> Machine<K> {
         privilege: Privilege,
         holder: &Entity,
     ) -> Result<Option<Refusal>, AllocError>
-        ensures { IfOk result (λ found. found ≡ first_of (inherit_remove_checks self.now.history (facts self.now.history self.now.clock) folder.now kind scope privilege holder.now)) }
+        ensures { IfOk result (λ found. found ≡ first_of (inherit_remove_checks self.now.history (now_facts self.now) folder.now kind scope privilege holder.now)) }
     {
         if self.facts().folder_id(folder.as_str()).is_none() {
             return not_found(alloc, folder.as_str());

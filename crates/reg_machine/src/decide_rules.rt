@@ -6,7 +6,7 @@ ghost use Rattle.reg_terms.specs.declared.kinds.RuleForm.TheVariants.{EndLost};
 ghost use Rattle.reg_terms.specs.declared.refusal.Refusal.TheVariants.{Already};
 ghost use Rattle.reg_facts.specs.Rules.{form_of, has_rule, on_create_for};
 ghost use Rattle.reg_machine.specs.Checks.{rule_of_groups_checks, rule_on_create_checks, rule_delete_checks, rule_stands, limited, history_full};
-ghost use Rattle.reg_machine.specs.History.{facts};
+ghost use Rattle.reg_machine.specs.History.{now_facts};
 ghost use Rattle.reg_machine.specs.Refusals.{first_of};
 
 use crate::Machine;
@@ -40,7 +40,7 @@ fn on_create_for(
 impl<K: Kept> Machine<K> {
     /// Whether a rule stands that says the same as the one that a command would make.
     fn rule_stands(&self, form: &Option<RuleForm>) -> bool
-        ensures { result ≡ rule_stands form.now (facts self.now.history self.now.clock) }
+        ensures { result ≡ rule_stands form.now (now_facts self.now) }
     {
         match form {
             Some(form) => self.facts().has_rule(form),
@@ -51,7 +51,7 @@ impl<K: Kept> Machine<K> {
     /// Whether a rule stands that ends memberships so many days later. None has more days than it
     /// may.
     fn has_end_lost(&self, check: GroupId, owner: GroupId, days: u64) -> bool
-        ensures { result ≡ has_rule (EndLost check owner days) (facts self.now.history self.now.clock).rules }
+        ensures { result ≡ has_rule (EndLost check owner days) (now_facts self.now).rules }
     {
         match u32::try_from(days) {
             Ok(days) => self
@@ -66,7 +66,7 @@ impl<K: Kept> Machine<K> {
 
     /// Full, where there is no room for a rule more, or for a command more.
     fn decide_rule_room(&self, alloc: Global) -> Result<Option<Refusal>, AllocError>
-        ensures { IfOk result (λ found. found ≡ first_of (limited max_rules (facts self.now.history self.now.clock).made.rules (codes "rule") ∷ history_full self.now.history ∷ [])) }
+        ensures { IfOk result (λ found. found ≡ first_of (limited max_rules (now_facts self.now).made.rules (codes "rule") ∷ history_full self.now.history ∷ [])) }
     {
         if self.facts().made().rules >= MAX_RULES {
             return full(alloc, "rule", u64::from(MAX_RULES));
@@ -80,7 +80,7 @@ impl<K: Kept> Machine<K> {
         alloc: Global,
         form: &Option<RuleForm>,
     ) -> Result<Option<Refusal>, AllocError>
-        ensures { IfOk result (λ found. found ≡ first_of ((rule_stands form.now (facts self.now.history self.now.clock), Already) ∷ limited max_rules (facts self.now.history self.now.clock).made.rules (codes "rule") ∷ history_full self.now.history ∷ [])) }
+        ensures { IfOk result (λ found. found ≡ first_of ((rule_stands form.now (now_facts self.now), Already) ∷ limited max_rules (now_facts self.now).made.rules (codes "rule") ∷ history_full self.now.history ∷ [])) }
     {
         if self.rule_stands(form) {
             return Ok(Some(Refusal::Already));
@@ -94,7 +94,7 @@ impl<K: Kept> Machine<K> {
         check: &Name,
         owner: &Name,
     ) -> Result<Option<Refusal>, AllocError>
-        ensures { IfOk result (λ found. found ≡ first_of (rule_of_groups_checks self.now.history (facts self.now.history self.now.clock) check.now owner.now (form_of (RuleRemoveLost check.now owner.now) (facts self.now.history self.now.clock)))) }
+        ensures { IfOk result (λ found. found ≡ first_of (rule_of_groups_checks self.now.history (now_facts self.now) check.now owner.now (form_of (RuleRemoveLost check.now owner.now) (now_facts self.now)))) }
     {
         let Some(check_id) = self.facts().group_id(check.as_str()) else {
             return not_found(alloc, check.as_str());
@@ -116,7 +116,7 @@ impl<K: Kept> Machine<K> {
         owner: &Name,
         days: u64,
     ) -> Result<Option<Refusal>, AllocError>
-        ensures { IfOk result (λ found. found ≡ first_of (rule_of_groups_checks self.now.history (facts self.now.history self.now.clock) check.now owner.now (form_of (RuleEndLost check.now owner.now days) (facts self.now.history self.now.clock)))) }
+        ensures { IfOk result (λ found. found ≡ first_of (rule_of_groups_checks self.now.history (now_facts self.now) check.now owner.now (form_of (RuleEndLost check.now owner.now days) (now_facts self.now)))) }
     {
         let Some(check_id) = self.facts().group_id(check.as_str()) else {
             return not_found(alloc, check.as_str());
@@ -136,7 +136,7 @@ impl<K: Kept> Machine<K> {
         owner: &Name,
         condition: &Name,
     ) -> Result<Option<Refusal>, AllocError>
-        ensures { IfOk result (λ found. found ≡ first_of (rule_of_groups_checks self.now.history (facts self.now.history self.now.clock) owner.now condition.now (form_of (RuleVeto owner.now condition.now) (facts self.now.history self.now.clock)))) }
+        ensures { IfOk result (λ found. found ≡ first_of (rule_of_groups_checks self.now.history (now_facts self.now) owner.now condition.now (form_of (RuleVeto owner.now condition.now) (now_facts self.now)))) }
     {
         let Some(owner_id) = self.facts().group_id(owner.as_str()) else {
             return not_found(alloc, owner.as_str());
@@ -159,7 +159,7 @@ impl<K: Kept> Machine<K> {
         privilege: Privilege,
         holder: &Entity,
     ) -> Result<Option<Refusal>, AllocError>
-        ensures { IfOk result (λ found. found ≡ first_of (rule_on_create_checks self.now.history (facts self.now.history self.now.clock) folder.now scope privilege holder.now)) }
+        ensures { IfOk result (λ found. found ≡ first_of (rule_on_create_checks self.now.history (now_facts self.now) folder.now scope privilege holder.now)) }
     {
         let Some(id) = self.facts().folder_id(folder.as_str()) else {
             return not_found(alloc, folder.as_str());
@@ -182,7 +182,7 @@ impl<K: Kept> Machine<K> {
         alloc: Global,
         id: u64,
     ) -> Result<Option<Refusal>, AllocError>
-        ensures { IfOk result (λ found. found ≡ first_of (rule_delete_checks self.now.history (facts self.now.history self.now.clock) id)) }
+        ensures { IfOk result (λ found. found ≡ first_of (rule_delete_checks self.now.history (now_facts self.now) id)) }
     {
         if self.facts().rule(id).is_none() {
             return Ok(Some(Refusal::NoSuch));

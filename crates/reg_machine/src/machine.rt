@@ -12,7 +12,7 @@ ghost use Rattle.reg_effect.specs.Order.{has_live_row};
 ghost use Rattle.reg_terms.specs.Forms.{has_form};
 ghost use Rattle.reg_machine.specs.Checks as checks;
 ghost use Rattle.reg_machine.specs.Dates.{due, is_on, pass_steps};
-ghost use Rattle.reg_machine.specs.History.{State, start, acted, appended};
+ghost use Rattle.reg_machine.specs.History.{State, acted, appended, start};
 ghost use Rattle.reg_machine.specs.Refusals.{refusal, first_of};
 ghost use Rattle.reg_machine.specs.Holding.{AllHold};
 ghost use Rattle.reg_machine.specs.Live.{live};
@@ -22,7 +22,7 @@ ghost use Rattle.reg_terms.specs.declared.command.Command.TheVariants.{MemberAdd
 ghost use Rattle.reg_terms.specs.declared.command.Stamped.{Stamped};
 ghost use Rattle.reg_terms.specs.declared.kinds.Member.TheVariants.{Person};
 ghost use Rattle.reg_facts.specs.Naming.{group_id};
-ghost use Rattle.reg_machine.specs.Owners.{is_ruled};
+ghost use Rattle.reg_machine.specs.Owners.{may_lose};
 ghost use Rattle.reg_machine.specs.Past.{log, steps};
 ghost use Rattle.reg_machine.specs.Recording.{carried_steps};
 
@@ -89,7 +89,7 @@ impl<K: Kept> Model for Machine<K> {
 }
 
 impl<K: Kept> Machine<K> {
-    ghost use Rattle.reg_machine.specs.History.{facts};
+    ghost use Rattle.reg_machine.specs.History.{facts, now_facts};
     ghost use Rattle.reg_machine.specs.Invariant.{IsLegal};
 
     /// No command, at the moment 0.
@@ -127,7 +127,7 @@ impl<K: Kept> Machine<K> {
 
     /// The facts that the history gives at the clock.
     pub fn facts(&self) -> &Facts
-        ensures { result.now ≡ facts self.now.history self.now.clock }
+        ensures { result.now ≡ now_facts self.now }
     {
         self.recorded.current().facts()
     }
@@ -139,22 +139,22 @@ impl<K: Kept> Machine<K> {
 
     /// The effective memberships at the clock.
     pub fn kept(&self) -> &K
-        ensures { K.held result.now ≡ live self.now.clock (facts self.now.history self.now.clock) }
+        ensures { K.held result.now ≡ live self.now.clock (now_facts self.now) }
     {
         self.recorded.current().kept()
     }
 
     /// Whether the group is a factor of a composite, where no row names it.
     pub(crate) fn is_factor(&self, group: GroupId) -> bool
-        requires { edits.is_nested group (facts self.now.history self.now.clock).rows ≡ false }
-        ensures { result ≡ edits.is_factor group (facts self.now.history self.now.clock).composites }
+        requires { edits.is_nested group (now_facts self.now).rows ≡ false }
+        ensures { result ≡ edits.is_factor group (now_facts self.now).composites }
     {
         self.recorded.current().is_factor(group)
     }
 
     /// Whether a row of the group that names the other, or a factor, would lead back.
     pub(crate) fn leads_back(&self, group: GroupId, other: GroupId) -> Result<bool, AllocError>
-        ensures { IfOk result (λ b. b ≡ checks.leads_back group other (facts self.now.history self.now.clock)) }
+        ensures { IfOk result (λ b. b ≡ checks.leads_back group other (now_facts self.now)) }
     {
         self.recorded.current().leads_back(group, other)
     }
@@ -162,7 +162,7 @@ impl<K: Kept> Machine<K> {
     /// The next date of a membership, if it comes up to a moment. It is a look at the first dates
     /// to come.
     fn next_date(&self, to: Moment) -> Option<Moment>
-        ensures { result ≡ due self.now.clock to (facts self.now.history self.now.clock).rows }
+        ensures { result ≡ due self.now.clock to (now_facts self.now).rows }
     {
         self.recorded.current().next_date(to)
     }
@@ -171,8 +171,8 @@ impl<K: Kept> Machine<K> {
     /// between two dates, and a row on which no rule acts is on from its beginning until just before
     /// its end. It does nothing.
     fn law_stays(&self)
-        ensures between { (u : ℕ) → self.now.clock ≤ u → due self.now.clock u (facts self.now.history self.now.clock).rows ≡ None → live u (facts self.now.history u) ≡ live self.now.clock (facts self.now.history self.now.clock) }
-        ensures on { (u g : ℕ) (m : Member) → self.now.clock ≤ u → is_ruled g m (facts self.now.history self.now.clock).rules ≡ false → has_live_row g m (live u (facts self.now.history u)).rows ≡ list_any (λ (row : MemberRow). is_row g m row && is_on u row) (facts self.now.history self.now.clock).rows }
+        ensures between { (u : ℕ) → self.now.clock ≤ u → due self.now.clock u (now_facts self.now).rows ≡ None → live u (facts self.now.history u) ≡ live self.now.clock (now_facts self.now) }
+        ensures on { (u g : ℕ) (m : Member) → self.now.clock ≤ u → may_lose g m (now_facts self.now).rules ≡ false → has_live_row g m (live u (facts self.now.history u)).rows ≡ list_any (λ (row : MemberRow). is_row g m row && is_on u row) (now_facts self.now).rows }
     {
         self.recorded.current().law_rows_open();
     }
@@ -181,7 +181,7 @@ impl<K: Kept> Machine<K> {
     /// nothing.
     #[tactic(auto, using(crate::proofs::Moments::facts_push))]
     pub fn acts(&self)
-        ensures { (by : Entity) (command : Command) → facts (appended self.now by command).history self.now.clock ≡ acted self.now.clock by command (facts self.now.history self.now.clock) }
+        ensures { (by : Entity) (command : Command) → facts (appended self.now by command).history self.now.clock ≡ acted self.now.clock by command (now_facts self.now) }
     {
         let _ = &self.stamped;
     }
@@ -214,9 +214,9 @@ impl<K: Kept> Machine<K> {
         date: Moment,
         steps: &mut Steps<L>,
     ) -> Result<Machine<K>, Spent>
-        requires { due self.clock date (facts self.history self.clock).rows ≡ Some date }
+        requires { due self.clock date (now_facts self).rows ≡ Some date }
         ensures moved { IfOk result (λ m. m ≡ record { history = self.history; clock = date }) }
-        ensures cost { OnOk result ((u : ℕ) → due self.clock u (facts self.history self.clock).rows ≡ Some date → steps.new + pass_steps date u (facts self.history date) ≤ steps.old + pass_steps self.clock u (facts self.history self.clock)) }
+        ensures cost { OnOk result ((u : ℕ) → due self.clock u (now_facts self).rows ≡ Some date → steps.new + pass_steps date u (facts self.history date) ≤ steps.old + pass_steps self.clock u (now_facts self)) }
     {
         let Machine { stamped, recorded } = self;
         recorded.audit().law_follows();
@@ -236,12 +236,12 @@ impl<K: Kept> Machine<K> {
     ) -> Result<Machine<K>, Spent>
         requires { self.clock ≤ to }
         ensures moved { IfOk result (λ m. m ≡ record { history = self.history; clock = to }) }
-        ensures cost { OnOk result (steps.new ≤ steps.old + pass_steps self.clock to (facts self.history self.clock)) }
+        ensures cost { OnOk result (steps.new ≤ steps.old + pass_steps self.clock to (now_facts self)) }
 
         // As long as no command comes, nothing that is live changes between two dates, and a row on
         // which no rule acts is on from its beginning until just before its end.
-        ensures between { due self.clock to (facts self.history self.clock).rows ≡ None → live to (facts self.history to) ≡ live self.clock (facts self.history self.clock) }
-        ensures on { (g : ℕ) (m : Member) → is_ruled g m (facts self.history self.clock).rules ≡ false → has_live_row g m (live to (facts self.history to)).rows ≡ list_any (λ (row : MemberRow). is_row g m row && is_on to row) (facts self.history self.clock).rows }
+        ensures between { due self.clock to (now_facts self).rows ≡ None → live to (facts self.history to) ≡ live self.clock (now_facts self) }
+        ensures on { (g : ℕ) (m : Member) → may_lose g m (now_facts self).rules ≡ false → has_live_row g m (live to (facts self.history to)).rows ≡ list_any (λ (row : MemberRow). is_row g m row && is_on to row) (now_facts self).rows }
     {
         let mut machine = self;
         machine.law_stays();
@@ -276,7 +276,7 @@ impl<K: Kept> Machine<K> {
         by: &Entity,
         command: &Command,
     ) -> Result<Option<Refusal>, AllocError>
-        ensures { IfOk result (λ found. found ≡ first_of (checks.checks self.now.history (length (log self.now.history self.now.clock)) self.now.clock (facts self.now.history self.now.clock) by.now command.now)) }
+        ensures { IfOk result (λ found. found ≡ first_of (checks.checks self.now.history (length (log self.now.history self.now.clock)) self.now.clock (now_facts self.now) by.now command.now)) }
     {
         match command {
             Command::FolderAdd { folder, .. } => self.decide_folder_add(alloc, by, folder),
@@ -338,6 +338,35 @@ impl<K: Kept> Machine<K> {
                 privilege,
                 holder,
             } => self.decide_inherit_remove(alloc, folder, *kind, *scope, *privilege, holder),
+            Command::AttrdefAdd { definition, .. } => {
+                self.decide_attrdef_add(alloc, by, definition)
+            }
+            Command::AttrdefDelete { definition } => self.decide_attrdef_delete(alloc, definition),
+            Command::AttrAdd {
+                attribute,
+                definition,
+            } => self.decide_attr_add(alloc, attribute, definition),
+            Command::AttrDelete { attribute } => self.decide_attr_delete(alloc, attribute),
+            Command::AssignAdd { attribute, object } => {
+                self.decide_assign_add(alloc, attribute, object)
+            }
+            Command::AssignRemove {
+                attribute,
+                object,
+                id,
+            } => self.decide_assign_remove(alloc, attribute, object, *id),
+            Command::ValueAdd {
+                attribute,
+                object,
+                id,
+                value,
+            } => self.decide_value_add(alloc, attribute, object, *id, value),
+            Command::ValueRemove {
+                attribute,
+                object,
+                id,
+                value,
+            } => self.decide_value_remove(alloc, attribute, object, *id, value),
             Command::RuleRemoveLost { check, owner } => {
                 self.decide_rule_remove_lost(alloc, check, owner)
             }
@@ -370,13 +399,14 @@ impl<K: Kept> Machine<K> {
     ) -> Result<Vec<Event>, AllocError>
         requires allowed { refusal self.now.history self.now.clock by.now command.now ≡ None }
         requires form { has_form command.now ≡ true }
-        ensures events { IfOk result (λ events. events.items ≡ events_of self.now.clock by.now command.now (facts self.now.history self.now.clock)) }
-        ensures hold { AllHold self.now.clock (events_of self.now.clock by.now command.now (facts self.now.history self.now.clock)) (facts self.now.history self.now.clock) }
+        ensures events { IfOk result (λ events. events.items ≡ events_of self.now.clock by.now command.now (now_facts self.now)) }
+        ensures hold { AllHold self.now.clock (events_of self.now.clock by.now command.now (now_facts self.now)) (now_facts self.now) }
     {
         let facts = self.facts();
         facts.law_sound();
         facts.law_held();
         facts.law_grants();
+        facts.law_owners();
         facts.law_new_group();
         facts.events_of(alloc, self.clock(), by, command)
     }
@@ -393,7 +423,7 @@ impl<K: Kept> Machine<K> {
         requires allowed { refusal self.history self.clock by.now command ≡ None }
         requires form { has_form command ≡ true }
         ensures appended { IfOk result (λ m. m ≡ appended self by.now command) }
-        ensures cost { OnOk result (steps.new ≤ steps.old + carried_steps (record { clock = self.clock; facts = facts self.history self.clock }) (events_of self.clock by.now command (facts self.history self.clock))) }
+        ensures cost { OnOk result (steps.new ≤ steps.old + carried_steps (record { clock = self.clock; facts = now_facts self }) (events_of self.clock by.now command (now_facts self))) }
     {
         let events = self.events_of(alloc, by, &command)?;
         let Machine { stamped, recorded } = self;

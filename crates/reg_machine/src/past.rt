@@ -10,6 +10,8 @@ ghost use Rattle.reg_terms.specs.Kinds.{same_object};
 ghost use Rattle.reg_terms.specs.declared.kinds.Holder.{Holder};
 ghost use Rattle.reg_terms.specs.declared.kinds.Object.{Object};
 ghost use Rattle.reg_terms.specs.declared.kinds.Object.TheVariants.{Folder};
+ghost use Rattle.reg_terms.specs.declared.rows.AttributeRow.{AttributeRow};
+ghost use Rattle.reg_facts.specs.Attributes.{assigns_on, attribute_row};
 ghost use Rattle.reg_facts.specs.Consumers.{consumer_place};
 ghost use Rattle.reg_facts.specs.Lists.{root};
 ghost use Rattle.reg_facts.specs.Sound.{has_subject, is_named};
@@ -19,18 +21,18 @@ ghost use Rattle.reg_pit.specs.Spans.{ends_after};
 ghost use Rattle.reg_priv.specs.Holders.{holders};
 ghost use Rattle.reg_priv.specs.May.{wheel};
 ghost use Rattle.reg_audit.specs.Lives.{gone_name};
-ghost use Rattle.reg_machine.specs.History.{facts};
+ghost use Rattle.reg_machine.specs.History.{facts, now_facts};
 ghost use Rattle.reg_machine.specs.Invariant.{IsFrom};
 ghost use Rattle.reg_machine.specs.Standing.{lives_at, stands};
-ghost use Rattle.reg_machine.specs.Past.{all_spans, gone, gone_named, grant_spans, last_name, life, log, present_name, spans, steps, was_granted, was_member};
+ghost use Rattle.reg_machine.specs.Past.{all_spans, def_of, gone, gone_named, grant_spans, last_name, life, log, present_name, spans, steps, was_granted, was_member};
 
 use crate::Machine;
-use reg_base::{GroupId, Moment, Privilege, Steps, SubjectId, Text};
+use reg_base::{AttrDefId, AttrId, GroupId, Moment, Privilege, Steps, SubjectId, Text};
 use reg_effect::Kept;
 use reg_facts::Facts;
 use reg_log::{ChangeLog, Places};
 use reg_names::name_of;
-use reg_terms::{Holder, Object};
+use reg_terms::{AssignRow, Holder, Object};
 use std::alloc::{AllocError, Global};
 use std::sync::ledger::Ledger;
 
@@ -117,7 +119,7 @@ impl<K: Kept> Machine<K> {
 
     /// How far each consumer of the change log has read. Takes no memory.
     pub fn places(&self) -> &Places
-        ensures { (name : List ℕ) → place_of result.now name ≡ consumer_place name (facts self.now.history self.now.clock).consumers }
+        ensures { (name : List ℕ) → place_of result.now name ≡ consumer_place name (now_facts self.now).consumers }
     {
         self.recorded.audit().places()
     }
@@ -237,23 +239,46 @@ impl<K: Kept> Machine<K> {
         past.wheel_at(t)
     }
 
+    /// The assignments to an owner at a moment up to the clock, by id, with the values that stood
+    /// then, in the order in which they were added. Costs what was ever assigned to the owner. The
+    /// only error is out of memory.
+    pub fn assigns_at(&self, owner: Object, t: Moment) -> Result<Vec<AssignRow>, AllocError>
+        requires { t ≤ self.now.clock }
+        ensures { IfOk result (λ rows. rows.items ≡ assigns_on owner (facts self.now.history t).assigns) }
+    {
+        let past = self.recorded.audit().past();
+        let rows = past.assigns_at(owner, t)?;
+        Ok(rows)
+    }
+
+    /// The definition of which an attribute was made. None exactly where the attribute was never made.
+    /// Takes no memory.
+    pub fn def_of(&self, attribute: AttrId) -> Option<AttrDefId>
+        ensures { result ≡ def_of self.now.history self.now.clock attribute }
+    {
+        self.recorded.audit().def_of(attribute)
+    }
+
     /// Who was a member of a group at a moment up to the clock stands; what stood before a moment, no
     /// command changes from that moment on; and an object stood at a moment up to the clock exactly
-    /// where its life has the moment. It does nothing.
+    /// where its life has the moment, and an attribute that stood then was of the definition of which
+    /// it was made. It does nothing.
     pub fn law_past(&self)
         ensures stays { (before after : List Stamped) (c t : ℕ) → self.now.history ≡ before ++ after → AllByRecursion (IsFrom c) after → t < c → facts self.now.history t ≡ facts before t }
-        ensures known { (t g s : ℕ) → t ≤ self.now.clock → was_member self.now.history t g s ≡ true → has_subject s (facts self.now.history self.now.clock).subjects ≡ true }
+        ensures known { (t g s : ℕ) → t ≤ self.now.clock → was_member self.now.history t g s ≡ true → has_subject s (now_facts self.now).subjects ≡ true }
+        ensures defined { (t a : ℕ) (row : AttributeRow) → t ≤ self.now.clock → attribute_row a (facts self.now.history t).attributes ≡ Some row → def_of self.now.history self.now.clock a ≡ Some row.definition }
         ensures stood { (o : Object) (t : ℕ) → t ≤ self.now.clock → stands o (facts self.now.history t) ≡ lives_at t (life self.now.history self.now.clock o) }
     {
         let _ = &self.recorded;
     }
 
     /// Over two machines, of which one's history goes on from the other's by commands from the other's
-    /// clock on: who was a member and who held what is the same at every moment before that clock. It
-    /// does nothing.
+    /// clock on: who was a member, who held what and what was assigned is the same at every moment
+    /// before that clock. It does nothing.
     pub fn law_goes_on(&self, later: &Machine<K>)
         ensures members { (after : List Stamped) (t g s : ℕ) → later.now.history ≡ self.now.history ++ after → AllByRecursion (IsFrom self.now.clock) after → t < self.now.clock → was_member later.now.history t g s ≡ was_member self.now.history t g s }
         ensures granted { (after : List Stamped) (t : ℕ) (o : Object) (p : Privilege) (h : Holder) → later.now.history ≡ self.now.history ++ after → AllByRecursion (IsFrom self.now.clock) after → t < self.now.clock → was_granted later.now.history t o p h ≡ was_granted self.now.history t o p h }
+        ensures assigned { (after : List Stamped) (t : ℕ) (o : Object) → later.now.history ≡ self.now.history ++ after → AllByRecursion (IsFrom self.now.clock) after → t < self.now.clock → assigns_on o (facts later.now.history t).assigns ≡ assigns_on o (facts self.now.history t).assigns }
         ensures stays { (after : List Stamped) (t : ℕ) → later.now.history ≡ self.now.history ++ after → AllByRecursion (IsFrom self.now.clock) after → t < self.now.clock → facts later.now.history t ≡ facts self.now.history t }
     {
         let _ = &later.recorded;

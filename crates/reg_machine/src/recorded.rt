@@ -13,10 +13,10 @@ ghost use Rattle.reg_effect.specs.Deltas.{ended};
 ghost use Rattle.reg_effect.specs.Turned.{Remembers};
 ghost use Rattle.reg_rules.specs.Actions.{changes_by};
 ghost use Rattle.reg_rules.specs.Settling.{settle, settling};
+ghost use Rattle.reg_audit.specs.Assigning.{assign_changes, MayNote};
 ghost use Rattle.reg_audit.specs.Audit.{IsAudit};
 ghost use Rattle.reg_audit.specs.Notes.{notes_of};
 ghost use Rattle.reg_audit.specs.Touched.{KnowsTouched};
-ghost use Rattle.reg_pit.specs.Past.{NotedBy};
 ghost use Rattle.reg_machine.specs.Dates.{date_changes, date_passed, date_steps, due, ending, pair_gone, without_ended};
 ghost use Rattle.reg_machine.specs.Holding.{AllHold};
 ghost use Rattle.reg_machine.specs.Live.{live};
@@ -121,7 +121,7 @@ fn finished<K: Kept, L: Ledger>(
     touched: Vec<Object>,
     steps: &mut Steps<L>,
 ) -> Result<Recorded<K>, AllocError>
-    requires { NotedBy notes.at audit.past }
+    requires { MayNote notes.at notes.assigns audit.past }
     ensures settled { IfOk result (λ r. (M : Live) → Remembers M (live current.clock current.facts) turned → r.current ≡ record { clock = current.clock; facts = settle (ended M (live current.clock current.facts)) current.clock current.facts }) }
     ensures recorded { IfOk result (λ r. (before : Lists) (es : List Event) (M : Live) → Remembers M (live current.clock current.facts) turned → notes ≡ notes_of current.clock before es → KnowsTouched before current.facts touched.items → Records audit r.audit (settled_step current.clock before es M current.facts)) }
     ensures opens { IfOk result (λ r. AllByRecursion (IsOpen r.current.clock) r.current.facts.rows) }
@@ -134,7 +134,7 @@ fn finished<K: Kept, L: Ledger>(
         drop(notes);
         return Err(AllocError);
     };
-    let acted = notes.with_actions(alloc, &actions);
+    let acted = notes.with_actions(&actions);
     let Ok(notes) = acted else {
         drop(audit);
         drop(current);
@@ -185,7 +185,7 @@ impl<K: Kept> Recorded<K> {
         steps: &mut Steps<L>,
     ) -> Result<Recorded<K>, AllocError>
         requires hold { AllHold self.current.clock events.items self.current.facts }
-        requires noted { NotedBy self.current.clock self.audit.past }
+        requires noted { MayNote self.current.clock (assign_changes events.items) self.audit.past }
         ensures happened { IfOk result (λ r. r.current ≡ record { clock = self.current.clock; facts = settled_after self.current events.items }) }
         ensures recorded { IfOk result (λ r. Records self.audit r.audit (carried_step self.current events.items)) }
         ensures opens { IfOk result (λ r. AllByRecursion (IsOpen r.current.clock) r.current.facts.rows) }
@@ -210,7 +210,7 @@ impl<K: Kept> Recorded<K> {
         steps: &mut Steps<L>,
     ) -> Result<Recorded<K>, AllocError>
         requires due { due self.current.clock date self.current.facts.rows ≡ Some date }
-        requires noted { NotedBy date self.audit.past }
+        requires noted { MayNote date (assign_changes (map pair_gone (ending date self.current.facts.rows))) self.audit.past }
         ensures moved { IfOk result (λ r. r.current ≡ record { clock = date; facts = date_passed self.current.clock date self.current.facts }) }
         ensures recorded { IfOk result (λ r. Records self.audit r.audit (date_step self.current.clock date self.current.facts)) }
         ensures opens { IfOk result (λ r. AllByRecursion (IsOpen r.current.clock) r.current.facts.rows) }
@@ -245,7 +245,7 @@ pub fn carried_on<K: Kept, L: Ledger>(
     steps: &mut Steps<L>,
 ) -> Result<Box<Recorded<K>>, AllocError>
     requires hold { AllHold recorded.value.current.clock events.items recorded.value.current.facts }
-    requires noted { NotedBy recorded.value.current.clock recorded.value.audit.past }
+    requires noted { MayNote recorded.value.current.clock (assign_changes events.items) recorded.value.audit.past }
     ensures happened { IfOk result (λ b. b.value.current ≡ record { clock = recorded.value.current.clock; facts = settled_after recorded.value.current events.items }) }
     ensures recorded { IfOk result (λ b. Records recorded.value.audit b.value.audit (carried_step recorded.value.current events.items)) }
     ensures opens { IfOk result (λ b. AllByRecursion (IsOpen b.value.current.clock) b.value.current.facts.rows) }
@@ -265,7 +265,7 @@ pub fn passed_on<K: Kept, L: Ledger>(
     steps: &mut Steps<L>,
 ) -> Result<Box<Recorded<K>>, AllocError>
     requires due { due recorded.value.current.clock date recorded.value.current.facts.rows ≡ Some date }
-    requires noted { NotedBy date recorded.value.audit.past }
+    requires noted { MayNote date (assign_changes (map pair_gone (ending date recorded.value.current.facts.rows))) recorded.value.audit.past }
     ensures moved { IfOk result (λ b. b.value.current ≡ record { clock = date; facts = date_passed recorded.value.current.clock date recorded.value.current.facts }) }
     ensures recorded { IfOk result (λ b. Records recorded.value.audit b.value.audit (date_step recorded.value.current.clock date recorded.value.current.facts)) }
     ensures opens { IfOk result (λ b. AllByRecursion (IsOpen b.value.current.clock) b.value.current.facts.rows) }

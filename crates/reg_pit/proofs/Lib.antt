@@ -11,3 +11,8 @@ pub mod Held
 pub mod HeldOn
 pub mod Until
 pub mod Histories
+pub mod Rising
+pub mod Ending
+pub mod Valued
+pub mod Numbered
+pub mod Assigning

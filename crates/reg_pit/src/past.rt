@@ -1,5 +1,5 @@
 // What was the case at each moment.
-ghost use Rattle.std.specs.Prelude.{◌≡◌, ◌≤◌, ◌+◌, ◌*◌, ◌^◌, ◌==◌, ◌&&◌, Bool, List, ℕ, None, true, false, length, nat_le, IfOk, if◌then◌else◌};
+ghost use Rattle.std.specs.Prelude.{◌≡◌, ◌≤◌, ◌+◌, ◌*◌, ◌^◌, ◌==◌, ◌&&◌, Bool, List, [], ℕ, None, true, false, length, filter, nat_le, IfOk, if◌then◌else◌};
 ghost use Rattle.std.specs.List.{list_any};
 ghost use Rattle.std.specs.Ordering.{nat_cmp};
 ghost use Rattle.std.specs.List.Sorted.{IsStrictlySortedBy};
@@ -7,15 +7,19 @@ ghost use Rattle.reg_base.specs.declared.privilege.Privilege.{Privilege};
 ghost use Rattle.reg_terms.specs.Kinds.{same_object};
 ghost use Rattle.reg_terms.specs.declared.kinds.Object.{Object};
 ghost use Rattle.reg_terms.specs.declared.kinds.Holder.{Holder};
+ghost use Rattle.reg_terms.specs.declared.rows.AssignRow.{AssignRow};
 ghost use Rattle.reg_pit.specs.Spans.{AreSpansOf, spans_until};
 ghost use Rattle.reg_pit.specs.Members.{Lists};
 ghost use Rattle.reg_pit.specs.Grants.{has_grant, held_cmp};
+ghost use Rattle.reg_pit.specs.Assigns.{changed, last_after};
 
+use crate::AssignChange;
+use crate::assigns::Assigns;
 use crate::grants::Grants;
 use crate::memberships::Memberships;
 use crate::wheel::Wheel;
 use reg_base::{GroupId, Moment, Privilege, Steps, SubjectId};
-use reg_terms::{Holder, Object};
+use reg_terms::{AssignRow, Holder, Object};
 use std::alloc::{AllocError, Global};
 use std::sync::ledger::Ledger;
 
@@ -25,22 +29,26 @@ pub struct Past {
     memberships: Memberships,
     grants: Grants,
     wheel: Wheel,
+    assigns: Assigns,
 }
 
 impl Past {
-    ghost use Rattle.reg_pit.specs.Past.{was_member, member_spans, all_member_spans, was_granted, grant_spans, wheel_at, NotedBy, KeepsMembers, KeepsGrants, KeepsWheel};
+    ghost use Rattle.reg_pit.specs.Past.{was_member, member_spans, all_member_spans, was_granted, grant_spans, wheel_at, assigns_at, last_assign, IsNewAssign, NotedBy, KeepsMembers, KeepsGrants, KeepsWheel, KeepsAssigns};
 
     /// Nothing was ever the case. Takes no memory.
     pub fn start(alloc: Global) -> Past
         ensures members { (g s t : ℕ) → was_member result g s t ≡ false }
         ensures grants { (o : Object) (p : Privilege) (h : Holder) (t : ℕ) → was_granted result o p h t ≡ false }
         ensures wheel { (t : ℕ) → wheel_at result t ≡ None }
+        ensures assigns { (t : ℕ) → assigns_at result t ≡ [] }
+        ensures no_assign { last_assign result ≡ 0 }
         ensures last { (at : ℕ) → NotedBy at result }
     {
         Past {
             memberships: Memberships::new(alloc),
             grants: Grants::new(alloc),
             wheel: Wheel::new(alloc),
+            assigns: Assigns::new(alloc),
         }
     }
 
@@ -57,18 +65,21 @@ impl Past {
         ensures noted { IfOk result (λ past. (x y t : ℕ) → was_member past x y t ≡ (if ((x == g) && (y == s)) && nat_le at t then on else was_member self x y t)) }
         ensures grants { IfOk result (λ past. KeepsGrants self past) }
         ensures wheel { IfOk result (λ past. KeepsWheel self past) }
+        ensures assigns { IfOk result (λ past. KeepsAssigns self past) }
         ensures last { IfOk result (λ past. NotedBy at past) }
     {
         let Past {
             memberships,
             grants,
             wheel,
+            assigns,
         } = self;
         let memberships = memberships.note(g, s, on, at)?;
         Ok(Past {
             memberships,
             grants,
             wheel,
+            assigns,
         })
     }
 
@@ -85,18 +96,21 @@ impl Past {
         ensures noted { IfOk result (λ past. (o : Object) (p : Privilege) (h : Holder) (t : ℕ) → was_granted past o p h t ≡ (if same_object o object && nat_le at t then has_grant grants.now p h else was_granted self o p h t)) }
         ensures members { IfOk result (λ past. KeepsMembers self past) }
         ensures wheel { IfOk result (λ past. KeepsWheel self past) }
+        ensures assigns { IfOk result (λ past. KeepsAssigns self past) }
         ensures last { IfOk result (λ past. NotedBy at past) }
     {
         let Past {
             memberships,
             grants: granted,
             wheel,
+            assigns,
         } = self;
         let granted = granted.note(object, grants, at)?;
         Ok(Past {
             memberships,
             grants: granted,
             wheel,
+            assigns,
         })
     }
 
@@ -107,18 +121,50 @@ impl Past {
         ensures noted { IfOk result (λ past. (t : ℕ) → wheel_at past t ≡ (if nat_le at t then wheel else wheel_at self t)) }
         ensures members { IfOk result (λ past. KeepsMembers self past) }
         ensures grants { IfOk result (λ past. KeepsGrants self past) }
+        ensures assigns { IfOk result (λ past. KeepsAssigns self past) }
         ensures last { IfOk result (λ past. NotedBy at past) }
     {
         let Past {
             memberships,
             grants,
             wheel: notes,
+            assigns,
         } = self;
         let wheel = notes.note(wheel, at)?;
         Ok(Past {
             memberships,
             grants,
             wheel,
+            assigns,
+        })
+    }
+
+    /// From a moment on the assignments are those after a change; nothing was noted later, and an
+    /// assignment that is made has a later id than all before. What was so before the moment stays
+    /// so. Out of memory the past is given up. Costs what was ever assigned to an owner that goes,
+    /// and of a value that goes those that stand in its assignment.
+    pub fn note_assign(self, change: AssignChange, at: Moment) -> Result<Past, AllocError>
+        requires noted { NotedBy at self }
+        requires new { IsNewAssign self change }
+        ensures noted { IfOk result (λ past. (t : ℕ) → assigns_at past t ≡ (if nat_le at t then changed change (assigns_at self t) else assigns_at self t)) }
+        ensures greatest { IfOk result (λ past. last_assign past ≡ last_after change (last_assign self)) }
+        ensures members { IfOk result (λ past. KeepsMembers self past) }
+        ensures grants { IfOk result (λ past. KeepsGrants self past) }
+        ensures wheel { IfOk result (λ past. KeepsWheel self past) }
+        ensures last { IfOk result (λ past. NotedBy at past) }
+    {
+        let Past {
+            memberships,
+            grants,
+            wheel,
+            assigns,
+        } = self;
+        let assigns = assigns.note(change, at)?;
+        Ok(Past {
+            memberships,
+            grants,
+            wheel,
+            assigns,
         })
     }
 
@@ -218,6 +264,14 @@ impl Past {
         self.wheel.at(t)
     }
 
+    /// The assignments to an owner at a moment, by id, with the values that stood then in the order
+    /// in which they were added. Costs what was ever assigned to the owner.
+    pub fn assigns_at(&self, owner: Object, t: Moment) -> Result<Vec<AssignRow>, AllocError>
+        ensures { IfOk result (λ rows. rows.items ≡ filter (λ (row : AssignRow). same_object row.owner owner) (assigns_at self.now t)) }
+    {
+        self.assigns.on(owner, t)
+    }
+
     /// What was noted by a moment was noted by each later one. It does nothing.
     pub fn law_noted_later(&self)
         ensures { (a b : ℕ) → a ≤ b → NotedBy a self.now → NotedBy b self.now }
@@ -246,6 +300,7 @@ impl Past {
         ensures members { (at t g s : ℕ) → at ≤ t → NotedBy at self.now → was_member self.now g s t ≡ was_member self.now g s at }
         ensures grants { (at t : ℕ) (o : Object) (p : Privilege) (h : Holder) → at ≤ t → NotedBy at self.now → was_granted self.now o p h t ≡ was_granted self.now o p h at }
         ensures wheel { (at t : ℕ) → at ≤ t → NotedBy at self.now → wheel_at self.now t ≡ wheel_at self.now at }
+        ensures assigns { (at t : ℕ) → at ≤ t → NotedBy at self.now → assigns_at self.now t ≡ assigns_at self.now at }
     {
         let _ = &self.memberships;
     }

@@ -1,5 +1,5 @@
--- In which folder an object stands, and what lies above it, after rows of folders and groups have changed.
-use Rattle.std.proofs.Common.{◌≡◌, ◌==◌, ◌||◌, ◌++◌, ℕ, zero, suc, List, [], ◌∷◌, true, false, not, map, filter, Option, Some, None, option_map, if◌then◌else◌, arith, refl, sym, ◌∙◌, ap, inl, inr}
+-- In which folder an object stands, and what lies above it, after rows of folders, groups, definitions and attributes have changed.
+use Rattle.std.proofs.Common.{◌≡◌, ◌==◌, ◌||◌, ◌++◌, ℕ, zero, suc, List, [], ◌∷◌, Bool, true, false, not, map, filter, Option, Some, None, option_map, if◌then◌else◌, arith, refl, sym, ◌∙◌, ap, inl, inr}
 use Rattle.std.specs.List.{AllByRecursion}
 use Rattle.std.proofs.lemmas.Bool.{cases_Bool, eqb-true, or_parts}
 use Rattle.std.proofs.lemmas.Bool.Decides.{nat_tests}
@@ -33,10 +33,15 @@ home_placed o f =
     ∙ ap (λ h. or_home h (home_in o (map placed_attribute f.attributes))) (home_more o (placed_folders f.folders ++ map placed_group f.groups) (map placed_definition f.definitions)
     ∙ ap (λ h. or_home h (home_in o (map placed_definition f.definitions))) (home_more o (placed_folders f.folders) (map placed_group f.groups)))
 
+-- where folders, groups, definitions and attributes stand where they stood, so does all
+pub same_homes : (o : Object) (f g : Lists) → home_in o (placed_folders g.folders) ≡ home_in o (placed_folders f.folders) → home_in o (map placed_group g.groups) ≡ home_in o (map placed_group f.groups)
+    → home_in o (map placed_definition g.definitions) ≡ home_in o (map placed_definition f.definitions) → home_in o (map placed_attribute g.attributes) ≡ home_in o (map placed_attribute f.attributes) → home_in o (placed g) ≡ home_in o (placed f)
+same_homes o f g a b c d = home_placed o g ∙ (rw (a, b, c, d) (sym (home_placed o f)))
+
 -- where folders and groups stand where they stood, so does all
 pub same_home : (o : Object) (f g : Lists) → home_in o (placed_folders g.folders) ≡ home_in o (placed_folders f.folders) → home_in o (map placed_group g.groups) ≡ home_in o (map placed_group f.groups)
     → g.definitions ≡ f.definitions → g.attributes ≡ f.attributes → home_in o (placed g) ≡ home_in o (placed f)
-same_home o f g a b c d = home_placed o g ∙ (rw (a, b, c, d) (sym (home_placed o f)))
+same_home o f g a b c d = same_homes o f g a b (ap (λ rows. home_in o (map placed_definition rows)) c) (ap (λ rows. home_in o (map placed_attribute rows)) d)
 
 -- ---- folders
 
@@ -129,6 +134,21 @@ group_taken o id (r ∷ rows) h = elim (cases_Bool (r.id == id)) [
       let other : same_object (Group r.id) o ≡ false = rw same h in
       rw (y, other) (group_taken o id rows h)
   | inr y ↦ rw y (ap (or_home (group_at o r)) (group_taken o id rows h))
+]
+
+-- ---- definitions and attributes
+
+-- one more row, which isn't the object's
+pub home_pushed : {R : Type 0} (make : R → Placed) (o : Object) (row : R) (rows : List R) → same_object (make row).object o ≡ false → home_in o (map make (rows ++ row ∷ [])) ≡ home_in o (map make rows)
+home_pushed make o row [] h = rw h refl
+home_pushed make o row (r ∷ rows) h = elim (cases_Bool (same_object (make r).object o)) [ inl y ↦ rw y refl | inr y ↦ rw y (home_pushed make o row rows h) ]
+
+-- some rows fewer, none of which is the object's
+pub home_fewer : {R : Type 0} (make : R → Placed) (test : R → Bool) (o : Object) (rows : List R) → ((r : R) → test r ≡ true → same_object (make r).object o ≡ false) → home_in o (map make (filter (λ r. not (test r)) rows)) ≡ home_in o (map make rows)
+home_fewer make test o [] h = refl
+home_fewer make test o (r ∷ rows) h = elim (cases_Bool (test r)) [
+  | inl y ↦ rw (y, h r y) (home_fewer make test o rows h)
+  | inr n ↦ rw n (elim (cases_Bool (same_object (make r).object o)) [ inl y ↦ rw y refl | inr y ↦ rw y (home_fewer make test o rows h) ])
 ]
 
 -- ---- the folder above a folder

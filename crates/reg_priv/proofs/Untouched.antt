@@ -1,17 +1,19 @@
 -- An event leaves the grants of the objects that it doesn't touch as they were.
-use Rattle.std.proofs.Common.{◌≡◌, ◌≤◌, ◌==◌, ◌&&◌, ◌||◌, ◌++◌, ◌+◌, ℕ, List, [], ◌∷◌, Bool, true, false, not, map, filter, Option, Some, None, option_map, is_some, arith, refl, sym, ◌∙◌, ap, inl, inr}
+use Rattle.std.proofs.Common.{◌≡◌, ◌≤◌, ◌==◌, ◌&&◌, ◌||◌, ◌++◌, ◌+◌, ℕ, List, [], ◌∷◌, Bool, true, false, not, map, filter, Option, Some, None, option_map, is_some, arith, refl, sym, subst, ◌∙◌, ap, inl, inr}
 use Rattle.std.specs.List.{AllByRecursion, list_any}
 use Rattle.std.proofs.lemmas.Bool.{cases_Bool, eqb-true, or_parts, and_parts}
 use Rattle.std.proofs.lemmas.Bool.Decides.{nat_tests}
 use Rattle.reg_terms.specs.Kinds.{same_object, same_scope, same_kind, is_of_kind}
 use Rattle.reg_terms.specs.declared.event.Event.{Event}
-use Rattle.reg_terms.specs.declared.event.Event.TheVariants.{FolderMade, FolderRenamed, FolderMoved, FolderGone, GroupMade, GroupRenamed, GroupMoved, GroupGone, GrantAdded, GrantRemoved, InheritAdded, InheritRemoved}
+use Rattle.reg_terms.specs.declared.event.Event.TheVariants.{FolderMade, FolderRenamed, FolderMoved, FolderGone, GroupMade, GroupRenamed, GroupMoved, GroupGone, GrantAdded, GrantRemoved, InheritAdded, InheritRemoved, DefinitionMade, DefinitionGone, AttributeMade, AttributeGone}
 use Rattle.reg_terms.specs.declared.kinds.InheritKind.{InheritKind}
 use Rattle.reg_terms.specs.declared.kinds.InheritKind.TheVariants as kind
 use Rattle.reg_terms.specs.declared.kinds.Object.{Object}
 use Rattle.reg_terms.specs.declared.kinds.Object.TheVariants as object
 use Rattle.reg_terms.specs.declared.kinds.Scope.{Scope}
 use Rattle.reg_terms.specs.declared.kinds.Scope.TheVariants.{One, Sub}
+use Rattle.reg_terms.specs.declared.rows.AttributeRow.{AttributeRow}
+use Rattle.reg_terms.specs.declared.rows.DefinitionRow.{DefinitionRow}
 use Rattle.reg_terms.specs.declared.rows.FolderRow.{FolderRow}
 use Rattle.reg_terms.specs.declared.rows.GroupRow.{GroupRow}
 use Rattle.reg_terms.specs.declared.rows.GrantRow.{GrantRow}
@@ -20,13 +22,13 @@ use Rattle.reg_facts.specs.Edits.{folder_renamed, folder_moved, group_renamed, g
 use Rattle.reg_facts.specs.Events.{happened}
 use Rattle.reg_facts.specs.Grants.{grants_on, same_grant, same_inherit}
 use Rattle.reg_facts.specs.Lists.{Lists}
-use Rattle.reg_facts.specs.Naming.{Placed, placed, placed_folders, placed_group, place_of, parent_of, folder_row, lies_in, most_levels}
+use Rattle.reg_facts.specs.Naming.{Placed, placed, placed_folders, placed_group, placed_definition, placed_attribute, place_of, parent_of, folder_row, lies_in, most_levels}
 use Rattle.reg_facts.specs.Sound.{IsSound, IsRooted, AscendFrom, BeginsAtRoot}
 use Rattle.reg_facts.specs.Suiting.{Suits, holds_some}
 use Rattle.reg_names.specs.Scopes.{place_in_scope, in_scope}
 use Rattle.reg_priv.specs.Grants.{written, given, reaches, grants}
 use Rattle.reg_priv.specs.Touched.{touched}
-use Rattle.reg_priv.proofs.Homes.{home_in, same_home, by_folders, folder_made, folder_named, folder_put, folder_taken, by_groups, group_made, group_named, group_put, group_taken, parent_made, parent_named, parent_put, parent_taken, lies_alike, lies_beside, lies_nowhere, lies_apart, home_holds, parent_holds, of_folders}
+use Rattle.reg_priv.proofs.Homes.{home_in, home_fewer, home_pushed, same_home, same_homes, by_folders, folder_made, folder_named, folder_put, folder_taken, by_groups, group_made, group_named, group_put, group_taken, parent_made, parent_named, parent_put, parent_taken, lies_alike, lies_beside, lies_nowhere, lies_apart, home_holds, parent_holds, of_folders}
 
 -- ---- lists
 
@@ -190,6 +192,29 @@ group_gone_apart id f o h = grants_alike o f (happened (GroupGone id) f)
     (group_moves o f (happened (GroupGone id) f) refl (by_groups o (filter (λ (row : GroupRow). not (row.id == id)) f.groups) ∙ (group_taken o id f.groups h ∙ sym (by_groups o f.groups))) refl refl)
     (others_stay (object.Group id) o f.grants h) refl
 
+-- ---- definitions and attributes
+
+attributes_move : (o : Object) (f g : Lists) → g.folders ≡ f.folders → g.groups ≡ f.groups → home_in o (map placed_definition g.definitions) ≡ home_in o (map placed_definition f.definitions) → home_in o (map placed_attribute g.attributes) ≡ home_in o (map placed_attribute f.attributes) → StandsAlike o f g
+attributes_move o f g a b c d = record {
+  home = same_homes o f g (ap (λ rows. home_in o (placed_folders rows)) a) (ap (λ rows. home_in o (map placed_group rows)) b) c d;
+  above = λ e x h. ap (λ rows. lies_in most_levels e x rows) a;
+}
+
+definition_made_apart : (row : DefinitionRow) (f : Lists) (o : Object) → same_object (object.Def row.id) o ≡ false → grants o (happened (DefinitionMade row) f) ≡ grants o f
+definition_made_apart row f o h = grants_alike o f (happened (DefinitionMade row) f) (attributes_move o f (happened (DefinitionMade row) f) refl refl (home_pushed placed_definition o row f.definitions h) refl) refl refl
+
+definition_gone_apart : (id : ℕ) (f : Lists) (o : Object) → same_object (object.Def id) o ≡ false → grants o (happened (DefinitionGone id) f) ≡ grants o f
+definition_gone_apart id f o h = grants_alike o f (happened (DefinitionGone id) f)
+    (attributes_move o f (happened (DefinitionGone id) f) refl refl (home_fewer placed_definition (λ (row : DefinitionRow). row.id == id) o f.definitions (λ row y. subst (λ (x : ℕ). same_object (object.Def x) o ≡ false) (sym (eqb-true row.id id y)) h)) refl)
+    (others_stay (object.Def id) o f.grants h) refl
+
+attribute_made_apart : (row : AttributeRow) (f : Lists) (o : Object) → same_object (object.Attr row.id) o ≡ false → grants o (happened (AttributeMade row) f) ≡ grants o f
+attribute_made_apart row f o h = grants_alike o f (happened (AttributeMade row) f) (attributes_move o f (happened (AttributeMade row) f) refl refl refl (home_pushed placed_attribute o row f.attributes h)) refl refl
+
+attribute_gone_apart : (id : ℕ) (f : Lists) (o : Object) → same_object (object.Attr id) o ≡ false → grants o (happened (AttributeGone id) f) ≡ grants o f
+attribute_gone_apart id f o h = grants_alike o f (happened (AttributeGone id) f)
+    (attributes_move o f (happened (AttributeGone id) f) refl refl refl (home_fewer placed_attribute (λ (row : AttributeRow). row.id == id) o f.attributes (λ row y. subst (λ (x : ℕ). same_object (object.Attr x) o ≡ false) (sym (eqb-true row.id id y)) h))) refl refl
+
 -- ---- folders
 
 folder_renamed_apart : (id : ℕ) (e : List ℕ) (f : Lists) (o : Object) → grants o (happened (FolderRenamed id e) f) ≡ grants o f
@@ -291,6 +316,10 @@ untouched (GroupMade row) f o sound s h = group_made_apart row f o h
 untouched (GroupRenamed id e) f o sound s h = group_renamed_apart id e f o
 untouched (GroupMoved id to) f o sound s h = group_moved_apart id to f o h
 untouched (GroupGone id) f o sound s h = group_gone_apart id f o h
+untouched (DefinitionMade row) f o sound s h = definition_made_apart row f o h
+untouched (DefinitionGone id) f o sound s h = definition_gone_apart id f o h
+untouched (AttributeMade row) f o sound s h = attribute_made_apart row f o h
+untouched (AttributeGone id) f o sound s h = attribute_gone_apart id f o h
 untouched (GrantAdded row) f o sound s h = grant_added row f o h
 untouched (GrantRemoved row) f o sound s h = grant_removed row f o h
 untouched (InheritAdded row) f o sound s h = inherit_added row f o h

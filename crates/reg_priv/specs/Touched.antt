@@ -2,9 +2,9 @@
 use Rattle.std.specs.Prelude.{◌||◌, ℕ, zero, suc, List, Bool, false, Option, None, Some}
 use Rattle.std.specs.List.{list_any}
 use Rattle.reg_terms.specs.declared.event.Event.{Event}
-use Rattle.reg_terms.specs.declared.event.Event.TheVariants.{FolderMade, FolderMoved, FolderGone, GroupMade, GroupMoved, GroupGone, GrantAdded, GrantRemoved, InheritAdded, InheritRemoved}
+use Rattle.reg_terms.specs.declared.event.Event.TheVariants.{FolderMade, FolderMoved, FolderGone, GroupMade, GroupMoved, GroupGone, GrantAdded, GrantRemoved, InheritAdded, InheritRemoved, DefinitionMade, DefinitionGone, AttributeMade, AttributeGone}
 use Rattle.reg_terms.specs.declared.kinds.Object.{Object}
-use Rattle.reg_terms.specs.declared.kinds.Object.TheVariants.{Folder, Group}
+use Rattle.reg_terms.specs.declared.kinds.Object.TheVariants.{Folder, Group, Def, Attr}
 use Rattle.reg_terms.specs.declared.kinds.Scope.TheVariants.{Sub}
 use Rattle.reg_terms.specs.Kinds.{same_object}
 use Rattle.reg_facts.specs.Lists.{Lists}
@@ -20,6 +20,10 @@ touched (FolderGone id) f o = same_object (Folder id) o
 touched (GroupMade row) f o = same_object (Group row.id) o
 touched (GroupMoved id to) f o = same_object (Group id) o
 touched (GroupGone id) f o = same_object (Group id) o
+touched (DefinitionMade row) f o = same_object (Def row.id) o
+touched (DefinitionGone id) f o = same_object (Def id) o
+touched (AttributeMade row) f o = same_object (Attr row.id) o
+touched (AttributeGone id) f o = same_object (Attr id) o
 touched (GrantAdded row) f o = same_object row.object o
 touched (GrantRemoved row) f o = same_object row.object o
 touched (InheritAdded row) f o = reaches o f row

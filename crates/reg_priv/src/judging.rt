@@ -1,8 +1,6 @@
 // What a caller may do.
 ghost use Rattle.std.specs.Prelude.{◌≡◌, IfOk};
-ghost use Rattle.std.specs.Option.{option_copied};
 ghost use Rattle.reg_terms.specs.declared.kinds.Object.TheVariants.{Attr};
-ghost use Rattle.reg_facts.specs.Rows.{attribute_row};
 ghost use Rattle.reg_priv.specs.May.{is_root, granted, judged, may, visible, privileges_of, wheel};
 
 use crate::Who;
@@ -10,7 +8,7 @@ use crate::climbing::any_inherited;
 use crate::granting::any_written;
 use reg_base::{AttrId, GroupId, Privilege};
 use reg_effect::Kept;
-use reg_facts::{AttributeRow, Facts, Object};
+use reg_facts::{Facts, Object};
 use reg_terms::{Privileges, all_privileges, privilege_kind};
 use std::alloc::{AllocError, Global};
 
@@ -53,23 +51,11 @@ fn granted<K: Kept>(
     any_written(kept, who, privilege, rows) || any_inherited(facts, kept, who, privilege, object)
 }
 
-/// The attribute of this id.
-fn attribute(facts: &Facts, id: AttrId) -> Option<&AttributeRow>
-    ensures { option_copied result ≡ attribute_row id facts.now.attributes }
-{
-    for row in facts.attributes() {
-        if row.id.number() == id.number() {
-            return Some(row);
-        }
-    }
-    None
-}
-
 /// The object whose grants count for an attribute.
 fn judged_attribute(facts: &Facts, id: AttrId) -> Object
     ensures { result ≡ judged (Attr id) facts.now }
 {
-    match attribute(facts, id) {
+    match facts.attribute(id) {
         Some(row) => Object::Def(row.definition),
         None => Object::Attr(id),
     }

@@ -1,13 +1,16 @@
 -- What fields make, by their kinds; and op by op in one line each, that a command or query of them has them again.
-use Rattle.std.proofs.Common.{◌≡◌, ℕ, List, [], ◌∷◌, map, Option, refl, ap, subst, ◌∙◌, lit≤}
+use Rattle.std.proofs.Common.{◌≡◌, ℕ, Bool, List, [], ◌∷◌, map, Option, refl, ap, subst, ◌∙◌, lit≤}
 use Rattle.reg_base.specs.declared.entity.Entity.{Entity}
 use Rattle.reg_base.specs.declared.privilege.Privilege.{Privilege}
 use Rattle.reg_terms.specs.declared.kinds.InheritKind.{InheritKind}
+use Rattle.reg_terms.specs.declared.kinds.Owners.{Owners}
+use Rattle.reg_terms.specs.declared.kinds.DefKind.{DefKind}
+use Rattle.reg_terms.specs.declared.kinds.Value.{Value as GivenValue}
 use Rattle.reg_terms.specs.declared.kinds.Scope.{Scope}
 use Rattle.reg_terms.specs.declared.kinds.SetOp.{SetOp}
 use Rattle.reg_terms.specs.declared.command.Command.{Command}
-use Rattle.reg_terms.specs.declared.command.Command.TheVariants.{FolderAdd, FolderRename, FolderMove, FolderDelete, SubjectAdd, GroupAdd, GroupRename, GroupMove, GroupDelete, MemberAdd, MemberRemove, MemberWindow, CompositeSet, CompositeClear, GrantAdd, GrantRemove, InheritAdd, InheritRemove, RuleRemoveLost, RuleEndLost, RuleVeto, RuleOnCreate, RuleDelete, ConsumerAdd, ConsumerAck}
-use Rattle.reg_terms.specs.declared.query.Query.TheVariants.{GroupGet, FolderList, Members, Rows, Groups, Grants, May, History, Log}
+use Rattle.reg_terms.specs.declared.command.Command.TheVariants.{FolderAdd, FolderRename, FolderMove, FolderDelete, SubjectAdd, GroupAdd, GroupRename, GroupMove, GroupDelete, MemberAdd, MemberRemove, MemberWindow, CompositeSet, CompositeClear, GrantAdd, GrantRemove, InheritAdd, InheritRemove, AttrdefAdd, AttrdefDelete, AttrAdd, AttrDelete, AssignAdd, AssignRemove, ValueAdd, ValueRemove, RuleRemoveLost, RuleEndLost, RuleVeto, RuleOnCreate, RuleDelete, ConsumerAdd, ConsumerAck}
+use Rattle.reg_terms.specs.declared.query.Query.TheVariants.{GroupGet, FolderList, Members, Rows, Groups, Grants, May, Attributes, History, Log}
 use Rattle.reg_terms.specs.declared.request.Op.TheVariants as asked
 use Rattle.reg_terms.specs.declared.table.CommandKind.{CommandKind}
 use Rattle.reg_terms.specs.declared.table.CommandKind.TheVariants as command
@@ -37,6 +40,10 @@ Value kind.SetOp = SetOp
 Value kind.InheritKind = InheritKind
 Value kind.Scope = Scope
 Value kind.Privilege = Privilege
+Value kind.Owners = Owners
+Value kind.Flag = Bool
+Value kind.DefKind = DefKind
+Value kind.Value = GivenValue
 Value (kind.Number least most) = ℕ
 
 -- a value as a field
@@ -52,6 +59,10 @@ as_field kind.SetOp v = field.SetOp v
 as_field kind.InheritKind v = field.InheritKind v
 as_field kind.Scope v = field.Scope v
 as_field kind.Privilege v = field.Privilege v
+as_field kind.Owners v = field.Owners v
+as_field kind.Flag v = field.Flag v
+as_field kind.DefKind v = field.DefKind v
+as_field kind.Value v = field.Value v
 as_field (kind.Number least most) v = field.Number v least most
 
 -- values of so many kinds
@@ -77,6 +88,10 @@ field_value (field.SetOp v) = (v, refl)
 field_value (field.InheritKind v) = (v, refl)
 field_value (field.Scope v) = (v, refl)
 field_value (field.Privilege v) = (v, refl)
+field_value (field.Owners v) = (v, refl)
+field_value (field.Flag v) = (v, refl)
+field_value (field.DefKind v) = (v, refl)
+field_value (field.Value v) = (v, refl)
 field_value (field.Number v least most) = (v, refl)
 
 -- fields are values of these kinds
@@ -119,6 +134,14 @@ makes command.GrantAdd v = record { command = GrantAdd _ _ _; made_so = refl; is
 makes command.GrantRemove v = record { command = GrantRemove _ _ _; made_so = refl; is_kind = refl; has_these = refl }
 makes command.InheritAdd v = record { command = InheritAdd _ _ _ _ _; made_so = refl; is_kind = refl; has_these = refl }
 makes command.InheritRemove v = record { command = InheritRemove _ _ _ _ _; made_so = refl; is_kind = refl; has_these = refl }
+makes command.AttrdefAdd v = record { command = AttrdefAdd _ _ _ _ _; made_so = refl; is_kind = refl; has_these = refl }
+makes command.AttrdefDelete v = record { command = AttrdefDelete _; made_so = refl; is_kind = refl; has_these = refl }
+makes command.AttrAdd v = record { command = AttrAdd _ _; made_so = refl; is_kind = refl; has_these = refl }
+makes command.AttrDelete v = record { command = AttrDelete _; made_so = refl; is_kind = refl; has_these = refl }
+makes command.AssignAdd v = record { command = AssignAdd _ _; made_so = refl; is_kind = refl; has_these = refl }
+makes command.AssignRemove v = record { command = AssignRemove _ _ _; made_so = refl; is_kind = refl; has_these = refl }
+makes command.ValueAdd v = record { command = ValueAdd _ _ _ _; made_so = refl; is_kind = refl; has_these = refl }
+makes command.ValueRemove v = record { command = ValueRemove _ _ _ _; made_so = refl; is_kind = refl; has_these = refl }
 makes command.RuleRemoveLost v = record { command = RuleRemoveLost _ _; made_so = refl; is_kind = refl; has_these = refl }
 makes command.RuleEndLost v = record { command = RuleEndLost _ _ _; made_so = refl; is_kind = refl; has_these = refl }
 makes command.RuleVeto v = record { command = RuleVeto _ _; made_so = refl; is_kind = refl; has_these = refl }
@@ -136,6 +159,7 @@ query_makes query.Rows v = record { op = asked.Query (Rows _); made_so = refl; i
 query_makes query.Groups v = record { op = asked.Query (Groups _ _); made_so = refl; is_kind = refl; has_these = refl }
 query_makes query.Grants v = record { op = asked.Query (Grants _ _); made_so = refl; is_kind = refl; has_these = refl }
 query_makes query.May v = record { op = asked.Query (May _ _ _); made_so = refl; is_kind = refl; has_these = refl }
+query_makes query.Attributes v = record { op = asked.Query (Attributes _ _); made_so = refl; is_kind = refl; has_these = refl }
 query_makes query.History v = record { op = asked.Query (History _); made_so = refl; is_kind = refl; has_these = refl }
 query_makes query.Log v = record { op = asked.Query (Log _ _); made_so = refl; is_kind = refl; has_these = refl }
 
@@ -159,6 +183,14 @@ command_apart (GrantAdd a b c) = record { few = lit≤ tt; kinds = refl; again =
 command_apart (GrantRemove a b c) = record { few = lit≤ tt; kinds = refl; again = refl; coded_so = refl }
 command_apart (InheritAdd a b c d e) = record { few = lit≤ tt; kinds = refl; again = refl; coded_so = refl }
 command_apart (InheritRemove a b c d e) = record { few = lit≤ tt; kinds = refl; again = refl; coded_so = refl }
+command_apart (AttrdefAdd a b c d e) = record { few = lit≤ tt; kinds = refl; again = refl; coded_so = refl }
+command_apart (AttrdefDelete a) = record { few = lit≤ tt; kinds = refl; again = refl; coded_so = refl }
+command_apart (AttrAdd a b) = record { few = lit≤ tt; kinds = refl; again = refl; coded_so = refl }
+command_apart (AttrDelete a) = record { few = lit≤ tt; kinds = refl; again = refl; coded_so = refl }
+command_apart (AssignAdd a b) = record { few = lit≤ tt; kinds = refl; again = refl; coded_so = refl }
+command_apart (AssignRemove a b c) = record { few = lit≤ tt; kinds = refl; again = refl; coded_so = refl }
+command_apart (ValueAdd a b c d) = record { few = lit≤ tt; kinds = refl; again = refl; coded_so = refl }
+command_apart (ValueRemove a b c d) = record { few = lit≤ tt; kinds = refl; again = refl; coded_so = refl }
 command_apart (RuleRemoveLost a b) = record { few = lit≤ tt; kinds = refl; again = refl; coded_so = refl }
 command_apart (RuleEndLost a b c) = record { few = lit≤ tt; kinds = refl; again = refl; coded_so = refl }
 command_apart (RuleVeto a b) = record { few = lit≤ tt; kinds = refl; again = refl; coded_so = refl }

@@ -1,11 +1,14 @@
 -- The form that each field has, and whether a command's or a query's fields have theirs.
-use Rattle.std.specs.Prelude.{ℕ, ◌==◌, ◌&&◌, ◌||◌, List, Bool, true, Option, None, Some, length, codes, nat_le, is_some, if◌then◌else◌}
+use Rattle.std.specs.Prelude.{ℕ, ◌==◌, ◌&&◌, ◌||◌, ◌^◌, ℤ, pos, negsuc, List, Bool, true, Option, None, Some, length, codes, nat_le, nat_lt, is_some, if◌then◌else◌}
 use Rattle.std.specs.List.{list_all, list_any}
 use Rattle.std.specs.Str.{bytes_eq, is_utf8}
 use Rattle.reg_base.specs.Names.{is_extension, is_name, is_person}
 use Rattle.reg_base.specs.Entities.{entity_of}
 use Rattle.reg_base.specs.declared.entity.Entity.{Entity}
 use Rattle.reg_base.specs.declared.entity.Entity.TheVariants as entity
+use Rattle.reg_terms.specs.declared.kinds.Owners.{Owners}
+use Rattle.reg_terms.specs.declared.kinds.Value.{Value}
+use Rattle.reg_terms.specs.declared.kinds.Value.TheVariants as value
 use Rattle.reg_terms.specs.declared.command.Command.{Command}
 use Rattle.reg_terms.specs.declared.query.Query.{Query}
 use Rattle.reg_terms.specs.declared.request.Op.{Op}
@@ -43,6 +46,20 @@ abbrev pub is_optional_moment : Option ℕ → Bool
 is_optional_moment None = true
 is_optional_moment (Some moment) = is_moment moment
 
+-- one kind of owner at least
+abbrev pub suits_some : Owners → Bool
+suits_some owners = owners.folder || (owners.group || owners.subject)
+
+-- a whole number from -2^63 to 2^63 - 1
+abbrev pub is_i64 : ℤ → Bool
+is_i64 (pos n) = nat_lt n (2 ^ 63)
+is_i64 (negsuc n) = nat_lt n (2 ^ 63)
+
+-- a whole number of 64 bits, or a text of at most 255 bytes
+abbrev pub is_value : Value → Bool
+is_value (value.Int n) = is_i64 n
+is_value (value.Text text) = is_display text
+
 -- what may stand in a field
 abbrev pub is_field : Field → Bool
 is_field (field.Name text) = is_name text
@@ -56,6 +73,10 @@ is_field (field.SetOp kind) = true
 is_field (field.InheritKind kind) = true
 is_field (field.Scope scope) = true
 is_field (field.Privilege privilege) = true
+is_field (field.Owners owners) = suits_some owners
+is_field (field.Flag flag) = true
+is_field (field.DefKind kind) = true
+is_field (field.Value value) = is_value value
 is_field (field.Number value least most) = nat_le least value && nat_le value most
 
 -- whether each field of a command has its form

@@ -81,3 +81,21 @@ as_group (Some (object.Group g)) = Some g
 as_group (Some (object.Def a)) = None
 as_group (Some (object.Attr a)) = None
 as_group (Some (object.Subject s)) = None
+
+-- a definition's id, if the object is one
+abbrev pub as_definition : Option Object → Option ℕ
+as_definition None = None
+as_definition (Some (object.Folder d)) = None
+as_definition (Some (object.Group g)) = None
+as_definition (Some (object.Def a)) = Some a
+as_definition (Some (object.Attr a)) = None
+as_definition (Some (object.Subject s)) = None
+
+-- an attribute's id, if the object is one
+abbrev pub as_attribute : Option Object → Option ℕ
+as_attribute None = None
+as_attribute (Some (object.Folder d)) = None
+as_attribute (Some (object.Group g)) = None
+as_attribute (Some (object.Def a)) = None
+as_attribute (Some (object.Attr a)) = Some a
+as_attribute (Some (object.Subject s)) = None

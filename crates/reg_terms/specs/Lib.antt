@@ -8,3 +8,4 @@ pub mod Forms
 pub mod Pieces
 pub mod Privileges
 pub mod Rules
+pub mod Values

@@ -1,9 +1,12 @@
 -- Fields one by one: their kinds, their values, and those of a list taken from the front.
-use Rattle.std.specs.Prelude.{◌≡◌, ℕ, List, [], ◌∷◌, Option, Some, None, option_and_then}
+use Rattle.std.specs.Prelude.{◌≡◌, ℕ, Bool, List, [], ◌∷◌, Option, Some, None, option_and_then}
 use Rattle.std.specs.List.{flat_map}
 use Rattle.reg_base.specs.declared.entity.Entity.{Entity}
 use Rattle.reg_base.specs.declared.privilege.Privilege.{Privilege}
 use Rattle.reg_terms.specs.declared.kinds.InheritKind.{InheritKind}
+use Rattle.reg_terms.specs.declared.kinds.Owners.{Owners}
+use Rattle.reg_terms.specs.declared.kinds.DefKind.{DefKind}
+use Rattle.reg_terms.specs.declared.kinds.Value.{Value}
 use Rattle.reg_terms.specs.declared.kinds.Scope.{Scope}
 use Rattle.reg_terms.specs.declared.kinds.SetOp.{SetOp}
 use Rattle.reg_terms.specs.declared.field.FieldKind.{FieldKind}
@@ -31,6 +34,10 @@ field_kind (field.SetOp v) = kind.SetOp
 field_kind (field.InheritKind v) = kind.InheritKind
 field_kind (field.Scope v) = kind.Scope
 field_kind (field.Privilege v) = kind.Privilege
+field_kind (field.Owners v) = kind.Owners
+field_kind (field.Flag v) = kind.Flag
+field_kind (field.DefKind v) = kind.DefKind
+field_kind (field.Value v) = kind.Value
 field_kind (field.Number v least most) = kind.Number least most
 
 -- the name, if the field is one
@@ -88,6 +95,26 @@ abbrev pub as_privilege : Field → Option Privilege
 as_privilege (field.Privilege v) = Some v
 as_privilege _ = None
 
+-- the kinds of owner that a definition suits, if the field is that
+abbrev pub as_owners : Field → Option Owners
+as_owners (field.Owners v) = Some v
+as_owners _ = None
+
+-- whether something holds, if the field is that
+abbrev pub as_flag : Field → Option Bool
+as_flag (field.Flag v) = Some v
+as_flag _ = None
+
+-- the kind of a definition's values, if the field is that
+abbrev pub as_def_kind : Field → Option DefKind
+as_def_kind (field.DefKind v) = Some v
+as_def_kind _ = None
+
+-- the value of an assignment, if the field is one
+abbrev pub as_value : Field → Option Value
+as_value (field.Value v) = Some v
+as_value _ = None
+
 -- the number, if the field is one
 abbrev pub as_number : Field → Option ℕ
 as_number (field.Number v least most) = Some v
@@ -107,6 +134,10 @@ seen (reference.SetOp v) = field.SetOp v ∷ []
 seen (reference.InheritKind v) = field.InheritKind v ∷ []
 seen (reference.Scope v) = field.Scope v ∷ []
 seen (reference.Privilege v) = field.Privilege v ∷ []
+seen (reference.Owners v) = field.Owners v ∷ []
+seen (reference.Flag v) = field.Flag v ∷ []
+seen (reference.DefKind v) = field.DefKind v ∷ []
+seen (reference.Value v) = field.Value v.now ∷ []
 seen (reference.Number v least most) = field.Number v least most ∷ []
 
 -- the fields that are seen
@@ -168,6 +199,22 @@ scope_in fields = next_as as_scope fields
 -- a privilege from the front
 abbrev pub privilege_in : List Field → Option (Privilege × List Field)
 privilege_in fields = next_as as_privilege fields
+
+-- the kinds of owner that a definition suits from the front
+abbrev pub owners_in : List Field → Option (Owners × List Field)
+owners_in fields = next_as as_owners fields
+
+-- whether something holds from the front
+abbrev pub flag_in : List Field → Option (Bool × List Field)
+flag_in fields = next_as as_flag fields
+
+-- the kind of a definition's values from the front
+abbrev pub def_kind_in : List Field → Option (DefKind × List Field)
+def_kind_in fields = next_as as_def_kind fields
+
+-- a value of an assignment from the front
+abbrev pub value_in : List Field → Option (Value × List Field)
+value_in fields = next_as as_value fields
 
 -- a number from the front
 abbrev pub number_in : List Field → Option (ℕ × List Field)

@@ -2,9 +2,9 @@
 use Rattle.std.specs.Prelude.{◌≡◌, ◌≤◌, ℕ, List, [], ◌∷◌, ◌==◌, if◌then◌else◌, Option, Some, None, option_map, codes, map, length}
 use Rattle.std.specs.Str.{bytes_eq}
 use Rattle.reg_terms.specs.declared.command.Command.{Command}
-use Rattle.reg_terms.specs.declared.command.Command.TheVariants.{FolderAdd, FolderRename, FolderMove, FolderDelete, SubjectAdd, GroupAdd, GroupRename, GroupMove, GroupDelete, MemberAdd, MemberRemove, MemberWindow, CompositeSet, CompositeClear, GrantAdd, GrantRemove, InheritAdd, InheritRemove, RuleRemoveLost, RuleEndLost, RuleVeto, RuleOnCreate, RuleDelete, ConsumerAdd, ConsumerAck}
+use Rattle.reg_terms.specs.declared.command.Command.TheVariants.{FolderAdd, FolderRename, FolderMove, FolderDelete, SubjectAdd, GroupAdd, GroupRename, GroupMove, GroupDelete, MemberAdd, MemberRemove, MemberWindow, CompositeSet, CompositeClear, GrantAdd, GrantRemove, InheritAdd, InheritRemove, AttrdefAdd, AttrdefDelete, AttrAdd, AttrDelete, AssignAdd, AssignRemove, ValueAdd, ValueRemove, RuleRemoveLost, RuleEndLost, RuleVeto, RuleOnCreate, RuleDelete, ConsumerAdd, ConsumerAck}
 use Rattle.reg_terms.specs.declared.query.Query.{Query}
-use Rattle.reg_terms.specs.declared.query.Query.TheVariants.{GroupGet, FolderList, Members, Rows, Groups, Grants, May, History, Log}
+use Rattle.reg_terms.specs.declared.query.Query.TheVariants.{GroupGet, FolderList, Members, Rows, Groups, Grants, May, Attributes, History, Log}
 use Rattle.reg_terms.specs.declared.request.Op.{Op}
 use Rattle.reg_terms.specs.declared.request.Op.TheVariants as asked
 use Rattle.reg_terms.specs.declared.table.CommandKind.{CommandKind}
@@ -17,7 +17,7 @@ use Rattle.reg_terms.specs.declared.field.FieldKind.{FieldKind}
 use Rattle.reg_terms.specs.declared.field.FieldKind.TheVariants as kind
 use Rattle.reg_terms.specs.declared.field.Field.{Field}
 use Rattle.reg_terms.specs.declared.field.Field.TheVariants as field
-use Rattle.reg_terms.specs.Parts.{◌>>=◌, field_kind, name_in, folder_in, extension_in, display_in, entity_in, object_in, moment_in, set_op_in, inherit_kind_in, scope_in, privilege_in, number_in, whole}
+use Rattle.reg_terms.specs.Parts.{◌>>=◌, field_kind, name_in, folder_in, extension_in, display_in, entity_in, object_in, moment_in, set_op_in, inherit_kind_in, scope_in, privilege_in, owners_in, flag_in, def_kind_in, value_in, number_in, whole}
 
 -- ---- the table
 
@@ -51,6 +51,14 @@ command_row command.GrantAdd = record { code = 15; op = record { word = codes "g
 command_row command.GrantRemove = record { code = 16; op = record { word = codes "grant.remove"; fields = (codes "object", kind.Object) ∷ (codes "privilege", kind.Privilege) ∷ (codes "holder", kind.Entity) ∷ [] } }
 command_row command.InheritAdd = record { code = 17; op = record { word = codes "inherit.add"; fields = (codes "folder", kind.Folder) ∷ (codes "kind", kind.InheritKind) ∷ (codes "scope", kind.Scope) ∷ (codes "privilege", kind.Privilege) ∷ (codes "holder", kind.Entity) ∷ [] } }
 command_row command.InheritRemove = record { code = 18; op = record { word = codes "inherit.remove"; fields = (codes "folder", kind.Folder) ∷ (codes "kind", kind.InheritKind) ∷ (codes "scope", kind.Scope) ∷ (codes "privilege", kind.Privilege) ∷ (codes "holder", kind.Entity) ∷ [] } }
+command_row command.AttrdefAdd = record { code = 19; op = record { word = codes "attrdef.add"; fields = (codes "definition", kind.Name) ∷ (codes "owners", kind.Owners) ∷ (codes "several", kind.Flag) ∷ (codes "kind", kind.DefKind) ∷ (codes "many", kind.Flag) ∷ [] } }
+command_row command.AttrdefDelete = record { code = 20; op = record { word = codes "attrdef.delete"; fields = (codes "definition", kind.Name) ∷ [] } }
+command_row command.AttrAdd = record { code = 21; op = record { word = codes "attr.add"; fields = (codes "attribute", kind.Name) ∷ (codes "definition", kind.Name) ∷ [] } }
+command_row command.AttrDelete = record { code = 22; op = record { word = codes "attr.delete"; fields = (codes "attribute", kind.Name) ∷ [] } }
+command_row command.AssignAdd = record { code = 23; op = record { word = codes "assign.add"; fields = (codes "attribute", kind.Name) ∷ (codes "object", kind.Object) ∷ [] } }
+command_row command.AssignRemove = record { code = 24; op = record { word = codes "assign.remove"; fields = (codes "attribute", kind.Name) ∷ (codes "object", kind.Object) ∷ (codes "id", kind.Number 0 18446744073709551615) ∷ [] } }
+command_row command.ValueAdd = record { code = 25; op = record { word = codes "value.add"; fields = (codes "attribute", kind.Name) ∷ (codes "object", kind.Object) ∷ (codes "id", kind.Number 0 18446744073709551615) ∷ (codes "value", kind.Value) ∷ [] } }
+command_row command.ValueRemove = record { code = 26; op = record { word = codes "value.remove"; fields = (codes "attribute", kind.Name) ∷ (codes "object", kind.Object) ∷ (codes "id", kind.Number 0 18446744073709551615) ∷ (codes "value", kind.Value) ∷ [] } }
 command_row command.RuleRemoveLost = record { code = 27; op = record { word = codes "rule.remove_lost"; fields = (codes "check", kind.Name) ∷ (codes "owner", kind.Name) ∷ [] } }
 command_row command.RuleEndLost = record { code = 28; op = record { word = codes "rule.end_lost"; fields = (codes "check", kind.Name) ∷ (codes "owner", kind.Name) ∷ (codes "days", kind.Number 1 3650) ∷ [] } }
 command_row command.RuleVeto = record { code = 29; op = record { word = codes "rule.veto"; fields = (codes "owner", kind.Name) ∷ (codes "condition", kind.Name) ∷ [] } }
@@ -68,6 +76,7 @@ query_row query.Rows = record { word = codes "rows"; fields = (codes "group", ki
 query_row query.Groups = record { word = codes "groups"; fields = (codes "subject", kind.Entity) ∷ (codes "at", kind.OptionalMoment) ∷ [] }
 query_row query.Grants = record { word = codes "grants"; fields = (codes "object", kind.Object) ∷ (codes "at", kind.OptionalMoment) ∷ [] }
 query_row query.May = record { word = codes "may"; fields = (codes "object", kind.Object) ∷ (codes "entity", kind.Entity) ∷ (codes "at", kind.OptionalMoment) ∷ [] }
+query_row query.Attributes = record { word = codes "attributes"; fields = (codes "object", kind.Object) ∷ (codes "at", kind.OptionalMoment) ∷ [] }
 query_row query.History = record { word = codes "history"; fields = (codes "group", kind.Name) ∷ [] }
 query_row query.Log = record { word = codes "log"; fields = (codes "consumer", kind.Extension) ∷ (codes "max", kind.Number 1 1000) ∷ [] }
 
@@ -78,11 +87,11 @@ row_of (op.Query k) = query_row k
 
 -- every command
 abbrev pub commands : List CommandKind
-commands = command.FolderAdd ∷ command.FolderRename ∷ command.FolderMove ∷ command.FolderDelete ∷ command.SubjectAdd ∷ command.GroupAdd ∷ command.GroupRename ∷ command.GroupMove ∷ command.GroupDelete ∷ command.MemberAdd ∷ command.MemberRemove ∷ command.MemberWindow ∷ command.CompositeSet ∷ command.CompositeClear ∷ command.GrantAdd ∷ command.GrantRemove ∷ command.InheritAdd ∷ command.InheritRemove ∷ command.RuleRemoveLost ∷ command.RuleEndLost ∷ command.RuleVeto ∷ command.RuleOnCreate ∷ command.RuleDelete ∷ command.ConsumerAdd ∷ command.ConsumerAck ∷ []
+commands = command.FolderAdd ∷ command.FolderRename ∷ command.FolderMove ∷ command.FolderDelete ∷ command.SubjectAdd ∷ command.GroupAdd ∷ command.GroupRename ∷ command.GroupMove ∷ command.GroupDelete ∷ command.MemberAdd ∷ command.MemberRemove ∷ command.MemberWindow ∷ command.CompositeSet ∷ command.CompositeClear ∷ command.GrantAdd ∷ command.GrantRemove ∷ command.InheritAdd ∷ command.InheritRemove ∷ command.AttrdefAdd ∷ command.AttrdefDelete ∷ command.AttrAdd ∷ command.AttrDelete ∷ command.AssignAdd ∷ command.AssignRemove ∷ command.ValueAdd ∷ command.ValueRemove ∷ command.RuleRemoveLost ∷ command.RuleEndLost ∷ command.RuleVeto ∷ command.RuleOnCreate ∷ command.RuleDelete ∷ command.ConsumerAdd ∷ command.ConsumerAck ∷ []
 
 -- every query
 abbrev pub queries : List QueryKind
-queries = query.GroupGet ∷ query.FolderList ∷ query.Members ∷ query.Rows ∷ query.Groups ∷ query.Grants ∷ query.May ∷ query.History ∷ query.Log ∷ []
+queries = query.GroupGet ∷ query.FolderList ∷ query.Members ∷ query.Rows ∷ query.Groups ∷ query.Grants ∷ query.May ∷ query.Attributes ∷ query.History ∷ query.Log ∷ []
 
 -- the kinds of a row's fields
 abbrev pub field_kinds : Row → List FieldKind
@@ -132,6 +141,14 @@ apart (GrantAdd object privilege holder) = (command.GrantAdd, field.Object objec
 apart (GrantRemove object privilege holder) = (command.GrantRemove, field.Object object ∷ field.Privilege privilege ∷ field.Entity holder ∷ [])
 apart (InheritAdd folder kind scope privilege holder) = (command.InheritAdd, field.Folder folder ∷ field.InheritKind kind ∷ field.Scope scope ∷ field.Privilege privilege ∷ field.Entity holder ∷ [])
 apart (InheritRemove folder kind scope privilege holder) = (command.InheritRemove, field.Folder folder ∷ field.InheritKind kind ∷ field.Scope scope ∷ field.Privilege privilege ∷ field.Entity holder ∷ [])
+apart (AttrdefAdd definition owners several kind many) = (command.AttrdefAdd, field.Name definition ∷ field.Owners owners ∷ field.Flag several ∷ field.DefKind kind ∷ field.Flag many ∷ [])
+apart (AttrdefDelete definition) = (command.AttrdefDelete, field.Name definition ∷ [])
+apart (AttrAdd attribute definition) = (command.AttrAdd, field.Name attribute ∷ field.Name definition ∷ [])
+apart (AttrDelete attribute) = (command.AttrDelete, field.Name attribute ∷ [])
+apart (AssignAdd attribute object) = (command.AssignAdd, field.Name attribute ∷ field.Object object ∷ [])
+apart (AssignRemove attribute object id) = (command.AssignRemove, field.Name attribute ∷ field.Object object ∷ field.Number id 0 18446744073709551615 ∷ [])
+apart (ValueAdd attribute object id value) = (command.ValueAdd, field.Name attribute ∷ field.Object object ∷ field.Number id 0 18446744073709551615 ∷ field.Value value ∷ [])
+apart (ValueRemove attribute object id value) = (command.ValueRemove, field.Name attribute ∷ field.Object object ∷ field.Number id 0 18446744073709551615 ∷ field.Value value ∷ [])
 apart (RuleRemoveLost check owner) = (command.RuleRemoveLost, field.Name check ∷ field.Name owner ∷ [])
 apart (RuleEndLost check owner days) = (command.RuleEndLost, field.Name check ∷ field.Name owner ∷ field.Number days 1 3650 ∷ [])
 apart (RuleVeto owner condition) = (command.RuleVeto, field.Name owner ∷ field.Name condition ∷ [])
@@ -149,6 +166,7 @@ query_apart (Rows group) = (query.Rows, field.Name group ∷ [])
 query_apart (Groups subject at) = (query.Groups, field.Entity subject ∷ field.OptionalMoment at ∷ [])
 query_apart (Grants object at) = (query.Grants, field.Object object ∷ field.OptionalMoment at ∷ [])
 query_apart (May object entity at) = (query.May, field.Object object ∷ field.Entity entity ∷ field.OptionalMoment at ∷ [])
+query_apart (Attributes object at) = (query.Attributes, field.Object object ∷ field.OptionalMoment at ∷ [])
 query_apart (History group) = (query.History, field.Name group ∷ [])
 query_apart (Log consumer max) = (query.Log, field.Extension consumer ∷ field.Number max 1 1000 ∷ [])
 
@@ -261,6 +279,44 @@ made_command command.InheritRemove fields = do
   privilege ← privilege_in scope.1
   holder ← entity_in privilege.1
   whole (InheritRemove folder.0 kind.0 scope.0 privilege.0 holder.0) holder.1
+made_command command.AttrdefAdd fields = do
+  definition ← name_in fields
+  owners ← owners_in definition.1
+  several ← flag_in owners.1
+  kind ← def_kind_in several.1
+  many ← flag_in kind.1
+  whole (AttrdefAdd definition.0 owners.0 several.0 kind.0 many.0) many.1
+made_command command.AttrdefDelete fields = do
+  definition ← name_in fields
+  whole (AttrdefDelete definition.0) definition.1
+made_command command.AttrAdd fields = do
+  attribute ← name_in fields
+  definition ← name_in attribute.1
+  whole (AttrAdd attribute.0 definition.0) definition.1
+made_command command.AttrDelete fields = do
+  attribute ← name_in fields
+  whole (AttrDelete attribute.0) attribute.1
+made_command command.AssignAdd fields = do
+  attribute ← name_in fields
+  object ← object_in attribute.1
+  whole (AssignAdd attribute.0 object.0) object.1
+made_command command.AssignRemove fields = do
+  attribute ← name_in fields
+  object ← object_in attribute.1
+  id ← number_in object.1
+  whole (AssignRemove attribute.0 object.0 id.0) id.1
+made_command command.ValueAdd fields = do
+  attribute ← name_in fields
+  object ← object_in attribute.1
+  id ← number_in object.1
+  value ← value_in id.1
+  whole (ValueAdd attribute.0 object.0 id.0 value.0) value.1
+made_command command.ValueRemove fields = do
+  attribute ← name_in fields
+  object ← object_in attribute.1
+  id ← number_in object.1
+  value ← value_in id.1
+  whole (ValueRemove attribute.0 object.0 id.0 value.0) value.1
 made_command command.RuleRemoveLost fields = do
   check ← name_in fields
   owner ← name_in check.1
@@ -319,6 +375,10 @@ made_query query.May fields = do
   entity ← entity_in object.1
   at ← moment_in entity.1
   whole (May object.0 entity.0 at.0) at.1
+made_query query.Attributes fields = do
+  object ← object_in fields
+  at ← moment_in object.1
+  whole (Attributes object.0 at.0) at.1
 made_query query.History fields = do
   group ← name_in fields
   whole (History group.0) group.1

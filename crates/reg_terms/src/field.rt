@@ -1,8 +1,8 @@
 // A field of a command or a query, and the kinds of fields.
 ghost use Rattle.std.specs.Prelude.{◌≡◌};
-ghost use Rattle.reg_terms.specs.Parts.{as_name, as_folder, as_extension, as_display, as_entity, as_object, as_moment, as_set_op, as_inherit_kind, as_scope, as_privilege, as_number};
+ghost use Rattle.reg_terms.specs.Parts.{as_name, as_folder, as_extension, as_display, as_entity, as_object, as_moment, as_set_op, as_inherit_kind, as_scope, as_privilege, as_owners, as_flag, as_def_kind, as_value, as_number};
 
-use crate::{InheritKind, Scope, SetOp};
+use crate::{DefKind, InheritKind, Owners, Scope, SetOp, Value};
 use reg_base::{Entity, Moment, Name, Privilege, Text};
 
 /// A kind of field: which values may stand in it, and how they are written (`docs/REQUESTS.md`,
@@ -31,6 +31,14 @@ pub enum FieldKind {
     Scope,
     /// A privilege by its name.
     Privilege,
+    /// The kinds of owner that a definition suits, one at least.
+    Owners,
+    /// Whether something holds.
+    Flag,
+    /// The kind of values that attributes of a definition take.
+    DefKind,
+    /// A value of an assignment.
+    Value,
     /// A whole number from `least` to `most`.
     Number { least: u64, most: u64 },
 }
@@ -49,6 +57,10 @@ pub enum Field {
     InheritKind(InheritKind),
     Scope(Scope),
     Privilege(Privilege),
+    Owners(Owners),
+    Flag(bool),
+    DefKind(DefKind),
+    Value(Value),
     /// A number, and the least and the greatest that may stand here.
     Number { value: u64, least: u64, most: u64 },
 }
@@ -160,6 +172,46 @@ impl Field {
     {
         match self {
             Field::Privilege(privilege) => Some(*privilege),
+            _ => None,
+        }
+    }
+
+    /// The kinds of owner that a definition suits, if it is that.
+    pub fn owners(&self) -> Option<Owners>
+        ensures { result ≡ as_owners self.now }
+    {
+        match self {
+            Field::Owners(owners) => Some(*owners),
+            _ => None,
+        }
+    }
+
+    /// Whether something holds, if it is that.
+    pub fn flag(&self) -> Option<bool>
+        ensures { result ≡ as_flag self.now }
+    {
+        match self {
+            Field::Flag(flag) => Some(*flag),
+            _ => None,
+        }
+    }
+
+    /// The kind of values that attributes of a definition take, if it is that.
+    pub fn def_kind(&self) -> Option<DefKind>
+        ensures { result ≡ as_def_kind self.now }
+    {
+        match self {
+            Field::DefKind(kind) => Some(*kind),
+            _ => None,
+        }
+    }
+
+    /// The value of an assignment, if it is one.
+    pub fn value(self) -> Option<Value>
+        ensures { result ≡ as_value self }
+    {
+        match self {
+            Field::Value(value) => Some(value),
             _ => None,
         }
     }

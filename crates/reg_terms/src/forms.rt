@@ -2,12 +2,12 @@
 ghost use Rattle.std.specs.Prelude.{◌≡◌, ◌≤◌, is_some, length};
 ghost use Rattle.std.specs.List.{list_all};
 ghost use Rattle.reg_base.specs.Entities.{entity_of, group_entity, person_entity};
-ghost use Rattle.reg_terms.specs.Forms.{is_folder_text, is_display, is_entity, is_object_text, is_optional_moment, is_field, has_form};
+ghost use Rattle.reg_terms.specs.Forms.{is_folder_text, is_display, is_entity, is_object_text, is_optional_moment, is_i64, is_value, suits_some, is_field, has_form};
 ghost use Rattle.reg_terms.specs.Parts.{seen, seen_all};
 
-use crate::Command;
 use crate::limits::MAX_DISPLAY;
 use crate::parts::{FieldRef, fields_of};
+use crate::{Command, Owners, Value};
 use reg_base::{Entity, Moment, Text, is_extension, is_name, is_person};
 
 /// Whether the text is the name of a folder, or `:` for the root.
@@ -81,6 +81,29 @@ fn is_optional_moment(moment: Option<Moment>) -> bool
     moment.is_none_or(|moment| Moment::new(moment.micros()).is_some())
 }
 
+fn suits_some(owners: Owners) -> bool
+    ensures { result ≡ suits_some owners }
+{
+    owners.folder || owners.group || owners.subject
+}
+
+/// Any `i64` is a whole number of 64 bits.
+fn is_i64(number: i64) -> bool
+    ensures { result ≡ is_i64 number }
+{
+    let _any = number;
+    true
+}
+
+fn is_value(value: &Value) -> bool
+    ensures { result ≡ is_value value.now }
+{
+    match value {
+        Value::Int(number) => is_i64(*number),
+        Value::Text(text) => is_display(text),
+    }
+}
+
 fn is_field(field: &FieldRef<'_>) -> bool
     ensures { result ≡ list_all is_field (seen field.now) }
 {
@@ -89,7 +112,9 @@ fn is_field(field: &FieldRef<'_>) -> bool
         | FieldRef::SetOp(_)
         | FieldRef::InheritKind(_)
         | FieldRef::Scope(_)
-        | FieldRef::Privilege(_) => true,
+        | FieldRef::Privilege(_)
+        | FieldRef::Flag(_)
+        | FieldRef::DefKind(_) => true,
         FieldRef::Name(name) => is_name(name.bytes()),
         FieldRef::Folder(text) => is_folder_text(text.bytes()),
         FieldRef::Extension(text) => is_extension(text.bytes()),
@@ -97,6 +122,8 @@ fn is_field(field: &FieldRef<'_>) -> bool
         FieldRef::Entity(entity) => is_entity(entity),
         FieldRef::Object(text) => is_object_text(text.bytes()),
         FieldRef::OptionalMoment(moment) => is_optional_moment(*moment),
+        FieldRef::Owners(owners) => suits_some(*owners),
+        FieldRef::Value(value) => is_value(value),
         FieldRef::Number { value, least, most } => *least <= *value && *value <= *most,
     }
 }

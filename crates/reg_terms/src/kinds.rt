@@ -1,6 +1,6 @@
 // What rows speak of.
 ghost use Rattle.std.specs.Prelude.{◌≡◌};
-ghost use Rattle.reg_terms.specs.Kinds.{same_member, same_object, same_holder, same_scope, same_kind, is_of_kind, member_group, holder_group, as_folder, as_group};
+ghost use Rattle.reg_terms.specs.Kinds.{same_member, same_object, same_holder, same_scope, same_kind, is_of_kind, member_group, holder_group, as_folder, as_group, as_definition, as_attribute};
 
 use reg_base::{AttrDefId, AttrId, FolderId, GroupId, Moment, SubjectId, Text};
 
@@ -32,6 +32,26 @@ impl Object {
         match self {
             Object::Group(id) => Some(*id),
             Object::Folder(_) | Object::Def(_) | Object::Attr(_) | Object::Subject(_) => None,
+        }
+    }
+
+    /// The definition's id, if it is one.
+    pub fn definition(&self) -> Option<AttrDefId>
+        ensures { result ≡ as_definition (Some self.now) }
+    {
+        match self {
+            Object::Def(id) => Some(*id),
+            Object::Folder(_) | Object::Group(_) | Object::Attr(_) | Object::Subject(_) => None,
+        }
+    }
+
+    /// The attribute's id, if it is one.
+    pub fn attribute(&self) -> Option<AttrId>
+        ensures { result ≡ as_attribute (Some self.now) }
+    {
+        match self {
+            Object::Attr(id) => Some(*id),
+            Object::Folder(_) | Object::Group(_) | Object::Def(_) | Object::Subject(_) => None,
         }
     }
 
@@ -192,6 +212,13 @@ pub enum AttrValue {
     Int(i64),
     Text(Text),
     Moment(Moment),
+}
+
+/// A value as a request gives it.
+#[derive(Debug, Drop)]
+pub enum Value {
+    Int(i64),
+    Text(Text),
 }
 
 /// What a rule does (`docs/REGISTRY.md`).

@@ -25,6 +25,7 @@ mod rules;
 mod shown;
 mod table;
 mod texts;
+mod values;
 
 pub use attr_values::AttrValues;
 pub use changes_shown::{EntriesShown, EntryShown, SpanShown, SpansShown};
@@ -34,12 +35,13 @@ pub use event::Event;
 pub use field::{Field, FieldKind};
 pub use forms::{has_form, is_folder_text, is_object_text};
 pub use kinds::{
-    AttrValue, DefKind, Holder, InheritKind, Member, Object, Owners, RuleForm, Scope, SetOp,
+    AttrValue, DefKind, Holder, InheritKind, Member, Object, Owners, RuleForm, Scope, SetOp, Value,
 };
 pub use laws::{law_commands, law_ops};
 pub use limits::{
-    MAX_CONSUMERS, MAX_DISPLAY, MAX_FOLDERS, MAX_GRANTS, MAX_GROUPS, MAX_HISTORY, MAX_INHERITS,
-    MAX_LINE, MAX_NAME, MAX_ROWS, MAX_RULES, MAX_SUBJECTS,
+    MAX_ASSIGNS, MAX_ATTRIBUTES, MAX_CONSUMERS, MAX_DEFINITIONS, MAX_DISPLAY, MAX_FOLDERS,
+    MAX_GRANTS, MAX_GROUPS, MAX_HISTORY, MAX_INHERITS, MAX_LINE, MAX_NAME, MAX_ROWS, MAX_RULES,
+    MAX_SUBJECTS, MAX_VALUES,
 };
 pub use making::{made, made_command};
 pub use parts::{FieldRef, fields_of, kind_of};
@@ -56,7 +58,10 @@ pub use rows::{
     GroupRow, InheritRow, JobRow, Made, MemberRow, RuleRow, SubjectRow,
 };
 pub use rules::RuleKey;
-pub use shown::{FactorsShown, GrantShown, GrantsShown, Privileges, RowShown, RowsShown};
+pub use shown::{
+    AssignShown, AssignsShown, FactorsShown, GrantShown, GrantsShown, Privileges, RowShown,
+    RowsShown,
+};
 pub use table::{
     CommandKind, CommandRow, OpKind, QueryKind, Row, command_coded, command_row, kind_named,
     query_row, row_of,

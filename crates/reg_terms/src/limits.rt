@@ -18,6 +18,18 @@ pub const MAX_GRANTS: usize = 500_000;
 /// Inherits that may stand.
 pub const MAX_INHERITS: usize = 500_000;
 
+/// Definitions of attributes that may ever be made.
+pub const MAX_DEFINITIONS: u32 = 10_000;
+
+/// Attributes that may ever be made.
+pub const MAX_ATTRIBUTES: u32 = 10_000;
+
+/// Assignments of attributes that may ever be made.
+pub const MAX_ASSIGNS: u32 = 500_000;
+
+/// Values of assignments that may stand.
+pub const MAX_VALUES: usize = 500_000;
+
 /// Rules that may ever be made.
 pub const MAX_RULES: u32 = 10_000;
 

@@ -1,13 +1,13 @@
 // Commands and queries made of fields.
 ghost use Rattle.std.specs.Prelude.{◌≡◌};
-ghost use Rattle.reg_terms.specs.Parts.{Took, name_in, folder_in, extension_in, display_in, entity_in, object_in, moment_in, set_op_in, inherit_kind_in, scope_in, privilege_in, number_in, whole};
+ghost use Rattle.reg_terms.specs.Parts.{Took, name_in, folder_in, extension_in, display_in, entity_in, object_in, moment_in, set_op_in, inherit_kind_in, scope_in, privilege_in, owners_in, flag_in, def_kind_in, value_in, number_in, whole};
 ghost use Rattle.reg_terms.specs.Table.{made_command, made_query, made};
 ghost use Rattle.reg_terms.specs.declared.table.CommandKind.TheVariants as command;
 ghost use Rattle.reg_terms.specs.declared.table.QueryKind.TheVariants as query;
 
 use crate::field::Field;
 use crate::table::{CommandKind, OpKind, QueryKind};
-use crate::{Command, InheritKind, Op, Query, Scope, SetOp};
+use crate::{Command, DefKind, InheritKind, Op, Owners, Query, Scope, SetOp, Value};
 use reg_base::{Entity, Moment, Name, Privilege, Text};
 use std::collections::VecDeque;
 
@@ -91,6 +91,37 @@ fn privilege(fields: &mut VecDeque<Field>) -> Option<Privilege>
 {
     let field = fields.pop_front()?;
     field.privilege()
+}
+
+#[tactic(auto, unfolding(crate::specs::Parts::next_as))]
+fn owners(fields: &mut VecDeque<Field>) -> Option<Owners>
+    ensures { Took result fields.new.items (owners_in fields.old.items) }
+{
+    let field = fields.pop_front()?;
+    field.owners()
+}
+
+#[tactic(auto, unfolding(crate::specs::Parts::next_as))]
+fn flag(fields: &mut VecDeque<Field>) -> Option<bool>
+    ensures { Took result fields.new.items (flag_in fields.old.items) }
+{
+    let field = fields.pop_front()?;
+    field.flag()
+}
+
+#[tactic(auto, unfolding(crate::specs::Parts::next_as))]
+fn def_kind(fields: &mut VecDeque<Field>) -> Option<DefKind>
+    ensures { Took result fields.new.items (def_kind_in fields.old.items) }
+{
+    let field = fields.pop_front()?;
+    field.def_kind()
+}
+
+#[tactic(auto, unfolding(crate::specs::Parts::next_as))]
+fn value(fields: &mut VecDeque<Field>) -> Option<Value>
+    ensures { Took result fields.new.items (value_in fields.old.items) }
+{
+    fields.pop_front()?.value()
 }
 
 #[tactic(auto, unfolding(crate::specs::Parts::next_as))]
@@ -298,6 +329,92 @@ fn inherit_remove(mut fields: VecDeque<Field>) -> Option<Command>
     whole(command, fields)
 }
 
+fn attrdef_add(mut fields: VecDeque<Field>) -> Option<Command>
+    ensures { result ≡ made_command command.AttrdefAdd fields.items }
+{
+    let command = Command::AttrdefAdd {
+        definition: name(&mut fields)?,
+        owners: owners(&mut fields)?,
+        several: flag(&mut fields)?,
+        kind: def_kind(&mut fields)?,
+        many: flag(&mut fields)?,
+    };
+    whole(command, fields)
+}
+
+fn attrdef_delete(mut fields: VecDeque<Field>) -> Option<Command>
+    ensures { result ≡ made_command command.AttrdefDelete fields.items }
+{
+    let command = Command::AttrdefDelete {
+        definition: name(&mut fields)?,
+    };
+    whole(command, fields)
+}
+
+fn attr_add(mut fields: VecDeque<Field>) -> Option<Command>
+    ensures { result ≡ made_command command.AttrAdd fields.items }
+{
+    let command = Command::AttrAdd {
+        attribute: name(&mut fields)?,
+        definition: name(&mut fields)?,
+    };
+    whole(command, fields)
+}
+
+fn attr_delete(mut fields: VecDeque<Field>) -> Option<Command>
+    ensures { result ≡ made_command command.AttrDelete fields.items }
+{
+    let command = Command::AttrDelete {
+        attribute: name(&mut fields)?,
+    };
+    whole(command, fields)
+}
+
+fn assign_add(mut fields: VecDeque<Field>) -> Option<Command>
+    ensures { result ≡ made_command command.AssignAdd fields.items }
+{
+    let command = Command::AssignAdd {
+        attribute: name(&mut fields)?,
+        object: object(&mut fields)?,
+    };
+    whole(command, fields)
+}
+
+fn assign_remove(mut fields: VecDeque<Field>) -> Option<Command>
+    ensures { result ≡ made_command command.AssignRemove fields.items }
+{
+    let command = Command::AssignRemove {
+        attribute: name(&mut fields)?,
+        object: object(&mut fields)?,
+        id: number(&mut fields)?,
+    };
+    whole(command, fields)
+}
+
+fn value_add(mut fields: VecDeque<Field>) -> Option<Command>
+    ensures { result ≡ made_command command.ValueAdd fields.items }
+{
+    let command = Command::ValueAdd {
+        attribute: name(&mut fields)?,
+        object: object(&mut fields)?,
+        id: number(&mut fields)?,
+        value: value(&mut fields)?,
+    };
+    whole(command, fields)
+}
+
+fn value_remove(mut fields: VecDeque<Field>) -> Option<Command>
+    ensures { result ≡ made_command command.ValueRemove fields.items }
+{
+    let command = Command::ValueRemove {
+        attribute: name(&mut fields)?,
+        object: object(&mut fields)?,
+        id: number(&mut fields)?,
+        value: value(&mut fields)?,
+    };
+    whole(command, fields)
+}
+
 fn rule_remove_lost(mut fields: VecDeque<Field>) -> Option<Command>
     ensures { result ≡ made_command command.RuleRemoveLost fields.items }
 {
@@ -437,6 +554,16 @@ fn may(mut fields: VecDeque<Field>) -> Option<Query>
     whole(query, fields)
 }
 
+fn attributes(mut fields: VecDeque<Field>) -> Option<Query>
+    ensures { result ≡ made_query query.Attributes fields.items }
+{
+    let query = Query::Attributes {
+        object: object(&mut fields)?,
+        at: moment(&mut fields)?,
+    };
+    whole(query, fields)
+}
+
 fn history(mut fields: VecDeque<Field>) -> Option<Query>
     ensures { result ≡ made_query query.History fields.items }
 {
@@ -479,6 +606,14 @@ pub fn made_command(kind: CommandKind, fields: VecDeque<Field>) -> Option<Comman
         CommandKind::GrantRemove => grant_remove(fields),
         CommandKind::InheritAdd => inherit_add(fields),
         CommandKind::InheritRemove => inherit_remove(fields),
+        CommandKind::AttrdefAdd => attrdef_add(fields),
+        CommandKind::AttrdefDelete => attrdef_delete(fields),
+        CommandKind::AttrAdd => attr_add(fields),
+        CommandKind::AttrDelete => attr_delete(fields),
+        CommandKind::AssignAdd => assign_add(fields),
+        CommandKind::AssignRemove => assign_remove(fields),
+        CommandKind::ValueAdd => value_add(fields),
+        CommandKind::ValueRemove => value_remove(fields),
         CommandKind::RuleRemoveLost => rule_remove_lost(fields),
         CommandKind::RuleEndLost => rule_end_lost(fields),
         CommandKind::RuleVeto => rule_veto(fields),
@@ -500,6 +635,7 @@ fn made_query(kind: QueryKind, fields: VecDeque<Field>) -> Option<Query>
         QueryKind::Groups => groups(fields),
         QueryKind::Grants => grants(fields),
         QueryKind::May => may(fields),
+        QueryKind::Attributes => attributes(fields),
         QueryKind::History => history(fields),
         QueryKind::Log => log(fields),
     }

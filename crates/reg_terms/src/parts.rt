@@ -4,7 +4,7 @@ ghost use Rattle.reg_terms.specs.Parts.{seen_all};
 ghost use Rattle.reg_terms.specs.Table.{kind_of, fields_of};
 
 use crate::table::CommandKind;
-use crate::{Command, InheritKind, Scope, SetOp};
+use crate::{Command, DefKind, InheritKind, Owners, Scope, SetOp, Value};
 use reg_base::{Entity, Moment, Name, Privilege, Text};
 
 /// A field that stands in a command, or none.
@@ -22,6 +22,10 @@ pub enum FieldRef<'a> {
     InheritKind(InheritKind),
     Scope(Scope),
     Privilege(Privilege),
+    Owners(Owners),
+    Flag(bool),
+    DefKind(DefKind),
+    Value(&'a Value),
     Number { value: u64, least: u64, most: u64 },
 }
 
@@ -48,6 +52,14 @@ pub fn kind_of(command: &Command) -> CommandKind
         Command::GrantRemove { .. } => CommandKind::GrantRemove,
         Command::InheritAdd { .. } => CommandKind::InheritAdd,
         Command::InheritRemove { .. } => CommandKind::InheritRemove,
+        Command::AttrdefAdd { .. } => CommandKind::AttrdefAdd,
+        Command::AttrdefDelete { .. } => CommandKind::AttrdefDelete,
+        Command::AttrAdd { .. } => CommandKind::AttrAdd,
+        Command::AttrDelete { .. } => CommandKind::AttrDelete,
+        Command::AssignAdd { .. } => CommandKind::AssignAdd,
+        Command::AssignRemove { .. } => CommandKind::AssignRemove,
+        Command::ValueAdd { .. } => CommandKind::ValueAdd,
+        Command::ValueRemove { .. } => CommandKind::ValueRemove,
         Command::RuleRemoveLost { .. } => CommandKind::RuleRemoveLost,
         Command::RuleEndLost { .. } => CommandKind::RuleEndLost,
         Command::RuleVeto { .. } => CommandKind::RuleVeto,
@@ -240,6 +252,105 @@ pub fn fields_of<'a>(command: &'a Command) -> [FieldRef<'a>; 6]
             FieldRef::Scope(*scope),
             FieldRef::Privilege(*privilege),
             FieldRef::Entity(holder),
+            FieldRef::Nothing,
+        ],
+        Command::AttrdefAdd {
+            definition,
+            owners,
+            several,
+            kind,
+            many,
+        } => [
+            FieldRef::Name(definition),
+            FieldRef::Owners(*owners),
+            FieldRef::Flag(*several),
+            FieldRef::DefKind(*kind),
+            FieldRef::Flag(*many),
+            FieldRef::Nothing,
+        ],
+        Command::AttrdefDelete { definition } => [
+            FieldRef::Name(definition),
+            FieldRef::Nothing,
+            FieldRef::Nothing,
+            FieldRef::Nothing,
+            FieldRef::Nothing,
+            FieldRef::Nothing,
+        ],
+        Command::AttrAdd {
+            attribute,
+            definition,
+        } => [
+            FieldRef::Name(attribute),
+            FieldRef::Name(definition),
+            FieldRef::Nothing,
+            FieldRef::Nothing,
+            FieldRef::Nothing,
+            FieldRef::Nothing,
+        ],
+        Command::AttrDelete { attribute } => [
+            FieldRef::Name(attribute),
+            FieldRef::Nothing,
+            FieldRef::Nothing,
+            FieldRef::Nothing,
+            FieldRef::Nothing,
+            FieldRef::Nothing,
+        ],
+        Command::AssignAdd { attribute, object } => [
+            FieldRef::Name(attribute),
+            FieldRef::Object(object),
+            FieldRef::Nothing,
+            FieldRef::Nothing,
+            FieldRef::Nothing,
+            FieldRef::Nothing,
+        ],
+        Command::AssignRemove {
+            attribute,
+            object,
+            id,
+        } => [
+            FieldRef::Name(attribute),
+            FieldRef::Object(object),
+            FieldRef::Number {
+                value: *id,
+                least: 0,
+                most: u64::MAX,
+            },
+            FieldRef::Nothing,
+            FieldRef::Nothing,
+            FieldRef::Nothing,
+        ],
+        Command::ValueAdd {
+            attribute,
+            object,
+            id,
+            value,
+        } => [
+            FieldRef::Name(attribute),
+            FieldRef::Object(object),
+            FieldRef::Number {
+                value: *id,
+                least: 0,
+                most: u64::MAX,
+            },
+            FieldRef::Value(value),
+            FieldRef::Nothing,
+            FieldRef::Nothing,
+        ],
+        Command::ValueRemove {
+            attribute,
+            object,
+            id,
+            value,
+        } => [
+            FieldRef::Name(attribute),
+            FieldRef::Object(object),
+            FieldRef::Number {
+                value: *id,
+                least: 0,
+                most: u64::MAX,
+            },
+            FieldRef::Value(value),
+            FieldRef::Nothing,
             FieldRef::Nothing,
         ],
         Command::RuleRemoveLost { check, owner } => [

@@ -1,5 +1,7 @@
 // Queries and their answers.
-use crate::{EntriesShown, FactorsShown, GrantsShown, Privileges, RowsShown, SpansShown, Texts};
+use crate::{
+    AssignsShown, EntriesShown, FactorsShown, GrantsShown, Privileges, RowsShown, SpansShown, Texts,
+};
 use reg_base::{Entity, Moment, Name, Text};
 
 /// A question that changes nothing (`docs/REQUESTS.md`). A folder is named by its name, or `:` for the root.
@@ -37,6 +39,11 @@ pub enum Query {
     May {
         object: Text,
         entity: Entity,
+        at: Option<Moment>,
+    },
+    /// The attributes that are assigned to an object, with their values, now or at a moment before now.
+    Attributes {
+        object: Text,
         at: Option<Moment>,
     },
     /// Who was an effective member of the group of this name, from when and until when.
@@ -85,6 +92,10 @@ pub enum Answer {
     /// By their codes, and with what they give.
     May {
         privileges: Privileges,
+    },
+    /// In the order in which the assignments were made.
+    Attributes {
+        assignments: AssignsShown,
     },
     /// By the moments at which they began, then in the order of the subjects.
     History {

@@ -2,10 +2,11 @@
 ghost use Rattle.std.specs.Prelude.{◌≡◌, [], ◌∷◌, ◌++◌, OnOk, OnErr};
 ghost use Rattle.reg_terms.specs.declared.shown.RowShown.{RowShown};
 ghost use Rattle.reg_terms.specs.declared.shown.GrantShown.{GrantShown};
+ghost use Rattle.reg_terms.specs.declared.shown.AssignShown.{AssignShown};
 ghost use Rattle.reg_base.specs.declared.privilege.Privilege.{Privilege};
 
-use crate::SetOp;
-use reg_base::{Moment, Privilege, Text};
+use crate::{AttrValues, SetOp};
+use reg_base::{AssignId, Moment, Privilege, Text};
 use std::alloc::{AllocError, Global};
 use std::marker::Model;
 
@@ -112,6 +113,57 @@ impl GrantsShown {
 
     /// The grants.
     pub fn list(&self) -> &[GrantShown]
+        ensures { result.now ≡ self.now }
+    {
+        &self.items
+    }
+}
+
+/// An attribute that is assigned to an owner, with its values in the order in which they were added.
+#[derive(Debug, Drop)]
+pub struct AssignShown {
+    /// The attribute's name.
+    pub attribute: Text,
+    pub id: AssignId,
+    pub values: AttrValues,
+}
+
+/// A list of assignments. Contracts see the list.
+#[derive(Debug, Drop)]
+pub struct AssignsShown {
+    items: Vec<AssignShown>,
+}
+
+impl Model for AssignsShown {
+    ghost use Rattle.std.specs.Prelude.{List};
+    ghost use Rattle.reg_terms.specs.declared.shown.AssignShown.{AssignShown};
+
+    ghost Value = { List AssignShown };
+
+    ghost view = { λ a. a.items.items };
+}
+
+impl AssignsShown {
+    /// The empty list.
+    pub fn new(alloc: Global) -> AssignsShown
+        ensures { result ≡ [] }
+    {
+        AssignsShown {
+            items: Vec::new(alloc),
+        }
+    }
+
+    /// Adds an assignment at the end. Where there is no memory the list stays as it was.
+    pub fn push(&mut self, item: AssignShown) -> Result<(), AllocError>
+        ensures ok { OnOk result (self.new ≡ self.old ++ item ∷ []) }
+        ensures err { OnErr result (self.new ≡ self.old) }
+    {
+        self.items.push(item)?;
+        Ok(())
+    }
+
+    /// The assignments.
+    pub fn list(&self) -> &[AssignShown]
         ensures { result.now ≡ self.now }
     {
         &self.items

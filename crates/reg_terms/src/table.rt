@@ -25,6 +25,14 @@ pub enum CommandKind {
     GrantRemove,
     InheritAdd,
     InheritRemove,
+    AttrdefAdd,
+    AttrdefDelete,
+    AttrAdd,
+    AttrDelete,
+    AssignAdd,
+    AssignRemove,
+    ValueAdd,
+    ValueRemove,
     RuleRemoveLost,
     RuleEndLost,
     RuleVeto,
@@ -44,6 +52,7 @@ pub enum QueryKind {
     Groups,
     Grants,
     May,
+    Attributes,
     History,
     Log,
 }
@@ -70,7 +79,7 @@ pub struct CommandRow {
 }
 
 /// Every command.
-const COMMANDS: [CommandKind; 25] = [
+const COMMANDS: [CommandKind; 33] = [
     CommandKind::FolderAdd,
     CommandKind::FolderRename,
     CommandKind::FolderMove,
@@ -89,6 +98,14 @@ const COMMANDS: [CommandKind; 25] = [
     CommandKind::GrantRemove,
     CommandKind::InheritAdd,
     CommandKind::InheritRemove,
+    CommandKind::AttrdefAdd,
+    CommandKind::AttrdefDelete,
+    CommandKind::AttrAdd,
+    CommandKind::AttrDelete,
+    CommandKind::AssignAdd,
+    CommandKind::AssignRemove,
+    CommandKind::ValueAdd,
+    CommandKind::ValueRemove,
     CommandKind::RuleRemoveLost,
     CommandKind::RuleEndLost,
     CommandKind::RuleVeto,
@@ -99,7 +116,7 @@ const COMMANDS: [CommandKind; 25] = [
 ];
 
 /// Every query.
-const QUERIES: [QueryKind; 9] = [
+const QUERIES: [QueryKind; 10] = [
     QueryKind::GroupGet,
     QueryKind::FolderList,
     QueryKind::Members,
@@ -107,6 +124,7 @@ const QUERIES: [QueryKind; 9] = [
     QueryKind::Groups,
     QueryKind::Grants,
     QueryKind::May,
+    QueryKind::Attributes,
     QueryKind::History,
     QueryKind::Log,
 ];
@@ -265,6 +283,86 @@ pub fn command_row(kind: CommandKind) -> CommandRow
                 ("holder", FieldKind::Entity),
             ],
         ),
+        CommandKind::AttrdefAdd => command(
+            19,
+            "attrdef.add",
+            &[
+                ("definition", FieldKind::Name),
+                ("owners", FieldKind::Owners),
+                ("several", FieldKind::Flag),
+                ("kind", FieldKind::DefKind),
+                ("many", FieldKind::Flag),
+            ],
+        ),
+        CommandKind::AttrdefDelete => command(
+            20,
+            "attrdef.delete",
+            &[("definition", FieldKind::Name)],
+        ),
+        CommandKind::AttrAdd => command(
+            21,
+            "attr.add",
+            &[
+                ("attribute", FieldKind::Name),
+                ("definition", FieldKind::Name),
+            ],
+        ),
+        CommandKind::AttrDelete => command(22, "attr.delete", &[("attribute", FieldKind::Name)]),
+        CommandKind::AssignAdd => command(
+            23,
+            "assign.add",
+            &[
+                ("attribute", FieldKind::Name),
+                ("object", FieldKind::Object),
+            ],
+        ),
+        CommandKind::AssignRemove => command(
+            24,
+            "assign.remove",
+            &[
+                ("attribute", FieldKind::Name),
+                ("object", FieldKind::Object),
+                (
+                    "id",
+                    FieldKind::Number {
+                        least: 0,
+                        most: u64::MAX,
+                    },
+                ),
+            ],
+        ),
+        CommandKind::ValueAdd => command(
+            25,
+            "value.add",
+            &[
+                ("attribute", FieldKind::Name),
+                ("object", FieldKind::Object),
+                (
+                    "id",
+                    FieldKind::Number {
+                        least: 0,
+                        most: u64::MAX,
+                    },
+                ),
+                ("value", FieldKind::Value),
+            ],
+        ),
+        CommandKind::ValueRemove => command(
+            26,
+            "value.remove",
+            &[
+                ("attribute", FieldKind::Name),
+                ("object", FieldKind::Object),
+                (
+                    "id",
+                    FieldKind::Number {
+                        least: 0,
+                        most: u64::MAX,
+                    },
+                ),
+                ("value", FieldKind::Value),
+            ],
+        ),
         CommandKind::RuleRemoveLost => command(
             27,
             "rule.remove_lost",
@@ -369,6 +467,13 @@ pub fn query_row(kind: QueryKind) -> Row
             &[
                 ("object", FieldKind::Object),
                 ("entity", FieldKind::Entity),
+                ("at", FieldKind::OptionalMoment),
+            ],
+        ),
+        QueryKind::Attributes => op(
+            "attributes",
+            &[
+                ("object", FieldKind::Object),
                 ("at", FieldKind::OptionalMoment),
             ],
         ),

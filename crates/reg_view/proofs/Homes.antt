@@ -1,7 +1,7 @@
 -- The name of what stands in a folder is the folder's name and an extension: so the folder is told by the name.
-use Rattle.std.proofs.Common.{◌≡◌, ◌==◌, ◌&&◌, ◌<◌, ◌∷◌, ◌++◌, ℕ, List, [], Bool, true, false, cond, Option, Some, None, inl, inr, refl, sym, ap, ◌∙◌, map, length, bytes_eq, arith}
+use Rattle.std.proofs.Common.{◌≡◌, ◌==◌, ◌<◌, ◌∷◌, ◌++◌, ℕ, List, [], Bool, true, false, cond, Option, Some, None, inl, inr, refl, sym, ap, ◌∙◌, length, bytes_eq, arith}
 use Rattle.std.specs.Prelude.{codes, is_some}
-use Rattle.std.specs.List.{All, AllByRecursion, find, join_with_byte, list_all, onto_first}
+use Rattle.std.specs.List.{All, AllByRecursion, join_with_byte, list_all, onto_first}
 use Rattle.std.proofs.lemmas.Bool.{cases_Bool, and_parts, and_from, both_ways, eqb-true, eq-eqb, false_from_ne_true}
 use Rattle.std.proofs.lemmas.List.Elements.{All-from_recursion}
 use Rattle.std.proofs.lemmas.List.Splits.{slice_split_none, length-slice_split, join_with_byte-slice_split}

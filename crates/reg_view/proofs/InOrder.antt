@@ -1,5 +1,5 @@
 -- What holds of all rows holds of those that pass a test, put in order.
-use Rattle.std.proofs.Common.{List, [], ◌∷◌, Bool, true, false, inl, inr, filter}
+use Rattle.std.proofs.Common.{List, [], ◌∷◌, Bool, inl, inr, filter}
 use Rattle.std.proofs.lemmas.Bool.{cases_Bool}
 use Rattle.std.specs.List.{AllByRecursion}
 use Rattle.std.specs.BTreeSet.{insert_key}

@@ -18,6 +18,7 @@ pub mod HistoryRows
 pub mod Meaning
 pub mod Held
 pub mod Powers
+pub mod Owned
 pub mod Shown
 pub mod Unnamed
 pub mod NotSeen

@@ -1,5 +1,5 @@
 -- What a folder's listing shows is what the facts have in it, of what the caller sees.
-use Rattle.std.proofs.Common.{◌≡◌, ◌==◌, ◌&&◌, ◌∷◌, ◌++◌, ℕ, List, [], Bool, true, false, Option, Some, None, ◌⊎◌, inl, inr, refl, sym, ap, ◌∙◌, map, filter, bytes_eq}
+use Rattle.std.proofs.Common.{◌≡◌, ◌==◌, ◌&&◌, ◌∷◌, ◌++◌, ℕ, List, [], Bool, true, false, Some, None, ◌⊎◌, inl, inr, refl, sym, ap, ◌∙◌, map, filter, bytes_eq}
 use Rattle.std.specs.Prelude.{codes, not, IsSome}
 use Rattle.std.specs.List.{AllByRecursion}
 use Rattle.std.proofs.lemmas.Bool.{cases_Bool, both_ways, eqb-true, eq-eqb, false_from_ne_true}
@@ -14,7 +14,7 @@ use Rattle.reg_facts.specs.Lists.{Lists, root, root_row}
 use Rattle.reg_facts.specs.Named.{AreNamed}
 use Rattle.reg_facts.specs.Naming.{Placed, placed, placed_folders, placed_group, placed_definition, placed_attribute, home_of, name_in, name_of, resolve}
 use Rattle.reg_facts.specs.Sound.{BeginsAtRoot, IsSound}
-use Rattle.reg_view.specs.View.{folder_object, group_object, definition_object, attribute_object, shown_where}
+use Rattle.reg_view.specs.View.{folder_object, shown_where}
 use Rattle.reg_view.proofs.Homes.{Stands, all_stand}
 use Rattle.reg_view.proofs.Same.{bytes_same, bytes_self}
 

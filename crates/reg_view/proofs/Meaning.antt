@@ -1,7 +1,7 @@
 -- What a text names over the facts is what it names in the view.
 use Rattle.std.proofs.Common.{◌≡◌, ◌==◌, ℕ, List, Bool, true, false, Option, Some, None, Result, Ok, Err, refl, sym, ap, ◌∙◌, codes}
 use Rattle.std.specs.Prelude.{if◌then◌else◌, is_some}
-use Rattle.std.specs.List.{find, list_any}
+use Rattle.std.specs.List.{find}
 use Rattle.reg_base.specs.Entities.{entity_of}
 use Rattle.reg_base.specs.declared.entity.Entity.{Entity}
 use Rattle.reg_base.specs.declared.entity.Entity.TheVariants as entity
@@ -25,7 +25,7 @@ use Rattle.reg_priv.specs.May.{visible}
 use Rattle.reg_view.specs.Answers.{definition_of, entity_found, entity_object, group_seen, name_found, object_found}
 use Rattle.reg_view.specs.Past.{Past}
 use Rattle.reg_view.specs.Show as shown
-use Rattle.reg_view.specs.Show.{◌>>=◌, found_or, named, Kind, Meant, AFolder, AGroup, ADefinition, AnAttribute, Named, ASubject, Internal, attribute_named, definition_named, entity_seen, folder_named, group_named, object_meant, object_named, object_seen}
+use Rattle.reg_view.specs.Show.{◌>>=◌, found_or, named, Kind, Meant, AFolder, AGroup, ADefinition, AnAttribute, Named, ASubject, Internal, attribute_named, definition_named, entity_seen, folder_named, group_named, is_entity_text, object_meant, object_named, object_seen}
 use Rattle.reg_view.specs.Texts.{definition_name}
 use Rattle.reg_view.specs.View as views
 use Rattle.reg_view.specs.View.{View, AttributeSeen, GroupSeen, attribute_object, attribute_seen, definition_object, folder_object, group_object, seen_by}
@@ -86,14 +86,14 @@ module _ (past : Past) (moment : ℕ) (L : Live) (f : Lists) (sound : IsSound f)
   abbrev Meets : {B : Type 0} → (Option Object → Result B Refusal) → (Meant → Result B Refusal) → Type 0
   Meets m k = (name : List ℕ) (o : Object) → resolve name f ≡ Some o → visible L f c o ≡ true → m (Some o) ≡ k (Named name (kind_of f o))
 
-  module _ {B : Type 0} (m : Option Object → Result B Refusal) (k : Meant → Result B Refusal) (internal : m None ≡ k Internal) (subject : (s : ℕ) → m (Some (Subject s)) ≡ k ASubject) (named_ones : Meets m k) where
+  module _ {B : Type 0} (m : Option Object → Result B Refusal) (k : Meant → Result B Refusal) (internal : m None ≡ k Internal) (subject : (text : List ℕ) (s : ℕ) → subject_id text f.subjects ≡ Some s → m (Some (Subject s)) ≡ k (ASubject text)) (named_ones : Meets m k) where
     -- an entity as an object
     abbrev meant : Entity → Result B Refusal
     meant e = k (object_meant e)
 
-    person_meant : (text : List ℕ) (o : Option ℕ) → ((elim o [ None ↦ Err (NotFound text) | Some s ↦ Ok (Some (Subject s)) ]) >>= m) ≡ ((if is_some o then Ok (entity.Person text) else Err (NotFound text)) >>= meant)
-    person_meant text None = refl
-    person_meant text (Some s) = subject s
+    person_meant : (text : List ℕ) (o : Option ℕ) → subject_id text f.subjects ≡ o → ((elim o [ None ↦ Err (NotFound text) | Some s ↦ Ok (Some (Subject s)) ]) >>= m) ≡ ((if is_some o then Ok (entity.Person text) else Err (NotFound text)) >>= meant)
+    person_meant text None at = refl
+    person_meant text (Some s) at = subject text s at
 
     -- a group by its entity's name
     module _ (name : List ℕ) where
@@ -126,7 +126,7 @@ module _ (past : Past) (moment : ℕ) (L : Live) (f : Lists) (sound : IsSound f)
 
     by_entity_object : (e : Entity) → (entity_found L f c e >>= m) ≡ (entity_seen v e >>= meant)
     by_entity_object (entity.Person text) =
-        person_meant text (subject_id text f.subjects)
+        person_meant text (subject_id text f.subjects) refl
         ∙ ap (λ b. (if b then Ok (entity.Person text) else Err (NotFound text)) >>= meant) (sym (text_known text f.subjects))
     by_entity_object (entity.Group name) =
         steps_join (group_seen L f c name) (λ g. Ok (Some (Group g))) m
@@ -266,4 +266,4 @@ module _ (past : Past) (moment : ℕ) (L : Live) (f : Lists) (sound : IsSound f)
 
       -- going on from an object that is found
       pub by_object : (object_found L f c text >>= m) ≡ (object_seen v text >>= k)
-      by_object = by_either (list_any (λ b. b == 47) text)
+      by_object = by_either (is_entity_text text)

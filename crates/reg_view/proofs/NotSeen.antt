@@ -66,6 +66,7 @@ not_seen past L f now c by name (query.Groups entity.System at) asks h gone = ab
 not_seen past L f now c by name (query.Groups entity.Everyone at) asks h gone = absurd asks
 not_seen past L f now c by name (query.Grants text at) asks h gone = absurd asks
 not_seen past L f now c by name (query.May text e at) asks h gone = absurd asks
+not_seen past L f now c by name (query.Attributes text at) asks h gone = absurd asks
 not_seen past L f now c by name (query.History group) asks h gone = rw asks (past_goes past L f c name (λ id. Ok (answer.History (history_of past id f.subjects))) h (rw asks at gone))
 not_seen past L f now c by name (query.Log consumer max) asks h gone = absurd asks
 

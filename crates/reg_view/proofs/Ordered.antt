@@ -1,5 +1,5 @@
 -- What passes a test of some texts in order are those that pass in order.
-use Rattle.std.proofs.Common.{◌≡◌, ◌&&◌, ◌++◌, ◌∷◌, ℕ, List, [], Bool, true, false, inl, inr, refl, sym, ap, ◌∙◌, map, filter, bytes_eq, arith}
+use Rattle.std.proofs.Common.{◌≡◌, ◌&&◌, ◌++◌, ◌∷◌, ℕ, List, [], Bool, inl, inr, refl, sym, ap, ◌∙◌, map, filter, bytes_eq, arith}
 use Rattle.std.specs.Prelude.{codes}
 use Rattle.std.specs.List.{list_any}
 use Rattle.std.specs.List.Sorted.{IsStrictlySortedBy}

@@ -83,7 +83,7 @@ abbrev answered : List Privilege → Result Answer Refusal
 answered ps = Ok (answer.May ps)
 
 -- of now where none is named, and else of the moment
-timed_same : (now : ℕ) (X : Option ℕ → Result Answer Refusal) (Y : ℕ → Result Answer Refusal) → X None ≡ Y now → ((t : ℕ) → X (Some t) ≡ Y t) → (when : Option ℕ)
+pub timed_same : (now : ℕ) (X : Option ℕ → Result Answer Refusal) (Y : ℕ → Result Answer Refusal) → X None ≡ Y now → ((t : ℕ) → X (Some t) ≡ Y t) → (when : Option ℕ)
     → (in_time now when >>= (λ _. X when)) ≡ (in_time now when >>= (λ _. Y (moment_of now when)))
 timed_same now X Y present earlier None = present
 timed_same now X Y present earlier (Some t) = ap (λ r. in_time now (Some t) >>= (λ _. r)) (earlier t) ∙ in_time_same Y now t
@@ -173,7 +173,7 @@ module _ (past : Past) (L : Live) (f : Lists) (sound : IsSound f) (are : AreName
   grants_same (Subject s) other = absurd (other s refl)
 
   pub grants_agree : (text : List ℕ) → answers.grants_of past L f now c text when ≡ shown_grants v text when
-  grants_agree text = by_object past moment L f sound are c now by (λ o. answers.grants_on past L f now c o when) (shown.grants_on v when) refl (λ s. refl)
+  grants_agree text = by_object past moment L f sound are c now by (λ o. answers.grants_on past L f now c o when) (shown.grants_on v when) refl (λ text s at. refl)
       (λ name o at sees. as_admin (λ (a : Administered). timed v when (shown.grants_told a (kind_of f o))) (answers.grants_told past f now o when) name o at (grants_same o (no_subject name o at)) (no_subject name o at)) text
 
   -- ---- what someone may do
@@ -227,11 +227,11 @@ module _ (past : Past) (L : Live) (f : Lists) (sound : IsSound f) (are : AreName
     internal true = refl
     internal false = refl
 
-    on_subject : (b root : Bool) (s : ℕ) → Stands f e → (if b then answers.own_told past L f now c (Some (Subject s)) when else (if root then answers.powers_told past L f now (who_of e f) (Subject s) when else Err root_denied))
-        ≡ (if b then shown.own_told v when ASubject else (if root then timed v when (shown.nothing_for e) else Err root_denied))
-    on_subject true root s found = nothing_on c s
-    on_subject false true s found = nothing_same s e found
-    on_subject false false s found = refl
+    on_subject : (text : List ℕ) (b root : Bool) (s : ℕ) → Stands f e → (if b then answers.own_told past L f now c (Some (Subject s)) when else (if root then answers.powers_told past L f now (who_of e f) (Subject s) when else Err root_denied))
+        ≡ (if b then shown.own_told v when (ASubject text) else (if root then timed v when (shown.nothing_for e) else Err root_denied))
+    on_subject text true root s found = nothing_on c s
+    on_subject text false true s found = nothing_same s e found
+    on_subject text false false s found = refl
 
     on_named : (b : Bool) (name : List ℕ) (o : Object) → resolve name f ≡ Some o → visible L f c o ≡ true → Stands f e → (if b then answers.own_told past L f now c (Some o) when else answers.other_told past L f now c (Some o) e when)
         ≡ (if b then shown.own_told v when (Named name (kind_of f o)) else shown.other_told v when (Named name (kind_of f o)) e)
@@ -243,6 +243,6 @@ module _ (past : Past) (L : Live) (f : Lists) (sound : IsSound f) (are : AreName
         (λ o. answers.entity_found L f c e >>= (λ _. tells o))
         (λ o. entity_seen v e >>= shows o)
         (by_entity past moment L f sound are c now by (tells None) (shows Internal) e (λ found. internal (is_caller by e)))
-        (λ s. by_entity past moment L f sound are c now by (tells (Some (Subject s))) (shows ASubject) e (λ found. on_subject (is_caller by e) (is_root L f c) s found))
+        (λ named s at. by_entity past moment L f sound are c now by (tells (Some (Subject s))) (shows (ASubject named)) e (λ found. on_subject named (is_caller by e) (is_root L f c) s found))
         (λ name o at sees. by_entity past moment L f sound are c now by (tells (Some o)) (shows (Named name (kind_of f o))) e (λ found. on_named (is_caller by e) name o at sees found))
         text

@@ -21,6 +21,7 @@ use Rattle.reg_view.specs.Powers.{who_stands}
 use Rattle.reg_view.specs.Show.{show}
 use Rattle.reg_view.specs.View.{blank, caller_of, seen_by, view_of}
 use Rattle.reg_view.proofs.Agreeing.{group_agrees, rows_agree}
+use Rattle.reg_view.proofs.Owned.{attributes_agree}
 use Rattle.reg_view.proofs.Grouped.{groups_agree}
 use Rattle.reg_view.proofs.FolderLists.{listing_agrees}
 use Rattle.reg_view.proofs.Logged.{log_agrees}
@@ -37,6 +38,7 @@ module _ (sorted : (texts : List (List ℕ)) → IsStrictlySortedBy (slice_cmp n
   answers_agree c (query.Groups subject at) standing = groups_agree past L f sound are held.texts_once c now by is_now subject at
   answers_agree c (query.Grants object at) standing = grants_agree past L f sound are c now by is_facts is_live standing at object
   answers_agree c (query.May object entity at) standing = may_agrees past L f sound are c now by is_facts is_live standing at entity object
+  answers_agree c (query.Attributes object at) standing = attributes_agree past L f sound are c now by is_facts at object
   answers_agree c (query.History group) standing = history_agree past now L f sound are c now by group
   answers_agree c (query.Log consumer max) standing = log_agrees past L f c now now by consumer max
 

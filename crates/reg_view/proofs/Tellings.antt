@@ -1,5 +1,5 @@
 -- A refusal names nothing that the query doesn't name, but for the root and the definition of an attribute that is seen.
-use Rattle.std.proofs.Common.{◌≡◌, ◌==◌, ◌||◌, ◌∷◌, ◌++◌, ℕ, List, [], Bool, true, false, Option, Some, None, Result, Ok, Err, inl, inr, refl, sym, ap, ◌∙◌, bytes_eq, codes}
+use Rattle.std.proofs.Common.{◌≡◌, ◌||◌, ◌∷◌, ◌++◌, ℕ, List, [], Bool, true, false, Option, Some, None, Result, Ok, Err, inl, inr, refl, sym, ap, ◌∙◌, bytes_eq, codes}
 use Rattle.std.specs.Prelude.{⊤, nat_lt, option_map, if◌then◌else◌}
 use Rattle.std.specs.List.{list_any}
 use Rattle.std.proofs.lemmas.Bool.{cases_Bool, both_ways, or_left, or_right}
@@ -20,7 +20,7 @@ use Rattle.reg_view.specs.Show as shown
 use Rattle.reg_view.specs.Show.{◌>>=◌, found_or, denied, named, Kind, Meant, AFolder, AGroup, ADefinition, AnAttribute, Named, ASubject, Internal}
 use Rattle.reg_view.specs.Telling.{entity_names, object_names, names_of, is_definition, TellsOf, IfRefused}
 use Rattle.reg_view.specs.Past.{GroupPast}
-use Rattle.reg_view.specs.View.{View, AttributeSeen, Administered, ConsumerSeen, GroupGone, GroupRead, GroupSeen, Powers}
+use Rattle.reg_view.specs.View.{View, AttributeSeen, Administered, ConsumerSeen, GroupGone, GroupRead, GroupSeen, OwnerRead, Powers}
 use Rattle.reg_view.proofs.Same.{bytes_same, bytes_self}
 
 -- what is found has this, or the refusal tells nothing else
@@ -152,11 +152,11 @@ module _ (v : View) where
 
   abbrev MeantSays : List (List ℕ) → Meant → Type 0
   MeantSays names (Named name kind) = (is_among name names ≡ true) × KindSays kind
-  MeantSays names ASubject = ⊤
+  MeantSays names (ASubject text) = is_among text names ≡ true
   MeantSays names Internal = ⊤
 
   of_entity : (names : List (List ℕ)) (e : Entity) → AreThese (entity_names e) names → MeantSays names (shown.object_meant e)
-  of_entity names (entity.Person text) these = tt
+  of_entity names (entity.Person text) these = these text (first text [])
   of_entity names (entity.Group name) these = (these name (first name []), tt)
   of_entity names entity.System these = tt
   of_entity names entity.Everyone these = tt
@@ -190,7 +190,7 @@ module _ (v : View) where
 
   object_says : (names : List (List ℕ)) (text : List ℕ) → AreThese (object_names text) names → Says (MeantSays names) (TellsOf v names) (shown.object_seen v text)
   object_says names text these =
-      either_says names text (list_any (λ b. b == 47) text) (these text (first text _)) (λ e at other h. these other (or_right (bytes_eq text other) _ (later e at other h)))
+      either_says names text (shown.is_entity_text text) (these text (first text _)) (λ e at other h. these other (or_right (bytes_eq text other) _ (later e at other h)))
     where
       later : (e : Entity) → entity_of text ≡ Some e → (other : List ℕ) → is_among other (entity_names e) ≡ true → is_among other (elim (entity_of text) [ None ↦ [] | Some e ↦ entity_names e ]) ≡ true
       later e at other h = ap (λ (o : Option Entity). is_among other (elim o [ None ↦ [] | Some e ↦ entity_names e ])) at ∙ h
@@ -221,7 +221,7 @@ module _ (v : View) where
 
   on_says : (names : List (List ℕ)) (at : Option ℕ) (o : Meant) → MeantSays names o → IfRefused (TellsOf v names) (shown.grants_on v at o)
   on_says names at (Named name kind) says = admin_says names name kind (λ a. shown.timed v at (shown.grants_told a kind)) says.0 says.1 (λ a. timed_says names at (shown.grants_told a kind) (told_says names a kind))
-  on_says names at ASubject says = root_says names v.is_root (shown.timed v at (Err (WrongKind (codes "object")))) (timed_says names at (Err (WrongKind (codes "object"))) tt)
+  on_says names at (ASubject text) says = root_says names v.is_root (shown.timed v at (Err (WrongKind (codes "object")))) (timed_says names at (Err (WrongKind (codes "object"))) tt)
   on_says names at Internal says = timed_says names at (Err (WrongKind (codes "object"))) tt
 
   grants_says : (text : List ℕ) (at : Option ℕ) → IfRefused (TellsOf v (object_names text)) (shown.shown_grants v text at)
@@ -240,7 +240,7 @@ module _ (v : View) where
 
   own_says : (names : List (List ℕ)) (at : Option ℕ) (o : Meant) → MeantSays names o → IfRefused (TellsOf v names) (shown.own_told v at o)
   own_says names at (Named name kind) says = next (λ (p : Powers). ⊤) (TellsOf v names) (found_or (named (λ (p : Powers). p.name) v.own name) (NotFound name)) (λ (p : Powers). shown.timed v at (Ok (answer.May p.privileges))) (found_says (TellsOf v names) (named (λ (p : Powers). p.name) v.own name) (NotFound name) says.0) (λ p t. timed_says names at (Ok (answer.May p.privileges)) tt)
-  own_says names at ASubject says = timed_says names at (Ok (answer.May [])) tt
+  own_says names at (ASubject text) says = timed_says names at (Ok (answer.May [])) tt
   own_says names at Internal says = timed_says names at (Err (WrongKind (codes "object"))) tt
 
   powers_says : (names : List (List ℕ)) (a : Administered) (e : Entity) → AreThese (entity_names e) names → IfRefused (TellsOf v names) (shown.powers_for a e)
@@ -257,7 +257,7 @@ module _ (v : View) where
 
   other_says : (names : List (List ℕ)) (at : Option ℕ) (o : Meant) (e : Entity) → MeantSays names o → AreThese (entity_names e) names → IfRefused (TellsOf v names) (shown.other_told v at o e)
   other_says names at (Named name kind) e says these = admin_says names name kind (λ a. shown.timed v at (shown.powers_for a e)) says.0 says.1 (λ a. timed_says names at (shown.powers_for a e) (powers_says names a e these))
-  other_says names at ASubject e says these = root_says names v.is_root (shown.timed v at (shown.nothing_for e)) (timed_says names at (shown.nothing_for e) (nothing_says names e))
+  other_says names at (ASubject text) e says these = root_says names v.is_root (shown.timed v at (shown.nothing_for e)) (timed_says names at (shown.nothing_for e) (nothing_says names e))
   other_says names at Internal e says these = timed_says names at (Err (WrongKind (codes "object"))) tt
 
   caller_says : (names : List (List ℕ)) (b : Bool) (at : Option ℕ) (o : Meant) (e : Entity) → MeantSays names o → AreThese (entity_names e) names → IfRefused (TellsOf v names) (if b then shown.own_told v at o else shown.other_told v at o e)
@@ -271,6 +271,29 @@ module _ (v : View) where
       next (λ (x : Entity). AreThese (entity_names x) names) (TellsOf v names) (shown.entity_seen v e) (λ x. if shown.is_caller v.caller x then shown.own_told v at o else shown.other_told v at o x) (entity_says names e (λ other h. in_right other (object_names text) (entity_names e) h)) (λ x these.
       caller_says names (shown.is_caller v.caller x) at o x says these))
 
+  -- ---- attributes
+
+  unfit_says : (names : List (List ℕ)) (at : Option ℕ) → IfRefused (TellsOf v names) (shown.timed v at (Err (WrongKind (codes "object"))))
+  unfit_says names at = timed_says names at (Err (WrongKind (codes "object"))) tt
+
+  owner_says : (names : List (List ℕ)) (at : Option ℕ) (owners : List OwnerRead) (name : List ℕ) (e : Refusal) → TellsOf v names e → IfRefused (TellsOf v names) (shown.owner_told v at owners name e)
+  owner_says names at owners name e h = next (λ (o : OwnerRead). ⊤) (TellsOf v names) (found_or (named (λ (o : OwnerRead). o.name) owners name) e) (λ (o : OwnerRead). shown.timed v at (answered (answer.Attributes o.assignments))) (found_says (TellsOf v names) (named (λ (o : OwnerRead). o.name) owners name) e h) (λ o t. timed_says names at (answered (answer.Attributes o.assignments)) tt)
+
+  by_name_says : (names : List (List ℕ)) (at : Option ℕ) (name : List ℕ) (entity : Bool) → is_among name names ≡ true → IfRefused (TellsOf v names) (if entity then shown.timed v at (Err (WrongKind (codes "object"))) else shown.owner_told v at v.owners name (denied name privilege.GroupAttrRead))
+  by_name_says names at name true h = unfit_says names at
+  by_name_says names at name false h = owner_says names at v.owners name (denied name privilege.GroupAttrRead) (own names name privilege.GroupAttrRead h)
+
+  assigned_says : (names : List (List ℕ)) (at : Option ℕ) (text : List ℕ) (o : Meant) → MeantSays names o → IfRefused (TellsOf v names) (shown.attributes_on v at text o)
+  assigned_says names at text (Named name AFolder) says = owner_says names at v.owners name (denied name privilege.StemAttrRead) (own names name privilege.StemAttrRead says.0)
+  assigned_says names at text (Named name AGroup) says = by_name_says names at name (shown.is_entity_text text) says.0
+  assigned_says names at text (Named name ADefinition) says = unfit_says names at
+  assigned_says names at text (Named name (AnAttribute d)) says = unfit_says names at
+  assigned_says names at text (ASubject person) says = owner_says names at v.persons person (NotFound person) says
+  assigned_says names at text Internal says = unfit_says names at
+
+  attributes_say : (text : List ℕ) (at : Option ℕ) → IfRefused (TellsOf v (object_names text)) (shown.shown_attributes v text at)
+  attributes_say text at = next (MeantSays (object_names text)) (TellsOf v (object_names text)) (shown.object_seen v text) (shown.attributes_on v at text) (object_says (object_names text) text (λ other h. h)) (assigned_says (object_names text) at text)
+
   -- ---- queries
 
   shown_says : (q : Query) → IfRefused (TellsOf v (names_of q)) (shown.shown v q)
@@ -281,6 +304,7 @@ module _ (v : View) where
   shown_says (query.Groups subject at) = groups_says subject at
   shown_says (query.Grants object at) = grants_says object at
   shown_says (query.May object e at) = may_says object e at
+  shown_says (query.Attributes object at) = attributes_say object at
   shown_says (query.History group) = history_says group
   shown_says (query.Log consumer max) = log_says consumer max
 

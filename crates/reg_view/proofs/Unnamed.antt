@@ -1,5 +1,5 @@
 -- What stands somewhere has a name, and the name of what stands nowhere is the colon.
-use Rattle.std.proofs.Common.{◌≡◌, ◌==◌, ◌∷◌, List, [], Bool, true, false, Option, Some, None, inl, inr, refl, sym, ap, ◌∙◌, codes}
+use Rattle.std.proofs.Common.{◌≡◌, ◌∷◌, List, [], true, Option, Some, None, inl, inr, sym, ap, ◌∙◌, codes}
 use Rattle.std.specs.Prelude.{option_map}
 use Rattle.std.specs.List.{list_any}
 use Rattle.std.proofs.lemmas.Bool.{cases_Bool, or_left, or_right}

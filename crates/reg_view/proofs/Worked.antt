@@ -1,21 +1,24 @@
--- Worked examples computed: a group with VIEW alone, one without, a privilege that a complement holds, a move out of a scope, the past of a group that is gone, and grants of the past.
-use Rattle.std.proofs.Common.{◌≡◌, ◌==◌, ◌&&◌, ℕ, Bool, false, Option, List, [], ◌∷◌, Result, Ok, Err, Some, None, codes, refl}
+-- Worked examples computed: a group with VIEW alone, one without, a privilege that a complement holds, a move out of a scope, the past of a group that is gone, grants of the past, and attributes.
+use Rattle.std.proofs.Common.{◌≡◌, ◌==◌, ◌&&◌, ℕ, Bool, true, false, Option, List, [], ◌∷◌, Result, Ok, Err, Some, None, codes, refl}
 use Rattle.std.specs.Prelude.{if◌then◌else◌, nat_le, nat_lt}
 use Rattle.reg_base.specs.Entities.{entity_of}
 use Rattle.reg_base.specs.NameParts.{extension_of, folder_of}
 use Rattle.reg_base.specs.declared.entity.Entity.TheVariants as entity
 use Rattle.reg_base.specs.declared.privilege.Privilege.TheVariants as privilege
 use Rattle.reg_terms.specs.declared.command.Command.{Command}
-use Rattle.reg_terms.specs.declared.command.Command.TheVariants.{FolderAdd, FolderMove, ConsumerAdd, GroupAdd, GroupDelete, SubjectAdd, MemberAdd, CompositeSet, GrantAdd, GrantRemove, InheritAdd}
+use Rattle.reg_terms.specs.declared.command.Command.TheVariants.{FolderAdd, FolderMove, ConsumerAdd, GroupAdd, GroupDelete, SubjectAdd, MemberAdd, CompositeSet, GrantAdd, GrantRemove, InheritAdd, AttrdefAdd, AttrdefDelete, AttrAdd, AttrDelete, AssignAdd, AssignRemove, ValueAdd}
 use Rattle.reg_terms.specs.declared.entry_kinds.EntryKind.TheVariants as kinds
+use Rattle.reg_terms.specs.declared.kinds.AttrValue.TheVariants as attr
+use Rattle.reg_terms.specs.declared.kinds.DefKind.TheVariants.{Text}
 use Rattle.reg_terms.specs.declared.kinds.Holder.TheVariants as holder
 use Rattle.reg_terms.specs.declared.kinds.InheritKind.TheVariants as kind
 use Rattle.reg_terms.specs.declared.kinds.Object.{Object}
 use Rattle.reg_terms.specs.declared.kinds.Object.TheVariants as object
 use Rattle.reg_terms.specs.declared.kinds.Scope.TheVariants.{Sub}
 use Rattle.reg_terms.specs.declared.kinds.SetOp.TheVariants.{Complement}
+use Rattle.reg_terms.specs.declared.kinds.Value.TheVariants as given
 use Rattle.reg_terms.specs.declared.refusal.Refusal.{Refusal}
-use Rattle.reg_terms.specs.declared.refusal.Refusal.TheVariants.{NotFound, Denied, Future}
+use Rattle.reg_terms.specs.declared.refusal.Refusal.TheVariants.{NotFound, Denied, Future, WrongKind}
 use Rattle.reg_terms.specs.declared.query.Query.{Query}
 use Rattle.reg_terms.specs.declared.query.Query.TheVariants as query
 use Rattle.reg_terms.specs.declared.query.Answer.{Answer}
@@ -38,7 +41,7 @@ after (c ∷ cs) f = after cs (edit 0 entity.System c f)
 
 -- a past in which all was as it is
 abbrev nothing_past : Lists → Past
-nothing_past f = record { facts = λ t. f; was = λ t g s. member (live_of 0 f.rows f.composites) g s; spans = λ g s. []; lines = []; gone = []; last_name = λ o. [] }
+nothing_past f = record { facts = λ t. f; was = λ t g s. member (live_of 0 f.rows f.composites) g s; spans = λ g s. []; lines = []; gone = []; last_name = λ o. []; def_of = λ a. None }
 
 -- what a caller is answered
 abbrev asks : Lists → List ℕ → Query → Result Answer Refusal
@@ -117,6 +120,7 @@ with_past = record {
   lines = (record { at = 5; kind = kinds.RowAdd; object = Some (object.Group 1); entity = Some (holder.Person 1); number = 0 }) ∷ (record { at = 9; kind = kinds.GroupDelete; object = Some (object.Group 1); entity = None; number = 0 }) ∷ [];
   gone = (1, codes "g") ∷ [];
   last_name = names_last;
+  def_of = λ a. None;
 }
 
 -- what a caller is answered at 10
@@ -169,7 +173,7 @@ pub by_ann : Lists
 by_ann = after (GrantRemove (codes "g") privilege.Admin (entity.Person (codes "uni/bob")) ∷ GrantAdd (codes "g") privilege.Admin (entity.Person (codes "uni/ann")) ∷ []) by_bob
 
 abbrev grants_past : Past
-grants_past = record { facts = λ t. if nat_lt t 6 then by_bob else by_ann; was = λ t g s. false; spans = λ g s. []; lines = []; gone = []; last_name = λ o. [] }
+grants_past = record { facts = λ t. if nat_lt t 6 then by_bob else by_ann; was = λ t g s. false; spans = λ g s. []; lines = []; gone = []; last_name = λ o. []; def_of = λ a. None }
 
 -- what a caller is answered at 10
 abbrev asks_of_grants : List ℕ → Option ℕ → Query → Result Answer Refusal
@@ -194,3 +198,64 @@ could_before = refl
 pub could_then : asks_of_grants (codes "uni/bob") (Some 6) (query.May (codes "g") (entity.Person (codes "uni/bob")) (Some 6)) ≡ Ok (answer.May (privilege.View ∷ []))
 unfolding by_bob by_ann events_of entity_of object_of resolve placed lies_in path extensions name_of rows_of member extension_of folder_of
 could_then = refl
+
+-- ann may read the attributes of g, to which risk is assigned, an attribute of level
+pub at_risk : Lists
+at_risk = after (
+    SubjectAdd (entity.Person (codes "uni/ann")) [] ∷ GroupAdd (codes "g") []
+    ∷ AttrdefAdd (codes "level") (record { folder = false; group = true; subject = false }) false Text false
+    ∷ AttrAdd (codes "risk") (codes "level") ∷ AssignAdd (codes "risk") (codes "g") ∷ ValueAdd (codes "risk") (codes "g") 1 (given.Text (codes "high"))
+    ∷ GrantAdd (codes "g") privilege.GroupAttrRead (entity.Person (codes "uni/ann")) ∷ []
+    ) start
+
+-- and what is assigned of level
+pub told_level : Lists
+told_level = after (GrantAdd (codes "level") privilege.AttrRead (entity.Person (codes "uni/ann")) ∷ []) at_risk
+
+-- at 6 the assignment went, and the attribute and the definition with it
+pub no_risk : Lists
+no_risk = after (AssignRemove (codes "risk") (codes "g") 1 ∷ AttrDelete (codes "risk") ∷ AttrdefDelete (codes "level") ∷ []) told_level
+
+abbrev risk_past : Lists → Past
+risk_past f = record { facts = λ t. if nat_lt t 6 then told_level else f; was = λ t g s. false; spans = λ g s. []; lines = []; gone = []; last_name = λ o. codes "risk"; def_of = λ a. Some 1 }
+
+-- what a caller is answered at 10, where these are the facts from 6 on
+abbrev asks_of_risk : Lists → List ℕ → Option ℕ → Query → Result Answer Refusal
+asks_of_risk f by at q = show (view_of (risk_past f) (live_of 10 f.rows f.composites) f 10 (moment_of 10 at) by) q
+
+abbrev risk : Answer
+risk = answer.Attributes ((record { attribute = codes "risk"; id = 1; values = attr.Text (codes "high") ∷ [] }) ∷ [])
+
+pub without_attr_read : asks_of_risk at_risk (codes "uni/ann") None (query.Attributes (codes "g") None) ≡ Ok (answer.Attributes [])
+unfolding at_risk told_level events_of entity_of object_of resolve placed lies_in path extensions name_of rows_of member extension_of folder_of
+without_attr_read = refl
+
+pub with_attr_read : asks_of_risk told_level (codes "uni/ann") None (query.Attributes (codes "g") None) ≡ Ok risk
+unfolding at_risk told_level events_of entity_of object_of resolve placed lies_in path extensions name_of rows_of member extension_of folder_of
+with_attr_read = refl
+
+-- who had attrRead then isn't told what was then, and root is
+pub by_the_reader_of_then : asks_of_risk no_risk (codes "uni/ann") (Some 5) (query.Attributes (codes "g") (Some 5)) ≡ Ok (answer.Attributes [])
+unfolding at_risk told_level no_risk events_of entity_of object_of resolve placed lies_in path extensions name_of rows_of member extension_of folder_of
+by_the_reader_of_then = refl
+
+pub by_root_of_then : asks_of_risk no_risk root (Some 5) (query.Attributes (codes "g") (Some 5)) ≡ Ok risk
+unfolding at_risk told_level no_risk events_of entity_of object_of resolve placed lies_in path extensions name_of rows_of member extension_of folder_of
+by_root_of_then = refl
+
+pub gone_by_now : asks_of_risk no_risk root None (query.Attributes (codes "g") None) ≡ Ok (answer.Attributes [])
+unfolding at_risk told_level no_risk events_of entity_of object_of resolve placed lies_in path extensions name_of rows_of member extension_of folder_of
+gone_by_now = refl
+
+-- a group's entity is no owner, nor is a definition, whatever the caller may do
+pub no_owner : asks_of_risk told_level (codes "uni/ann") None (query.Attributes (codes "g:gsa/g") None) ≡ Err (WrongKind (codes "object"))
+unfolding at_risk told_level events_of entity_of object_of resolve placed lies_in path extensions name_of rows_of member extension_of folder_of
+no_owner = refl
+
+pub definition_no_owner : asks_of_risk told_level (codes "uni/ann") None (query.Attributes (codes "level") None) ≡ Err (WrongKind (codes "object"))
+unfolding at_risk told_level events_of entity_of object_of resolve placed lies_in path extensions name_of rows_of member extension_of folder_of
+definition_no_owner = refl
+
+pub folder_not_read : asks_of_risk told_level (codes "uni/ann") None (query.Attributes (codes ":") None) ≡ Err (Denied (codes ":") (codes "stemAttrRead"))
+unfolding at_risk told_level events_of entity_of object_of resolve placed lies_in path extensions name_of rows_of member extension_of folder_of
+folder_not_read = refl

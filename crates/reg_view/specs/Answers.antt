@@ -1,12 +1,12 @@
 -- The answers over the facts, as they are computed: each is what `show` tells of the view.
-use Rattle.std.specs.Prelude.{ℕ, ◌==◌, ◌&&◌, List, [], Bool, false, Option, None, Some, Result, Ok, Err, map, filter, codes, length, if◌then◌else◌}
-use Rattle.std.specs.List.{list_any}
+use Rattle.std.specs.Prelude.{ℕ, ◌&&◌, List, [], Bool, false, Option, None, Some, Result, Ok, Err, map, filter, codes, length, if◌then◌else◌}
 use Rattle.reg_base.specs.Entities.{entity_of}
 use Rattle.reg_base.specs.declared.entity.Entity.{Entity}
 use Rattle.reg_base.specs.declared.entity.Entity.TheVariants as entity
 use Rattle.reg_base.specs.declared.privilege.Privilege.{Privilege}
 use Rattle.reg_base.specs.declared.privilege.Privilege.TheVariants as privilege
 use Rattle.reg_terms.specs.declared.changes_shown.SpanShown.{SpanShown}
+use Rattle.reg_terms.specs.declared.shown.AssignShown.{AssignShown}
 use Rattle.reg_terms.specs.declared.kinds.Member.TheVariants.{Person}
 use Rattle.reg_terms.specs.declared.kinds.Object.{Object}
 use Rattle.reg_terms.specs.declared.kinds.Object.TheVariants as object
@@ -18,6 +18,7 @@ use Rattle.reg_terms.specs.declared.query.Query.TheVariants as query
 use Rattle.reg_terms.specs.declared.query.Answer.{Answer}
 use Rattle.reg_terms.specs.declared.query.Answer.TheVariants as answer
 use Rattle.reg_log.specs.Numbering.{entries_after}
+use Rattle.reg_facts.specs.Attributes.{assigns_on}
 use Rattle.reg_facts.specs.Children.{child_names}
 use Rattle.reg_facts.specs.Consumers.{consumer_place}
 use Rattle.reg_facts.specs.Edits.{subject_id}
@@ -32,11 +33,11 @@ use Rattle.reg_effect.specs.Member.{member}
 use Rattle.reg_priv.specs.declared.who.Who.{Who}
 use Rattle.reg_priv.specs.Grants.{Grant}
 use Rattle.reg_priv.specs.Holders.{holders}
-use Rattle.reg_priv.specs.May.{is_root, privileges_of, visible, who_of}
+use Rattle.reg_priv.specs.May.{is_root, may, privileges_of, visible, who_of}
 use Rattle.reg_view.specs.Past.{Past, entry_shown, gone_id, history_of, span_shown}
-use Rattle.reg_view.specs.Show.{◌>>=◌, denied, found_or, in_time, root_denied, is_caller}
+use Rattle.reg_view.specs.Show.{◌>>=◌, denied, found_or, in_time, root_denied, is_caller, is_entity_text}
 use Rattle.reg_view.specs.Texts.{row_shown, composite_shown, grant_shown, definition_name, member_text}
-use Rattle.reg_view.specs.View.{is_admin, is_readable, powers_at}
+use Rattle.reg_view.specs.View.{assigns_shown, is_admin, is_readable, owned, powers_at}
 
 -- ---- groups and folders
 
@@ -180,9 +181,9 @@ abbrev pub entity_object : Live → Lists → Who → List ℕ → Option Entity
 entity_object L f c text None = Err (NotFound text)
 entity_object L f c text (Some e) = entity_found L f c e
 
--- the object that a text names, if the caller sees it: an entity where it has a `/`, and else an object by its name
+-- the object that a text names, if the caller sees it: an entity, or an object by its name
 abbrev pub object_found : Live → Lists → Who → List ℕ → Result (Option Object) Refusal
-object_found L f c text = if list_any (λ b. b == 47) text then entity_object L f c text (entity_of text) else name_found L f c text (resolve text f)
+object_found L f c text = if is_entity_text text then entity_object L f c text (entity_of text) else name_found L f c text (resolve text f)
 
 -- the name of the definition of an attribute
 abbrev pub definition_of : ℕ → Lists → List ℕ
@@ -261,6 +262,42 @@ may_of p L f now by c object entity at = do
   _ ← entity_found L f c entity
   if is_caller by entity then own_told p L f now c o at else other_told p L f now c o entity at
 
+-- ---- attributes
+
+-- the attributes of an owner, now or at a moment, of those that the caller may read
+abbrev pub attributes_at : Past → Live → Lists → Who → Object → Option ℕ → List AssignShown
+attributes_at p L f c o None = assigns_shown p L f c (assigns_on o f.assigns)
+attributes_at p L f c o (Some at) = owned p L f c at o
+
+-- and so they are told
+abbrev pub attributes_told : Past → Live → Lists → ℕ → Who → Object → Option ℕ → Result Answer Refusal
+attributes_told p L f now c o at = do
+  _ ← in_time now at
+  Ok (answer.Attributes (attributes_at p L f c o at))
+
+-- the attributes of a folder or a group, if the caller may read them
+abbrev pub owner_told : Past → Live → Lists → ℕ → Who → Object → Privilege → Option ℕ → Result Answer Refusal
+owner_told p L f now c o wanted at = if may L f c o wanted then attributes_told p L f now c o at else Err (denied (name_of o f) wanted)
+
+-- the attributes of an object that this text names: of a folder or a group by its name, or of a person
+abbrev pub attributes_of_object : Past → Live → Lists → ℕ → Who → List ℕ → Object → Option ℕ → Result Answer Refusal
+attributes_of_object p L f now c text (object.Folder d) at = owner_told p L f now c (object.Folder d) privilege.StemAttrRead at
+attributes_of_object p L f now c text (object.Group g) at = if is_entity_text text then unfit (codes "object") now at else owner_told p L f now c (object.Group g) privilege.GroupAttrRead at
+attributes_of_object p L f now c text (object.Def a) at = unfit (codes "object") now at
+attributes_of_object p L f now c text (object.Attr a) at = unfit (codes "object") now at
+attributes_of_object p L f now c text (object.Subject s) at = attributes_told p L f now c (object.Subject s) at
+
+-- and where it may be none
+abbrev pub attributes_on : Past → Live → Lists → ℕ → Who → List ℕ → Option Object → Option ℕ → Result Answer Refusal
+attributes_on p L f now c text None at = unfit (codes "object") now at
+attributes_on p L f now c text (Some o) at = attributes_of_object p L f now c text o at
+
+-- the attributes of what this text names, now or at a moment
+abbrev pub attributes_of : Past → Live → Lists → ℕ → Who → List ℕ → Option ℕ → Result Answer Refusal
+attributes_of p L f now c text at = do
+  o ← object_found L f c text
+  attributes_on p L f now c text o at
+
 -- ---- the change log
 
 -- the entries after a place, at most some, as they are shown
@@ -288,5 +325,6 @@ answer_of p L f now by c (query.Rows group) = rows_of_group L f c group
 answer_of p L f now by c (query.Groups subject at) = groups_of p L f now c subject at
 answer_of p L f now by c (query.Grants object at) = grants_of p L f now c object at
 answer_of p L f now by c (query.May object entity at) = may_of p L f now by c object entity at
+answer_of p L f now by c (query.Attributes object at) = attributes_of p L f now c object at
 answer_of p L f now by c (query.History group) = history_told p L f c group
 answer_of p L f now by c (query.Log consumer max) = log_of p L f c consumer max

@@ -21,6 +21,7 @@ named_moment (query.Members group at) = at
 named_moment (query.Groups subject at) = at
 named_moment (query.Grants object at) = at
 named_moment (query.May object entity at) = at
+named_moment (query.Attributes object at) = at
 named_moment _ = None
 
 -- the moment that a query asks of

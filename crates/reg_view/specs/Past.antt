@@ -21,7 +21,7 @@ use Rattle.reg_machine.specs.Past as machine
 
 -- ---- what is told
 
--- the facts at a moment, who was a member then (of a group, a person), when a person was a member of a group, what was changed, the groups that went in the order in which they did, each with the name that it had then, and the name that an object has or had last
+-- the facts at a moment, who was a member then (of a group, a person), when a person was a member of a group, what was changed, the groups that went in the order in which they did, each with the name that it had then, the name that an object has or had last, and the definition of which an attribute was made
 pub record Past : Type 0 where
   pub facts : ℕ → Lists
   pub was : ℕ → ℕ → ℕ → Bool
@@ -29,6 +29,7 @@ pub record Past : Type 0 where
   pub lines : List Line
   pub gone : List (ℕ × List ℕ)
   pub last_name : Object → List ℕ
+  pub def_of : ℕ → Option ℕ
 
 -- what a history tells at a clock
 abbrev pub past : List Stamped → ℕ → Past
@@ -39,6 +40,7 @@ past history now = record {
   lines = machine.log history now;
   gone = machine.gone_names history now;
   last_name = machine.last_name history now;
+  def_of = machine.def_of history now;
 }
 
 -- what a state of the machine tells

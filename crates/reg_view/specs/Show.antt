@@ -17,7 +17,7 @@ use Rattle.reg_terms.specs.declared.query.Answer.TheVariants as answer
 use Rattle.reg_facts.specs.Children.{by_bytes, is_among}
 use Rattle.reg_facts.specs.Naming.{home_of}
 use Rattle.reg_view.specs.Past.{GroupPast, last_where}
-use Rattle.reg_view.specs.View.{View, AttributeSeen, ConsumerSeen, GroupGone, GroupSeen, GroupRead, Administered, Powers}
+use Rattle.reg_view.specs.View.{View, AttributeSeen, ConsumerSeen, GroupGone, GroupSeen, GroupRead, Administered, OwnerRead, Powers}
 
 -- ---- finding
 
@@ -160,11 +160,15 @@ pub data Kind : Type 0 where
   ADefinition : Kind
   AnAttribute : List ℕ → Kind
 
--- what an object text names: what has a name, a subject, or an entity of the registry itself
+-- what an object text names: what has a name, a subject by its text, or an entity of the registry itself
 pub data Meant : Type 0 where
   Named : List ℕ → Kind → Meant
-  ASubject : Meant
+  ASubject : List ℕ → Meant
   Internal : Meant
+
+-- a text is an entity's where it has a `/`, which no name has
+abbrev pub is_entity_text : List ℕ → Bool
+is_entity_text text = list_any (λ b. b == 47) text
 
 -- an object by its name
 abbrev pub object_named : View → List ℕ → Result Meant Refusal
@@ -185,7 +189,7 @@ object_named v text =
 
 -- the object that an entity is
 abbrev pub object_meant : Entity → Meant
-object_meant (entity.Person text) = ASubject
+object_meant (entity.Person text) = ASubject text
 object_meant (entity.Group name) = Named name AGroup
 object_meant entity.System = Internal
 object_meant entity.Everyone = Internal
@@ -197,9 +201,9 @@ entity_meant v text (Some e) = do
   found ← entity_seen v e
   Ok (object_meant found)
 
--- what an object text names, if the caller sees it: an entity where it has a `/`, and else an object by its name
+-- what an object text names, if the caller sees it: an entity, or an object by its name
 abbrev pub object_seen : View → List ℕ → Result Meant Refusal
-object_seen v text = if list_any (λ b. b == 47) text then entity_meant v text (entity_of text) else object_named v text
+object_seen v text = if is_entity_text text then entity_meant v text (entity_of text) else object_named v text
 
 -- what is answered to who isn't an object's admin
 abbrev pub not_admin : List ℕ → Kind → Refusal
@@ -234,7 +238,7 @@ abbrev pub grants_on : View → Option ℕ → Meant → Result Answer Refusal
 grants_on v at (Named name kind) = do
   a ← as_admin v name kind
   timed v at (grants_told a kind)
-grants_on v at ASubject = as_root v (timed v at (Err (WrongKind (codes "object"))))
+grants_on v at (ASubject text) = as_root v (timed v at (Err (WrongKind (codes "object"))))
 grants_on v at Internal = timed v at (Err (WrongKind (codes "object")))
 
 -- the grants on what this text names, now or at a moment
@@ -273,7 +277,7 @@ abbrev pub own_told : View → Option ℕ → Meant → Result Answer Refusal
 own_told v at (Named name kind) = do
   p ← found_or (named (λ (p : Powers). p.name) v.own name) (NotFound name)
   timed v at (Ok (answer.May p.privileges))
-own_told v at ASubject = timed v at (Ok (answer.May []))
+own_told v at (ASubject text) = timed v at (Ok (answer.May []))
 own_told v at Internal = timed v at (Err (WrongKind (codes "object")))
 
 -- what another may do with an object
@@ -281,7 +285,7 @@ abbrev pub other_told : View → Option ℕ → Meant → Entity → Result Answ
 other_told v at (Named name kind) e = do
   a ← as_admin v name kind
   timed v at (powers_for a e)
-other_told v at ASubject e = as_root v (timed v at (nothing_for e))
+other_told v at (ASubject text) e = as_root v (timed v at (nothing_for e))
 other_told v at Internal e = timed v at (Err (WrongKind (codes "object")))
 
 -- what an entity may do with what this text names: the caller may ask it of itself, and the object's admin of anyone
@@ -290,6 +294,29 @@ shown_may v object entity at = do
   o ← object_seen v object
   e ← entity_seen v entity
   if is_caller v.caller e then own_told v at o else other_told v at o e
+
+-- ---- attributes
+
+-- the attributes of an owner that is read, or why it isn't
+abbrev pub owner_told : View → Option ℕ → List OwnerRead → List ℕ → Refusal → Result Answer Refusal
+owner_told v at owners name refusal = do
+  o ← found_or (named (λ (o : OwnerRead). o.name) owners name) refusal
+  timed v at (Ok (answer.Attributes o.assignments))
+
+-- the attributes of what is meant by this text, now or at a moment: of a folder or a group by its name, or of a person; anything else owns none
+abbrev pub attributes_on : View → Option ℕ → List ℕ → Meant → Result Answer Refusal
+attributes_on v at text (Named name AFolder) = owner_told v at v.owners name (denied name privilege.StemAttrRead)
+attributes_on v at text (Named name AGroup) = if is_entity_text text then timed v at (Err (WrongKind (codes "object"))) else owner_told v at v.owners name (denied name privilege.GroupAttrRead)
+attributes_on v at text (Named name ADefinition) = timed v at (Err (WrongKind (codes "object")))
+attributes_on v at text (Named name (AnAttribute definition)) = timed v at (Err (WrongKind (codes "object")))
+attributes_on v at text (ASubject person) = owner_told v at v.persons person (NotFound person)
+attributes_on v at text Internal = timed v at (Err (WrongKind (codes "object")))
+
+-- the attributes of what this text names, now or at a moment
+abbrev pub shown_attributes : View → List ℕ → Option ℕ → Result Answer Refusal
+shown_attributes v object at = do
+  o ← object_seen v object
+  attributes_on v at object o
 
 -- ---- the change log
 
@@ -310,6 +337,7 @@ shown v (query.Rows group) = shown_rows v group
 shown v (query.Groups subject at) = shown_groups v subject at
 shown v (query.Grants object at) = shown_grants v object at
 shown v (query.May object entity at) = shown_may v object entity at
+shown v (query.Attributes object at) = shown_attributes v object at
 shown v (query.History group) = shown_history v group
 shown v (query.Log consumer max) = shown_log v consumer max
 

@@ -32,6 +32,7 @@ names_of (query.Rows group) = group ∷ []
 names_of (query.Groups subject at) = entity_names subject
 names_of (query.Grants object at) = object_names object
 names_of (query.May object e at) = object_names object ++ entity_names e
+names_of (query.Attributes object at) = object_names object
 names_of (query.History group) = group ∷ []
 names_of (query.Log consumer max) = consumer ∷ []
 

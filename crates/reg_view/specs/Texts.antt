@@ -1,4 +1,4 @@
--- What is shown of rows, factors and holders: by texts.
+-- What is shown of rows, factors, holders and assignments: by texts.
 use Rattle.std.specs.Prelude.{ℕ, ◌==◌, ◌++◌, List, [], Option, None, Some, option_map, codes, if◌then◌else◌}
 use Rattle.std.specs.List.{find}
 use Rattle.reg_facts.specs.Lists.{Lists}
@@ -13,6 +13,8 @@ use Rattle.reg_terms.specs.declared.kinds.Object.TheVariants as object
 use Rattle.reg_terms.specs.declared.rows.MemberRow.{MemberRow}
 use Rattle.reg_terms.specs.declared.rows.CompositeRow.{CompositeRow}
 use Rattle.reg_terms.specs.declared.rows.AttributeRow.{AttributeRow}
+use Rattle.reg_terms.specs.declared.rows.AssignRow.{AssignRow}
+use Rattle.reg_terms.specs.declared.shown.AssignShown.{AssignShown}
 use Rattle.reg_terms.specs.declared.shown.FactorsShown.{FactorsShown}
 use Rattle.reg_terms.specs.declared.shown.GrantShown.{GrantShown}
 use Rattle.reg_terms.specs.declared.shown.RowShown.{RowShown}
@@ -57,3 +59,7 @@ grant_shown p f g = record { holder = holder_text p f g.1; privilege = g.0 }
 -- the name of the definition of an attribute
 abbrev pub definition_name : Lists → AttributeRow → List ℕ
 definition_name f row = name_of (object.Def row.definition) f
+
+-- an assignment as it is shown: by the name that its attribute has or had last
+abbrev pub assign_shown : Past → AssignRow → AssignShown
+assign_shown p row = record { attribute = p.last_name (object.Attr row.attribute); id = row.id; values = row.values }

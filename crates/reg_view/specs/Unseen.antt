@@ -30,6 +30,7 @@ AsksOf name (query.Rows group) = group ≡ name
 AsksOf name (query.Groups subject at) = IsGroup name subject
 AsksOf name (query.Grants text at) = ⊥
 AsksOf name (query.May text e at) = ⊥
+AsksOf name (query.Attributes text at) = ⊥
 AsksOf name (query.History group) = group ≡ name
 AsksOf name (query.Log consumer max) = ⊥
 

@@ -10,11 +10,14 @@ use Rattle.reg_terms.specs.declared.rows.GroupRow.{GroupRow}
 use Rattle.reg_terms.specs.declared.rows.SubjectRow.{SubjectRow}
 use Rattle.reg_terms.specs.declared.rows.DefinitionRow.{DefinitionRow}
 use Rattle.reg_terms.specs.declared.rows.AttributeRow.{AttributeRow}
+use Rattle.reg_terms.specs.declared.rows.AssignRow.{AssignRow}
+use Rattle.reg_terms.specs.declared.shown.AssignShown.{AssignShown}
 use Rattle.reg_terms.specs.declared.shown.FactorsShown.{FactorsShown}
 use Rattle.reg_terms.specs.declared.shown.GrantShown.{GrantShown}
 use Rattle.reg_terms.specs.declared.shown.RowShown.{RowShown}
 use Rattle.reg_terms.specs.declared.changes_shown.EntryShown.{EntryShown}
 use Rattle.reg_terms.specs.declared.rows.ConsumerRow.{ConsumerRow}
+use Rattle.reg_facts.specs.Attributes.{assigns_on}
 use Rattle.reg_facts.specs.Lists.{Lists}
 use Rattle.reg_facts.specs.Naming.{name_of}
 use Rattle.reg_facts.specs.RowOrder.{rows_of}
@@ -25,7 +28,7 @@ use Rattle.reg_priv.specs.Holders.{holders}
 use Rattle.reg_priv.specs.May.{is_root, may, visible, who_of}
 use Rattle.reg_view.specs.Past.{Past, GroupPast, group_past, log_shown}
 use Rattle.reg_view.specs.Powers.{powers_then}
-use Rattle.reg_view.specs.Texts.{row_shown, composite_shown, grant_shown, definition_name}
+use Rattle.reg_view.specs.Texts.{row_shown, composite_shown, grant_shown, assign_shown, definition_name}
 
 -- ---- the record
 
@@ -68,7 +71,12 @@ pub record Administered : Type 0 where
   pub system : List Privilege
   pub persons : List Powers
 
--- what a caller may see; consumers, the log and the groups that are gone are root's alone. A subject has no grants and no privileges are on it, so it is among the objects of neither list of privileges
+-- an owner whose attributes the caller may read, under its name or text: the assignments to it at the moment asked on whose definition the caller has attrRead
+pub record OwnerRead : Type 0 where
+  pub name : List ℕ
+  pub assignments : List AssignShown
+
+-- what a caller may see; the owners are folders and groups, and the attributes of persons are told to all; consumers, the log and the groups that are gone are root's alone. A subject has no grants and no privileges are on it, so it is among the objects of neither list of privileges
 pub record View : Type 0 where
   pub now : ℕ
   pub caller : List ℕ
@@ -82,13 +90,15 @@ pub record View : Type 0 where
   pub readable : List GroupRead
   pub administered : List Administered
   pub own : List Powers
+  pub owners : List OwnerRead
+  pub persons : List OwnerRead
   pub consumers : List ConsumerSeen
   pub log : List EntryShown
   pub gone : List GroupGone
 
 -- who doesn't stand sees nothing
 abbrev pub blank : ℕ → List ℕ → View
-blank now by = record { now = now; caller = by; stands = false; is_root = false; folders = []; subjects = []; groups = []; definitions = []; attributes = []; readable = []; administered = []; own = []; consumers = []; log = []; gone = [] }
+blank now by = record { now = now; caller = by; stands = false; is_root = false; folders = []; subjects = []; groups = []; definitions = []; attributes = []; readable = []; administered = []; own = []; owners = []; persons = []; consumers = []; log = []; gone = [] }
 
 -- ---- what it holds
 
@@ -175,6 +185,33 @@ administered p f at o = record {
 abbrev pub own_powers : Past → Lists → ℕ → Who → Object → Powers
 own_powers p f at c o = record { name = name_of o f; privileges = powers_at p f at c o }
 
+-- whether the caller may read the attributes of an owner: of a folder or a group by a privilege on it, and of a person always; a definition and an attribute own none
+abbrev pub reads_owner : Live → Lists → Who → Object → Bool
+reads_owner L f c (object.Folder d) = may L f c (object.Folder d) privilege.StemAttrRead
+reads_owner L f c (object.Group g) = may L f c (object.Group g) privilege.GroupAttrRead
+reads_owner L f c (object.Def a) = false
+reads_owner L f c (object.Attr a) = false
+reads_owner L f c (object.Subject s) = true
+
+-- whether the caller may read the assignments of an attribute: by attrRead now on the definition of which it was made; on one that is gone root alone has it
+abbrev pub reads_attribute : Past → Live → Lists → Who → ℕ → Bool
+reads_attribute p L f c a = elim (p.def_of a) [ None ↦ false | Some d ↦ may L f c (object.Def d) privilege.AttrRead ]
+
+-- of some assignments those that the caller may read
+abbrev pub assigns_shown : Past → Live → Lists → Who → List AssignRow → List AssignShown
+assigns_shown p L f c rows = map (assign_shown p) (filter (λ (row : AssignRow). reads_attribute p L f c row.attribute) rows)
+
+-- those to an owner at a moment
+abbrev pub owned : Past → Live → Lists → Who → ℕ → Object → List AssignShown
+owned p L f c at o = assigns_shown p L f c (assigns_on o (p.facts at).assigns)
+
+-- a folder or a group as an owner, and a person
+abbrev pub owner_read : Past → Live → Lists → Who → ℕ → Object → OwnerRead
+owner_read p L f c at o = record { name = name_of o f; assignments = owned p L f c at o }
+
+abbrev pub person_read : Past → Live → Lists → Who → ℕ → SubjectRow → OwnerRead
+person_read p L f c at row = record { name = row.text; assignments = owned p L f c at (object.Subject row.id) }
+
 -- what a caller that stands may see, of the past what was at a moment: whether it may see it is judged now
 abbrev pub seen_by : Past → Live → Lists → ℕ → ℕ → List ℕ → Who → View
 seen_by p L f now at by c = record {
@@ -190,6 +227,8 @@ seen_by p L f now at by c = record {
   readable = shown_where group_object (is_readable L f c) (group_read p f at) f.groups;
   administered = shown_where (λ (o : Object). o) (is_admin L f c) (administered p f at) (objects f);
   own = shown_where (λ (o : Object). o) (visible L f c) (own_powers p f at c) (objects f);
+  owners = shown_where (λ (o : Object). o) (reads_owner L f c) (owner_read p L f c at) (objects f);
+  persons = map (person_read p L f c at) f.subjects;
   consumers = for_root (is_root L f c) (map consumer_seen f.consumers);
   log = for_root (is_root L f c) (log_shown p);
   gone = for_root (is_root L f c) (map (group_gone p f at) p.gone);

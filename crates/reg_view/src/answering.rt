@@ -11,6 +11,7 @@ ghost use Rattle.reg_view.specs.View.{caller_of, view_of};
 
 use crate::administering::grants_of;
 use crate::allowing::may_of;
+use crate::attributes::attributes_of;
 use crate::grouping::{group_of, members_of, rows_of_group};
 use crate::history::history_told;
 use crate::listing::listing_of;
@@ -56,6 +57,9 @@ fn answer_of<K: Kept>(
         Query::Grants { object, at } => grants_of(alloc, machine, facts, kept, who, object, *at),
         Query::May { object, entity, at } => {
             may_of(alloc, machine, facts, kept, by, who, object, entity, *at)
+        }
+        Query::Attributes { object, at } => {
+            attributes_of(alloc, machine, facts, kept, who, object, *at)
         }
         Query::History { group } => history_told(alloc, machine, facts, kept, who, group),
         Query::Log { consumer, max } => log_of(alloc, machine, facts, kept, who, consumer, *max),

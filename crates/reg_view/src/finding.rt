@@ -3,6 +3,7 @@ ghost use Rattle.std.specs.Prelude.{◌≡◌, IfOk};
 ghost use Rattle.reg_base.specs.Entities.{entity_of};
 ghost use Rattle.reg_facts.specs.Naming.{resolve};
 ghost use Rattle.reg_view.specs.Answers.{entity_found, entity_object, name_found, object_found};
+ghost use Rattle.reg_view.specs.Show.{is_entity_text};
 
 use crate::refusing::not_found;
 use crate::seeing::group_seen;
@@ -71,8 +72,15 @@ fn name_found<K: Kept>(
     Ok(Ok(Some(object)))
 }
 
-/// The object that a text names, if the caller sees it: an entity where it has a `/`, and else an
-/// object by its name. An entity of the registry itself is none.
+/// Whether a text is an entity's: it has a `/`, which no name has.
+pub fn is_entity_text(text: &Text) -> bool
+    ensures { result ≡ is_entity_text text.now }
+{
+    text.bytes().contains(&b'/')
+}
+
+/// The object that a text names, if the caller sees it: an entity, or an object by its name. An entity
+/// of the registry itself is none.
 pub fn object_found<K: Kept>(
     alloc: Global,
     facts: &Facts,
@@ -82,7 +90,7 @@ pub fn object_found<K: Kept>(
 ) -> Result<Result<Option<Object>, Refusal>, AllocError>
     ensures { IfOk result (λ r. r ≡ object_found (K.held kept.now) facts.now who.now text.now) }
 {
-    if text.bytes().contains(&b'/') {
+    if is_entity_text(text) {
         return entity_object(alloc, facts, kept, who, text);
     }
     name_found(alloc, facts, kept, who, text)

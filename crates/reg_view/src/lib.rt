@@ -5,6 +5,7 @@ mod administering;
 mod allowing;
 mod answering;
 mod asking;
+mod attributes;
 mod earlier;
 mod finding;
 mod grouping;

@@ -1,8 +1,6 @@
 // Objects and holders by their texts.
 ghost use Rattle.std.specs.Prelude.{◌≡◌, IfOk};
-ghost use Rattle.std.specs.Option.{option_copied};
 ghost use Rattle.reg_facts.specs.Naming.{name_of};
-ghost use Rattle.reg_facts.specs.Rows.{attribute_row};
 ghost use Rattle.reg_facts.specs.Sound.{has_group};
 ghost use Rattle.reg_view.specs.Answers.{definition_of};
 ghost use Rattle.reg_view.specs.Past.{past_at};
@@ -10,7 +8,7 @@ ghost use Rattle.reg_view.specs.Texts.{group_called, holder_text, person_called}
 
 use reg_base::{AttrId, GroupId, SubjectId, Text};
 use reg_effect::Kept;
-use reg_facts::{AttributeRow, Facts, Holder, Object};
+use reg_facts::{Facts, Holder, Object};
 use reg_machine::Machine;
 use reg_names::name_of;
 use std::alloc::{AllocError, Global};
@@ -26,23 +24,11 @@ pub fn object_name(alloc: Global, facts: &Facts, object: &Object) -> Result<Text
     }
 }
 
-/// The attribute of this id, if there is one.
-fn attribute(facts: &Facts, id: AttrId) -> Option<&AttributeRow>
-    ensures { option_copied result ≡ attribute_row id facts.now.attributes }
-{
-    for row in facts.attributes() {
-        if row.id.number() == id.number() {
-            return Some(row);
-        }
-    }
-    None
-}
-
 /// The name of the definition of an attribute.
 pub fn definition_of(alloc: Global, facts: &Facts, id: AttrId) -> Result<Text, AllocError>
     ensures { IfOk result (λ text. text ≡ definition_of id facts.now) }
 {
-    match attribute(facts, id) {
+    match facts.attribute(id) {
         Some(row) => object_name(alloc, facts, &Object::Def(row.definition)),
         None => Text::new(alloc, ":"),
     }

@@ -6,9 +6,12 @@ use Rattle.std.proofs.lemmas.Option.{same_Some}
 use Rattle.reg_base.specs.Names.{is_extension, is_name}
 use Rattle.reg_base.specs.declared.entity.Entity.{Entity}
 use Rattle.reg_base.specs.declared.privilege.Privilege.{Privilege}
+use Rattle.reg_terms.specs.declared.kinds.DefKind.{DefKind}
 use Rattle.reg_terms.specs.declared.kinds.InheritKind.{InheritKind}
+use Rattle.reg_terms.specs.declared.kinds.Owners.{Owners}
 use Rattle.reg_terms.specs.declared.kinds.Scope.{Scope}
 use Rattle.reg_terms.specs.declared.kinds.SetOp.{SetOp}
+use Rattle.reg_terms.specs.declared.kinds.Value.{Value}
 use Rattle.reg_terms.specs.declared.command.Command.{Command}
 use Rattle.reg_terms.specs.declared.command.Command.TheVariants.{ConsumerAck}
 use Rattle.reg_terms.specs.declared.table.CommandKind.{CommandKind}
@@ -21,12 +24,13 @@ use Rattle.reg_terms.specs.Parts.{◌>>=◌, field_kind}
 use Rattle.reg_terms.specs.Table.{command_row, field_kinds, commands, coded, kind_of, fields_of, code_of, made_command, IsMadeCommand, IsApart}
 use Rattle.reg_wire.specs.Fields.{field_bytes}
 use Rattle.reg_wire.specs.Payload.{fields_bytes, command_bytes}
-use Rattle.reg_wire.specs.Reading.{byte_at, name_at, folder_at, extension_at, display_at, entity_at, object_at, optional_moment_at, ranged_at, set_op_at, inherit_kind_at, scope_at, privilege_at, stands, field_at, fields_at, command_at, command_of}
+use Rattle.reg_wire.specs.Reading.{byte_at, name_at, folder_at, extension_at, display_at, entity_at, object_at, optional_moment_at, ranged_at, set_op_at, inherit_kind_at, scope_at, privilege_at, owners_at, flag_at, def_kind_at, value_at, stands, field_at, fields_at, command_at, command_of}
 use Rattle.reg_wire.proofs.Texts.{name_short, folder_short, extension_short, display_short}
 use Rattle.reg_wire.proofs.Exact.{IsExact, bind_some, tested_exact, optional_exact, set_op_exact, ranged_takes, ranged_again}
 use Rattle.reg_wire.proofs.Entities.{chosen, entity_exact}
 use Rattle.reg_wire.proofs.Objects.{object_short}
 use Rattle.reg_wire.proofs.Grants.{inherit_kind_exact, scope_exact, privilege_exact, byte_takes}
+use Rattle.reg_wire.proofs.Attributes.{owners_exact, flag_exact, def_kind_exact, value_exact}
 
 -- what the table of ops says of commands that are made of fields, and of those that are taken apart
 abbrev pub TableMakes : Type 0
@@ -77,6 +81,10 @@ field_takes kind.SetOp bytes x e = taken kind.SetOp (λ (v : SetOp). field.SetOp
 field_takes kind.InheritKind bytes x e = taken kind.InheritKind (λ (v : InheritKind). field.InheritKind v) inherit_kind_at (λ v. refl) inherit_kind_exact bytes x e
 field_takes kind.Scope bytes x e = taken kind.Scope (λ (v : Scope). field.Scope v) scope_at (λ v. refl) scope_exact bytes x e
 field_takes kind.Privilege bytes x e = taken kind.Privilege (λ (v : Privilege). field.Privilege v) privilege_at (λ v. refl) privilege_exact bytes x e
+field_takes kind.Owners bytes x e = taken kind.Owners (λ (v : Owners). field.Owners v) owners_at (λ v. refl) owners_exact bytes x e
+field_takes kind.Flag bytes x e = taken kind.Flag (λ (v : Bool). field.Flag v) flag_at (λ v. refl) flag_exact bytes x e
+field_takes kind.DefKind bytes x e = taken kind.DefKind (λ (v : DefKind). field.DefKind v) def_kind_at (λ v. refl) def_kind_exact bytes x e
+field_takes kind.Value bytes x e = taken kind.Value (λ (v : Value). field.Value v) value_at (λ v. refl) value_exact bytes x e
 field_takes (kind.Number least most) bytes x e =
     let v = bind_some (ranged_at least most bytes) (λ value. Some (field.Number value.0 least most, value.1)) x e in
     let t = ranged_takes least most bytes v.0 v.1 in
@@ -100,6 +108,10 @@ field_again (field.SetOp v) rest h wide = rw (set_op_exact.again v rest h) refl
 field_again (field.InheritKind v) rest h wide = rw (inherit_kind_exact.again v rest h) refl
 field_again (field.Scope v) rest h wide = rw (scope_exact.again v rest h) refl
 field_again (field.Privilege v) rest h wide = rw (privilege_exact.again v rest h) refl
+field_again (field.Owners v) rest h wide = rw (owners_exact.again v rest h) refl
+field_again (field.Flag v) rest h wide = rw (flag_exact.again v rest h) refl
+field_again (field.DefKind v) rest h wide = rw (def_kind_exact.again v rest h) refl
+field_again (field.Value v) rest h wide = rw (value_exact.again v rest h) refl
 field_again (field.Number v least most) rest h wide = rw (ranged_again least most v rest h (leb-true _ _ wide)) refl
 
 -- ---- fields one behind the other

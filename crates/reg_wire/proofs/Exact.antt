@@ -68,7 +68,7 @@ wide64 = record {
   below = λ bytes each. omega (arith, each 0, each 1, each 2, each 3, each 4, each 5, each 6, each 7);
 }
 
-number_takes : (w : Width) (limit : ℕ) (wide : IsWide w limit) (bytes : List ℕ) (x : ℕ × List ℕ) → number_at w bytes ≡ Some x → (bytes ≡ to_le_bytes w x.0 ++ x.1) × (x.0 < limit)
+pub number_takes : (w : Width) (limit : ℕ) (wide : IsWide w limit) (bytes : List ℕ) (x : ℕ × List ℕ) → number_at w bytes ≡ Some x → (bytes ≡ to_le_bytes w x.0 ++ x.1) × (x.0 < limit)
 unfolding number_at
 number_takes w limit wide bytes x e =
     let front = take (byte_len w) bytes in
@@ -81,7 +81,7 @@ number_takes w limit wide bytes x e =
     let parts : bytes ≡ to_le_bytes w (from_le_bytes w front) ++ drop (byte_len w) bytes = rw again (sym (take-append-drop (byte_len w) bytes)) in
     subst (λ (y : ℕ × List ℕ). (bytes ≡ to_le_bytes w y.0 ++ y.1) × (y.0 < limit)) g.1 (parts, wide.below front each)
 
-number_again : (w : Width) (limit : ℕ) (wide : IsWide w limit) (n : ℕ) (rest : List ℕ) → n < limit → number_at w (to_le_bytes w n ++ rest) ≡ Some (n, rest)
+pub number_again : (w : Width) (limit : ℕ) (wide : IsWide w limit) (n : ℕ) (rest : List ℕ) → n < limit → number_at w (to_le_bytes w n ++ rest) ≡ Some (n, rest)
 unfolding number_at
 number_again w limit wide n rest lt =
     let len = wide.len n in

@@ -4,5 +4,6 @@ mod Entities
 mod Lists
 mod Objects
 mod Grants
+mod Attributes
 mod Commands
 pub mod Payloads

@@ -5,15 +5,19 @@ use Rattle.std.proofs.lemmas.Bool.{and_parts, eqb-true}
 use Rattle.std.proofs.lemmas.List.{nil_from_length, length-append}
 use Rattle.std.proofs.lemmas.Option.{cond_some}
 use Rattle.reg_terms.specs.declared.command.Stamped.{Stamped}
+use Rattle.reg_terms.specs.declared.kinds.DefKind.{DefKind}
+use Rattle.reg_terms.specs.declared.kinds.DefKind.TheVariants.{Marker, Integer, Text, Timestamp}
 use Rattle.reg_terms.specs.declared.kinds.InheritKind.{InheritKind}
 use Rattle.reg_terms.specs.declared.kinds.InheritKind.TheVariants.{Folder, Group, Definition}
 use Rattle.reg_terms.specs.declared.kinds.Scope.{Scope}
 use Rattle.reg_terms.specs.declared.kinds.Scope.TheVariants.{One, Sub}
 use Rattle.reg_terms.specs.declared.kinds.SetOp.{SetOp}
 use Rattle.reg_terms.specs.declared.kinds.SetOp.TheVariants.{Intersection, Complement}
+use Rattle.reg_terms.specs.declared.kinds.Value.{Value}
+use Rattle.reg_terms.specs.declared.kinds.Value.TheVariants as value
 use Rattle.reg_terms.specs.declared.field.Field.{Field}
 use Rattle.reg_terms.specs.declared.field.Field.TheVariants as field
-use Rattle.reg_terms.specs.Forms.{is_moment, is_entity, is_field, has_form}
+use Rattle.reg_terms.specs.Forms.{is_moment, is_entity, is_field, is_value, has_form}
 use Rattle.reg_terms.specs.Parts.{◌>>=◌}
 use Rattle.reg_terms.specs.Table.{fields_of, code_of}
 use Rattle.reg_wire.specs.Fields.{entity_text, moment_bytes, field_bytes}
@@ -105,6 +109,16 @@ scope_short : (scope : Scope) → length (field_bytes (field.Scope scope)) ≤ 1
 scope_short One = lit≤ tt
 scope_short Sub = lit≤ tt
 
+def_kind_short : (kind : DefKind) → length (field_bytes (field.DefKind kind)) ≤ 1008
+def_kind_short Marker = lit≤ tt
+def_kind_short Integer = lit≤ tt
+def_kind_short Text = lit≤ tt
+def_kind_short Timestamp = lit≤ tt
+
+value_short : (v : Value) → is_value v ≡ true → length (field_bytes (field.Value v)) ≤ 1008
+value_short (value.Int number) h = lit≤ tt
+value_short (value.Text text) h = omega (arith, display_short text h)
+
 field_short : (f : Field) → is_field f ≡ true → length (field_bytes f) ≤ 1008
 field_short (field.Name text) h = omega (arith, name_short text h)
 field_short (field.Folder text) h = omega (arith, folder_short text h)
@@ -117,6 +131,10 @@ field_short (field.SetOp kind) h = set_op_short kind
 field_short (field.InheritKind kind) h = inherit_kind_short kind
 field_short (field.Scope scope) h = scope_short scope
 field_short (field.Privilege privilege) h = lit≤ tt
+field_short (field.Owners owners) h = lit≤ tt
+field_short (field.Flag flag) h = lit≤ tt
+field_short (field.DefKind kind) h = def_kind_short kind
+field_short (field.Value v) h = value_short v h
 field_short (field.Number value least most) h = lit≤ tt
 
 fields_short : (fs : List Field) → list_all is_field fs ≡ true → length (flat_map field_bytes fs) ≤ 1008 * length fs

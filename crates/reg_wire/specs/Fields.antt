@@ -1,15 +1,20 @@
 -- The bytes of the fields of a payload.
-use Rattle.std.specs.Prelude.{ℕ, List, [], ◌∷◌, ◌++◌, length, codes, Option, Some, None}
-use Rattle.std.specs.Int.{w16, w64, to_le_bytes}
+use Rattle.std.specs.Prelude.{ℕ, ℤ, ◌+◌, ◌*◌, Bool, List, [], ◌∷◌, ◌++◌, length, codes, Option, Some, None}
+use Rattle.std.specs.Int.{w16, w64, cast_unsigned, from_bool, to_le_bytes}
 use Rattle.reg_base.specs.declared.entity.Entity.{Entity}
 use Rattle.reg_base.specs.declared.entity.Entity.TheVariants as entity
 use Rattle.reg_base.specs.declared.privilege.Privilege.{Privilege}
+use Rattle.reg_terms.specs.declared.kinds.DefKind.{DefKind}
+use Rattle.reg_terms.specs.declared.kinds.DefKind.TheVariants.{Marker, Integer, Text, Timestamp}
 use Rattle.reg_terms.specs.declared.kinds.InheritKind.{InheritKind}
 use Rattle.reg_terms.specs.declared.kinds.InheritKind.TheVariants.{Folder, Group, Definition}
+use Rattle.reg_terms.specs.declared.kinds.Owners.{Owners}
 use Rattle.reg_terms.specs.declared.kinds.Scope.{Scope}
 use Rattle.reg_terms.specs.declared.kinds.Scope.TheVariants.{One, Sub}
 use Rattle.reg_terms.specs.declared.kinds.SetOp.{SetOp}
 use Rattle.reg_terms.specs.declared.kinds.SetOp.TheVariants.{Intersection, Complement}
+use Rattle.reg_terms.specs.declared.kinds.Value.{Value}
+use Rattle.reg_terms.specs.declared.kinds.Value.TheVariants as value
 use Rattle.reg_terms.specs.declared.field.Field.{Field}
 use Rattle.reg_terms.specs.declared.field.Field.TheVariants as field
 use Rattle.reg_terms.specs.Privileges.{code}
@@ -58,6 +63,33 @@ scope_bytes Sub = 2 ∷ []
 abbrev pub privilege_bytes : Privilege → List ℕ
 privilege_bytes privilege = code privilege ∷ []
 
+-- one byte: 1 for folders, 2 for groups and 4 for subjects, added up
+abbrev pub owners_code : Owners → ℕ
+owners_code owners = from_bool owners.folder + 2 * from_bool owners.group + 4 * from_bool owners.subject
+
+abbrev pub owners_bytes : Owners → List ℕ
+owners_bytes owners = owners_code owners ∷ []
+
+-- 1 for what holds, 0 for what doesn't
+abbrev pub flag_bytes : Bool → List ℕ
+flag_bytes flag = from_bool flag ∷ []
+
+-- 1 for markers, 2 for integers, 3 for texts, 4 for timestamps
+abbrev pub def_kind_bytes : DefKind → List ℕ
+def_kind_bytes Marker = 1 ∷ []
+def_kind_bytes Integer = 2 ∷ []
+def_kind_bytes Text = 3 ∷ []
+def_kind_bytes Timestamp = 4 ∷ []
+
+-- eight bytes, the least first, of a number and its sign (two's complement)
+abbrev pub int_bytes : ℤ → List ℕ
+int_bytes number = to_le_bytes w64 (cast_unsigned w64 number)
+
+-- 1 and a whole number, or 2 and a text
+abbrev pub value_bytes : Value → List ℕ
+value_bytes (value.Int number) = 1 ∷ int_bytes number
+value_bytes (value.Text text) = 2 ∷ text_bytes text
+
 -- the bytes of a field
 abbrev pub field_bytes : Field → List ℕ
 field_bytes (field.Name text) = text_bytes text
@@ -71,4 +103,8 @@ field_bytes (field.SetOp kind) = set_op_bytes kind
 field_bytes (field.InheritKind kind) = inherit_kind_bytes kind
 field_bytes (field.Scope scope) = scope_bytes scope
 field_bytes (field.Privilege privilege) = privilege_bytes privilege
+field_bytes (field.Owners owners) = owners_bytes owners
+field_bytes (field.Flag flag) = flag_bytes flag
+field_bytes (field.DefKind kind) = def_kind_bytes kind
+field_bytes (field.Value value) = value_bytes value
 field_bytes (field.Number value least most) = number_bytes value

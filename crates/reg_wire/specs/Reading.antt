@@ -1,17 +1,22 @@
 -- Reading the fields of a payload from the front, and a command by the kinds of its fields: each reading gives a value and the bytes after it, or nothing.
-use Rattle.std.specs.Prelude.{ℕ, zero, suc, List, [], ◌∷◌, Bool, ◌&&◌, nat_le, nat_lt, if◌then◌else◌, length, take, drop, Option, Some, None}
+use Rattle.std.specs.Prelude.{ℕ, ℤ, zero, suc, ◌/◌, ◌%◌, ◌==◌, List, [], ◌∷◌, Bool, true, false, ◌&&◌, nat_le, nat_lt, if◌then◌else◌, length, take, drop, Option, Some, None}
 use Rattle.std.specs.List.{list_all}
-use Rattle.std.specs.Int.{Width, w16, w64, byte_len, from_le_bytes}
+use Rattle.std.specs.Int.{Width, w16, w64, byte_len, cast_signed, from_le_bytes}
 use Rattle.reg_base.specs.Names.{is_extension, is_name}
 use Rattle.reg_base.specs.Entities.{entity_of}
 use Rattle.reg_base.specs.declared.entity.Entity.{Entity}
 use Rattle.reg_base.specs.declared.privilege.Privilege.{Privilege}
+use Rattle.reg_terms.specs.declared.kinds.DefKind.{DefKind}
+use Rattle.reg_terms.specs.declared.kinds.DefKind.TheVariants.{Marker, Integer, Text, Timestamp}
 use Rattle.reg_terms.specs.declared.kinds.InheritKind.{InheritKind}
 use Rattle.reg_terms.specs.declared.kinds.InheritKind.TheVariants.{Folder, Group, Definition}
+use Rattle.reg_terms.specs.declared.kinds.Owners.{Owners}
 use Rattle.reg_terms.specs.declared.kinds.Scope.{Scope}
 use Rattle.reg_terms.specs.declared.kinds.Scope.TheVariants.{One, Sub}
 use Rattle.reg_terms.specs.declared.kinds.SetOp.{SetOp}
 use Rattle.reg_terms.specs.declared.kinds.SetOp.TheVariants.{Intersection, Complement}
+use Rattle.reg_terms.specs.declared.kinds.Value.{Value}
+use Rattle.reg_terms.specs.declared.kinds.Value.TheVariants as value
 use Rattle.reg_terms.specs.declared.command.Command.{Command}
 use Rattle.reg_terms.specs.declared.table.CommandKind.{CommandKind}
 use Rattle.reg_terms.specs.declared.field.FieldKind.{FieldKind}
@@ -130,6 +135,51 @@ privilege_at bytes = do
   privilege ← privilege_coded code.0
   Some (privilege, code.1)
 
+-- the kinds of owner whose code a number is: 1 for folders, 2 for groups and 4 for subjects, added up
+abbrev pub owners_of : ℕ → Owners
+owners_of code = record { folder = code % 2 == 1; group = (code / 2) % 2 == 1; subject = code / 4 == 1 }
+
+-- kinds of owner, one at least, by their code
+unfoldable pub owners_at : List ℕ → Option (Owners × List ℕ)
+owners_at bytes = do
+  code ← byte_at bytes
+  if nat_le 1 code.0 && nat_le code.0 7 then Some (owners_of code.0, code.1) else None
+
+-- whether something holds: 1 if it does, 0 if not
+unfoldable pub flag_at : List ℕ → Option (Bool × List ℕ)
+flag_at [] = None
+flag_at (zero ∷ rest) = Some (false, rest)
+flag_at (suc zero ∷ rest) = Some (true, rest)
+flag_at (suc (suc b) ∷ rest) = None
+
+-- the kind of a definition's values: 1 for markers, 2 for integers, 3 for texts, 4 for timestamps
+unfoldable pub def_kind_at : List ℕ → Option (DefKind × List ℕ)
+def_kind_at [] = None
+def_kind_at (zero ∷ rest) = None
+def_kind_at (suc zero ∷ rest) = Some (Marker, rest)
+def_kind_at (suc (suc zero) ∷ rest) = Some (Integer, rest)
+def_kind_at (suc (suc (suc zero)) ∷ rest) = Some (Text, rest)
+def_kind_at (suc (suc (suc (suc zero))) ∷ rest) = Some (Timestamp, rest)
+def_kind_at (suc (suc (suc (suc (suc b)))) ∷ rest) = None
+
+-- a whole number and its sign
+unfoldable pub int_at : List ℕ → Option (ℤ × List ℕ)
+int_at bytes = do
+  number ← number_at w64 bytes
+  Some (cast_signed w64 number.0, number.1)
+
+-- the value of an assignment: 1 and a whole number, or 2 and a text
+unfoldable pub value_at : List ℕ → Option (Value × List ℕ)
+value_at [] = None
+value_at (zero ∷ rest) = None
+value_at (suc zero ∷ rest) = do
+  number ← int_at rest
+  Some (value.Int number.0, number.1)
+value_at (suc (suc zero) ∷ rest) = do
+  text ← display_at rest
+  Some (value.Text text.0, text.1)
+value_at (suc (suc (suc b)) ∷ rest) = None
+
 -- ---- by the kinds of fields
 
 -- a value that was read, as a field
@@ -151,6 +201,10 @@ field_at kind.SetOp bytes = stands (λ v. field.SetOp v) (set_op_at bytes)
 field_at kind.InheritKind bytes = stands (λ v. field.InheritKind v) (inherit_kind_at bytes)
 field_at kind.Scope bytes = stands (λ v. field.Scope v) (scope_at bytes)
 field_at kind.Privilege bytes = stands (λ v. field.Privilege v) (privilege_at bytes)
+field_at kind.Owners bytes = stands (λ v. field.Owners v) (owners_at bytes)
+field_at kind.Flag bytes = stands (λ v. field.Flag v) (flag_at bytes)
+field_at kind.DefKind bytes = stands (λ v. field.DefKind v) (def_kind_at bytes)
+field_at kind.Value bytes = stands (λ v. field.Value v) (value_at bytes)
 field_at (kind.Number least most) bytes = stands (λ v. field.Number v least most) (ranged_at least most bytes)
 
 -- fields of so many kinds

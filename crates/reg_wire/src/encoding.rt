@@ -1,17 +1,20 @@
 // The payloads of stamped commands.
 ghost use Rattle.std.specs.Prelude.{◌≡◌, ◌++◌, ◌<◌, ◌^◌, true, codes, length, IfOk, OnOk};
 ghost use Rattle.std.specs.List.{flat_map, list_all};
-ghost use Rattle.reg_terms.specs.Forms.{is_entity, is_field, has_form};
+ghost use Rattle.reg_terms.specs.Forms.{is_entity, is_field, is_value, has_form};
 ghost use Rattle.reg_terms.specs.Parts.{seen, seen_all};
 ghost use Rattle.reg_terms.specs.Table.{code_of};
-ghost use Rattle.reg_wire.specs.Fields.{entity_text, field_bytes, text_bytes, moment_bytes, number_bytes, optional_moment_bytes, set_op_bytes, inherit_kind_bytes, scope_bytes, privilege_bytes};
+ghost use Rattle.reg_wire.specs.Fields.{entity_text, field_bytes, text_bytes, moment_bytes, number_bytes, optional_moment_bytes, set_op_bytes, inherit_kind_bytes, scope_bytes, privilege_bytes, owners_code, owners_bytes, flag_bytes, def_kind_bytes, int_bytes, value_bytes};
 ghost use Rattle.reg_wire.specs.Payload.{fields_bytes, command_bytes, payload, IsWritable};
 
-use crate::fields::{COMPLEMENT, DEFINITION, FOLDER, GROUP, INTERSECTION, ONE, SUB};
+use crate::fields::{
+    COMPLEMENT, DEFINITION, FOLDER, GROUP, INT_VALUE, INTEGERS, INTERSECTION, MARKERS, ONE, SUB,
+    TEXT_VALUE, TEXTS, TIMESTAMPS,
+};
 use reg_base::{Entity, Moment, Name, Privilege};
 use reg_terms::{
-    Command, FieldRef, InheritKind, Scope, SetOp, Stamped, command_row, fields_of, kind_of,
-    law_commands, privilege_code,
+    Command, DefKind, FieldRef, InheritKind, Owners, Scope, SetOp, Stamped, Value, command_row,
+    fields_of, kind_of, law_commands, privilege_code,
 };
 use std::alloc::{AllocError, Global};
 
@@ -111,6 +114,61 @@ fn put_privilege(out: &mut Vec<u8>, privilege: Privilege) -> Result<(), AllocErr
     Ok(())
 }
 
+fn owners_code(owners: Owners) -> u8
+    ensures { result ≡ owners_code owners }
+{
+    u8::from(owners.folder) + 2 * u8::from(owners.group) + 4 * u8::from(owners.subject)
+}
+
+fn put_owners(out: &mut Vec<u8>, owners: Owners) -> Result<(), AllocError>
+    ensures { OnOk result (out.new.items ≡ out.old.items ++ owners_bytes owners) }
+{
+    out.push(owners_code(owners))?;
+    Ok(())
+}
+
+fn put_flag(out: &mut Vec<u8>, flag: bool) -> Result<(), AllocError>
+    ensures { OnOk result (out.new.items ≡ out.old.items ++ flag_bytes flag) }
+{
+    out.push(u8::from(flag))?;
+    Ok(())
+}
+
+fn put_def_kind(out: &mut Vec<u8>, kind: DefKind) -> Result<(), AllocError>
+    ensures { OnOk result (out.new.items ≡ out.old.items ++ def_kind_bytes kind) }
+{
+    out.push(match kind {
+        DefKind::Marker => MARKERS,
+        DefKind::Integer => INTEGERS,
+        DefKind::Text => TEXTS,
+        DefKind::Timestamp => TIMESTAMPS,
+    })?;
+    Ok(())
+}
+
+fn put_int(out: &mut Vec<u8>, number: i64) -> Result<(), AllocError>
+    ensures { OnOk result (out.new.items ≡ out.old.items ++ int_bytes number) }
+{
+    out.extend_from_slice(&number.to_le_bytes())
+}
+
+#[tactic(auto, using(crate::proofs::Texts::display_short))]
+fn put_value(out: &mut Vec<u8>, value: &Value) -> Result<(), AllocError>
+    requires { is_value value.now ≡ true }
+    ensures { OnOk result (out.new.items ≡ out.old.items ++ value_bytes value.now) }
+{
+    match value {
+        Value::Int(number) => {
+            out.push(INT_VALUE)?;
+            put_int(out, *number)
+        }
+        Value::Text(text) => {
+            out.push(TEXT_VALUE)?;
+            put_text(out, text.bytes())
+        }
+    }
+}
+
 #[tactic(auto, using(crate::proofs::Texts::name_short, crate::proofs::Texts::folder_short, crate::proofs::Texts::extension_short, crate::proofs::Texts::display_short, crate::proofs::Objects::object_short))]
 fn put_field(out: &mut Vec<u8>, field: &FieldRef<'_>) -> Result<(), AllocError>
     requires { list_all is_field (seen field.now) ≡ true }
@@ -130,6 +188,10 @@ fn put_field(out: &mut Vec<u8>, field: &FieldRef<'_>) -> Result<(), AllocError>
         FieldRef::InheritKind(kind) => put_inherit_kind(out, *kind),
         FieldRef::Scope(scope) => put_scope(out, *scope),
         FieldRef::Privilege(privilege) => put_privilege(out, *privilege),
+        FieldRef::Owners(owners) => put_owners(out, *owners),
+        FieldRef::Flag(flag) => put_flag(out, *flag),
+        FieldRef::DefKind(kind) => put_def_kind(out, *kind),
+        FieldRef::Value(value) => put_value(out, value),
         FieldRef::Number { value, .. } => put_number(out, *value),
     }
 }

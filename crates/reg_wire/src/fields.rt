@@ -2,12 +2,13 @@
 ghost use Rattle.std.specs.Prelude.{◌≡◌};
 ghost use Rattle.std.specs.Int.{w16, w64};
 ghost use Rattle.reg_wire.specs.Steps.{Gives};
-ghost use Rattle.reg_wire.specs.Reading.{byte_at, number_at, text_at, name_at, folder_at, extension_at, display_at, entity_at, moment_at, ranged_at, object_at, optional_moment_at, set_op_at, inherit_kind_at, scope_at, privilege_at};
+ghost use Rattle.reg_wire.specs.Reading.{byte_at, number_at, text_at, name_at, folder_at, extension_at, display_at, entity_at, moment_at, ranged_at, object_at, optional_moment_at, set_op_at, inherit_kind_at, scope_at, privilege_at, owners_of, owners_at, flag_at, def_kind_at, int_at, value_at};
 
 use crate::fault::ReadFault;
 use reg_base::{Entity, Moment, Name, Privilege, Text, is_extension};
 use reg_terms::{
-    InheritKind, MAX_DISPLAY, Scope, SetOp, is_folder_text, is_object_text, privilege_coded,
+    DefKind, InheritKind, MAX_DISPLAY, Owners, Scope, SetOp, Value, is_folder_text, is_object_text,
+    privilege_coded,
 };
 use std::alloc::Global;
 
@@ -30,6 +31,22 @@ pub const DEFINITION: u8 = 3;
 pub const ONE: u8 = 1;
 
 pub const SUB: u8 = 2;
+
+// the kinds of values that definitions are for, one byte each
+
+pub const MARKERS: u8 = 1;
+
+pub const INTEGERS: u8 = 2;
+
+pub const TEXTS: u8 = 3;
+
+pub const TIMESTAMPS: u8 = 4;
+
+// what a value of an assignment is, one byte each
+
+pub const INT_VALUE: u8 = 1;
+
+pub const TEXT_VALUE: u8 = 2;
 
 /// One byte.
 pub fn byte_at(bytes: &[u8]) -> Result<(u8, &[u8]), ReadFault>
@@ -253,5 +270,80 @@ pub fn privilege_at(bytes: &[u8]) -> Result<(Privilege, &[u8]), ReadFault>
     match privilege_coded(code) {
         Some(privilege) => Ok((privilege, rest)),
         None => Err(ReadFault::Malformed),
+    }
+}
+
+fn owners_of(code: u8) -> Owners
+    ensures { result ≡ owners_of code }
+{
+    Owners {
+        folder: code % 2 == 1,
+        group: code / 2 % 2 == 1,
+        subject: code / 4 == 1,
+    }
+}
+
+/// The kinds of owner that a definition suits, one at least.
+#[tactic(auto, unfolding(crate::specs::Reading::owners_at))]
+pub fn owners_at(bytes: &[u8]) -> Result<(Owners, &[u8]), ReadFault>
+    ensures { Gives (λ x. (x.0, x.1.now)) result (owners_at bytes.now) }
+{
+    let (code, rest) = byte_at(bytes)?;
+    if 1 <= code && code <= 7 {
+        Ok((owners_of(code), rest))
+    } else {
+        Err(ReadFault::Malformed)
+    }
+}
+
+/// Whether something holds.
+#[tactic(auto, unfolding(crate::specs::Reading::flag_at))]
+pub fn flag_at(bytes: &[u8]) -> Result<(bool, &[u8]), ReadFault>
+    ensures { Gives (λ x. (x.0, x.1.now)) result (flag_at bytes.now) }
+{
+    match bytes {
+        [0, rest @ ..] => Ok((false, rest)),
+        [1, rest @ ..] => Ok((true, rest)),
+        _ => Err(ReadFault::Malformed),
+    }
+}
+
+/// The kind of values that attributes of a definition take.
+#[tactic(auto, unfolding(crate::specs::Reading::def_kind_at))]
+pub fn def_kind_at(bytes: &[u8]) -> Result<(DefKind, &[u8]), ReadFault>
+    ensures { Gives (λ x. (x.0, x.1.now)) result (def_kind_at bytes.now) }
+{
+    match bytes {
+        [MARKERS, rest @ ..] => Ok((DefKind::Marker, rest)),
+        [INTEGERS, rest @ ..] => Ok((DefKind::Integer, rest)),
+        [TEXTS, rest @ ..] => Ok((DefKind::Text, rest)),
+        [TIMESTAMPS, rest @ ..] => Ok((DefKind::Timestamp, rest)),
+        _ => Err(ReadFault::Malformed),
+    }
+}
+
+#[tactic(auto, unfolding(crate::specs::Reading::int_at))]
+fn int_at(bytes: &[u8]) -> Result<(i64, &[u8]), ReadFault>
+    ensures { Gives (λ x. (x.0, x.1.now)) result (int_at bytes.now) }
+{
+    let (number, rest) = u64_at(bytes)?;
+    Ok((number.cast_signed(), rest))
+}
+
+/// A value of an assignment.
+#[tactic(auto, unfolding(crate::specs::Reading::value_at))]
+pub fn value_at(alloc: Global, bytes: &[u8]) -> Result<(Value, &[u8]), ReadFault>
+    ensures { Gives (λ x. (x.0, x.1.now)) result (value_at bytes.now) }
+{
+    match bytes {
+        [INT_VALUE, rest @ ..] => match int_at(rest) {
+            Ok((number, rest)) => Ok((Value::Int(number), rest)),
+            Err(fault) => Err(fault),
+        },
+        [TEXT_VALUE, rest @ ..] => match display_at(alloc, rest) {
+            Ok((text, rest)) => Ok((Value::Text(text), rest)),
+            Err(fault) => Err(fault),
+        },
+        _ => Err(ReadFault::Malformed),
     }
 }

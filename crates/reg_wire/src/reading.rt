@@ -5,8 +5,9 @@ ghost use Rattle.reg_wire.specs.Reading.{field_at, fields_at, command_at, comman
 
 use crate::fault::ReadFault;
 use crate::fields::{
-    byte_at, display_at, entity_at, extension_at, folder_at, inherit_kind_at, name_at, object_at,
-    optional_moment_at, privilege_at, ranged_at, scope_at, set_op_at,
+    byte_at, def_kind_at, display_at, entity_at, extension_at, flag_at, folder_at, inherit_kind_at,
+    name_at, object_at, optional_moment_at, owners_at, privilege_at, ranged_at, scope_at,
+    set_op_at, value_at,
 };
 use reg_terms::{Command, CommandKind, Field, FieldKind, command_coded, command_row, made_command};
 use std::alloc::Global;
@@ -58,6 +59,22 @@ fn field_at(alloc: Global, kind: FieldKind, bytes: &[u8]) -> Result<(Field, &[u8
         },
         FieldKind::Privilege => match privilege_at(bytes) {
             Ok((privilege, rest)) => Ok((Field::Privilege(privilege), rest)),
+            Err(fault) => Err(fault),
+        },
+        FieldKind::Owners => match owners_at(bytes) {
+            Ok((owners, rest)) => Ok((Field::Owners(owners), rest)),
+            Err(fault) => Err(fault),
+        },
+        FieldKind::Flag => match flag_at(bytes) {
+            Ok((flag, rest)) => Ok((Field::Flag(flag), rest)),
+            Err(fault) => Err(fault),
+        },
+        FieldKind::DefKind => match def_kind_at(bytes) {
+            Ok((kind, rest)) => Ok((Field::DefKind(kind), rest)),
+            Err(fault) => Err(fault),
+        },
+        FieldKind::Value => match value_at(alloc, bytes) {
+            Ok((value, rest)) => Ok((Field::Value(value), rest)),
             Err(fault) => Err(fault),
         },
         FieldKind::Number { least, most } => match ranged_at(least, most, bytes) {

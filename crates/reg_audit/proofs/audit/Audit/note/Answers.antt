@@ -16,10 +16,13 @@ returns c steps step h f e t after knows =
       names = c.in_ok-note.ensures.names;
       named = c.in_ok-note.ensures.named;
       groups = c.in_ok-note.ensures.groups;
+      defined = c.in_ok-note.ensures.defined;
       places = c.in_ok-note.ensures.places;
       members = rw same at c.in_ok-past.ensures.members;
       granted = rw same at c.in_ok-past.ensures.grants;
       noted_wheel = rw same at c.in_ok-past.ensures.wheel;
+      assigns = rw (same, c.into_assigns-changes.ensures) at c.in_ok-past.ensures.assigns;
+      greatest = rw c.into_assigns-changes.ensures at c.in_ok-past.ensures.greatest;
       last = rw same at c.in_ok-past.ensures.last;
     } in
     audit_more c.args.self new c.args.turned.now c.args.touched.now steps step c.law_turns.ensures h f t knows

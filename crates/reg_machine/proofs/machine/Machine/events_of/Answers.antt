@@ -9,6 +9,9 @@ events_of-requires g c =
       held = rw c.facts-facts.ensures at c.law_held.ensures;
       objects = rw c.facts-facts.ensures at c.law_grants.ensures.objects;
       holders = rw c.facts-facts.ensures at c.law_grants.ensures.holders;
+      definitions = rw c.facts-facts.ensures at c.law_owners.ensures.definitions;
+      attributes = rw c.facts-facts.ensures at c.law_owners.ensures.attributes;
+      owners = rw c.facts-facts.ensures at c.law_owners.ensures.owners;
       new_groups = rw c.facts-facts.ensures at c.law_new_group.ensures;
     } in
     rw (c.facts-facts.ensures, c.clock.ensures) (can_edit c.args.self.now.history c.args.self.now.clock c.args.by.now c.args.command.now laws c.requires.allowed c.requires.form)
@@ -20,6 +23,9 @@ returns-clause-hold g c =
       held = rw c.facts-facts.ensures at c.law_held.ensures;
       objects = rw c.facts-facts.ensures at c.law_grants.ensures.objects;
       holders = rw c.facts-facts.ensures at c.law_grants.ensures.holders;
+      definitions = rw c.facts-facts.ensures at c.law_owners.ensures.definitions;
+      attributes = rw c.facts-facts.ensures at c.law_owners.ensures.attributes;
+      owners = rw c.facts-facts.ensures at c.law_owners.ensures.owners;
       new_groups = rw c.facts-facts.ensures at c.law_new_group.ensures;
     } in
     all_hold c.args.self.now.history c.args.self.now.clock c.args.by.now c.args.command.now laws c.requires.allowed c.requires.form

@@ -1,0 +1,17 @@
+use Rattle.std.proofs.Common.{◌≡◌}
+use Rattle.reg_terms.specs.declared.event.Event.TheVariants.{DefinitionGone}
+use Rattle.reg_facts.specs.Events.{happened}
+use Rattle.reg_facts.proofs.Searched.{definitions_ascend}
+use Rattle.reg_facts.proofs.Indexing.{definition_gone_indexed}
+use Rattle.reg_facts.proofs.facts.Facts.definition_gone.Goals as goal
+
+-- the maps find what the lists hold after the event
+pub invariant_of-facts : goal.invariant_of-facts
+invariant_of-facts c =
+    let is : c.delete_definition.new.self ≡ happened (DefinitionGone c.args.id) c.args.self = rw c.facts.view_is at c.delete_definition.ensures in
+    rw is (definition_gone_indexed c.facts.inside.subject_index c.facts.inside.children c.take.new.self c.args.id _ c.args.self
+    (rw c.facts.view_is at c.facts.invariant) c.requires (rw c.facts.view_is at c.the_place-place.ensures) (λ x y. rw (← c.number.ensures) (c.take.ensures x y)))
+
+-- ids of sound facts ascend
+pub delete_definition-requires : goal.delete_definition-requires
+delete_definition-requires c = definitions_ascend _ c.facts.invariant.sound

@@ -1,0 +1,10 @@
+use Rattle.std.proofs.Common.{◌≡◌}
+use Rattle.reg_terms.specs.declared.event.Event.TheVariants.{ValueRemoved}
+use Rattle.reg_facts.specs.Events.{happened}
+use Rattle.reg_facts.proofs.Indexing.{value_removed_indexed}
+use Rattle.reg_facts.proofs.facts.Facts.value_removed.Goals as goal
+
+pub invariant_of-facts : goal.invariant_of-facts
+invariant_of-facts c =
+    let is : c.remove_value.new.self ≡ happened (ValueRemoved c.args.id c.args.value.now) c.args.self = rw c.facts.view_is at c.remove_value.ensures in
+    rw is (value_removed_indexed c.facts.inside.subject_index c.facts.inside.children c.args.id c.args.value.now c.args.self (rw c.facts.view_is at c.facts.invariant) c.requires)
