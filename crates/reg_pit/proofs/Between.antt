@@ -50,7 +50,7 @@ decides a b end h =
     parts Greater Greater c d p q = refl
 
 -- what a test finds among the values of those that pass two others
-found_first : {X Y : Type 0} (p : Y → Bool) (f : X → Y) (q r : X → Bool) (x : X) (xs : List X)
+pub found_first : {X Y : Type 0} (p : Y → Bool) (f : X → Y) (q r : X → Bool) (x : X) (xs : List X)
     → list_any p (map f (filter q (filter r (x ∷ xs)))) ≡ ((r x && q x && p (f x)) || list_any p (map f (filter q (filter r xs))))
 found_first p f q r x xs = elim (cases_Bool (r x)) [
   | inl y ↦ rw y (elim (cases_Bool (q x)) [ inl z ↦ rw z refl | inr z ↦ rw z refl ])

@@ -2,10 +2,11 @@
 use Rattle.std.proofs.Common.{◌≡◌, ◌≤◌, ◌<◌, ◌==◌, ◌&&◌, ◌||◌, ◌++◌, ◌∙◌, ℕ, List, [], ◌∷◌, Bool, true, false, Option, Some, None, map, filter, not, nat_le, if◌then◌else◌, arith, ap, refl, subst, sym, inl, inr}
 use Rattle.std.specs.List.{AllByRecursion, find, list_any}
 use Rattle.std.specs.Option.{is_some}
+use Rattle.std.specs.Cmp.{unsigned_tied}
 use Rattle.std.specs.BTreeMap.{BTreeMap, get}
 use Rattle.std.specs.Ordering.{nat_cmp, eq_by_cmp, ordering_then}
 use Rattle.std.specs.declared.cmp.Ordering.{Ordering}
-use Rattle.std.specs.declared.cmp.Ordering.TheVariants.{Equal, Greater}
+use Rattle.std.specs.declared.cmp.Ordering.TheVariants.{Greater}
 use Rattle.reg_table.specs.Keyed.{in_order}
 use Rattle.reg_terms.specs.contracts.kinds.ObjectOrd.TheImpl as object_ord
 use Rattle.std.proofs.lemmas.Bool.{cases_Bool, ne_eqb, eqb-true, eq-eqb, and_parts, and_right, or_left, or_right, both_ways}
@@ -15,11 +16,12 @@ use Rattle.reg_terms.specs.Kinds.{same_object}
 use Rattle.reg_terms.specs.declared.kinds.AttrValue.{AttrValue}
 use Rattle.reg_terms.specs.declared.kinds.Object.{Object}
 use Rattle.reg_terms.specs.contracts.kinds.ObjectPartialEq.TheImpl as object_eq
-use Rattle.reg_terms.specs.declared.kinds.Object.TheVariants as object
 use Rattle.reg_terms.specs.declared.rows.AssignRow.{AssignRow}
 use Rattle.reg_pit.specs.Spans.{has_moment}
 use Rattle.reg_pit.specs.Lives.{IsBy, Rising, had, is_life, ended, gone_if, ids_of, last_from, last_made, on_owner, AreLivesBy, AreLives, owner_of, row_of, rows_at}
 use Rattle.reg_pit.specs.declared.assign_lives.AssignLife.{AssignLife}
+use Rattle.reg_pit.proofs.Turning.{after}
+use Rattle.reg_pit.proofs.Objects.{object_tied, object_itself, object_same, object_is}
 use Rattle.reg_pit.proofs.Rising.{untouched, none_found, none_behind, none_later, any_none, rising_push, found_alone, in_order_already}
 
 -- ---- intervals
@@ -185,16 +187,6 @@ owner_push n id (x ∷ xs) life r w = elim (cases_Bool (x.id == id)) [
   | inr h ↦ rw h (owner_push x.id id xs life r.1 w)
 ]
 
--- ---- assignments by their ids and owners
-
-pub object_same : (a b : Object) → same_object a b ≡ true → a ≡ b
-object_same (object.Folder a) (object.Folder b) h = ap (λ n. object.Folder n) (eqb-true a b h)
-object_same (object.Group a) (object.Group b) h = ap (λ n. object.Group n) (eqb-true a b h)
-object_same (object.Def a) (object.Def b) h = ap (λ n. object.Def n) (eqb-true a b h)
-object_same (object.Attr a) (object.Attr b) h = ap (λ n. object.Attr n) (eqb-true a b h)
-object_same (object.Subject a) (object.Subject b) h = ap (λ n. object.Subject n) (eqb-true a b h)
-object_same _ _ h = cc
-
 -- ---- from the last note on all stays
 
 pub rows_stay : (at t : ℕ) (before after : ℕ → List AttrValue) (lives : List AssignLife) → at ≤ t → AreLivesBy at lives → ((a : ℕ) → after a ≡ before a) → rows_at after lives t ≡ rows_at before lives at
@@ -211,33 +203,6 @@ lives_later a b [] w h = tt
 lives_later a b (life ∷ lives) w h = (by_later a b life.from life.until w h.0, lives_later a b lives w h.1)
 
 -- ---- as a table knows them
-
-pub object_is : (a b : Object) → object_eq.ghosts.eq a b ≡ same_object a b
-object_is (object.Folder a) (object.Folder b) = refl
-object_is (object.Folder a) (object.Group b) = refl
-object_is (object.Folder a) (object.Def b) = refl
-object_is (object.Folder a) (object.Attr b) = refl
-object_is (object.Folder a) (object.Subject b) = refl
-object_is (object.Group a) (object.Folder b) = refl
-object_is (object.Group a) (object.Group b) = refl
-object_is (object.Group a) (object.Def b) = refl
-object_is (object.Group a) (object.Attr b) = refl
-object_is (object.Group a) (object.Subject b) = refl
-object_is (object.Def a) (object.Folder b) = refl
-object_is (object.Def a) (object.Group b) = refl
-object_is (object.Def a) (object.Def b) = refl
-object_is (object.Def a) (object.Attr b) = refl
-object_is (object.Def a) (object.Subject b) = refl
-object_is (object.Attr a) (object.Folder b) = refl
-object_is (object.Attr a) (object.Group b) = refl
-object_is (object.Attr a) (object.Def b) = refl
-object_is (object.Attr a) (object.Attr b) = refl
-object_is (object.Attr a) (object.Subject b) = refl
-object_is (object.Subject a) (object.Folder b) = refl
-object_is (object.Subject a) (object.Group b) = refl
-object_is (object.Subject a) (object.Def b) = refl
-object_is (object.Subject a) (object.Attr b) = refl
-object_is (object.Subject a) (object.Subject b) = refl
 
 -- as a table tells the life of an assignment to an owner
 abbrev pub is_at : Object → ℕ → AssignLife → Bool
@@ -276,15 +241,6 @@ no_life_ends o id at lives h = sym (untouched (is_life o id) (ended at) lives (n
 
 -- ---- one life more, and its owner
 
-number_is : (a b : ℕ) → eq_by_cmp nat_cmp a b ≡ (a == b)
-number_is a b = grind (arith, nat_tests, common_steps)
-
-equal_id : (n : ℕ) → nat_cmp n n ≡ Equal
-equal_id n = grind (arith, nat_tests, common_steps)
-
-greater_id : (a b : ℕ) → b < a → nat_cmp a b ≡ Greater
-greater_id a b w = grind (arith, nat_tests, common_steps)
-
 pub none_like : (life : AssignLife) (lives : List AssignLife) → Rising 0 (ids_of lives) → last_made lives < life.id → list_any (is_at life.owner life.id) lives ≡ false
 none_like life lives r w =
     any_none (is_at life.owner life.id) lives (none_later (λ (x : AssignLife). x.id) (is_at life.owner life.id) (last_made lives) life.id lives (λ x h. is_life_id life.owner life.id x h) (all_made 0 lives r) w)
@@ -293,7 +249,7 @@ pub lives_more : (life : AssignLife) (lives : List AssignLife) (m n : BTreeMap �
     → ((q : ℕ) → get nat_cmp n q ≡ (if eq_by_cmp nat_cmp life.id q then Some life.owner else get nat_cmp m q)) → AreLives (lives ++ life ∷ []) n
 lives_more life lives m n h w more = record {
   rising = rising_push (λ (x : AssignLife). x.id) 0 (last_made lives) lives life h.rising (all_made 0 lives h.rising) (omega arith) w;
-  owned = λ q. more q ∙ (rw (number_is life.id q, h.owned q) (sym (owner_push 0 q lives life h.rising w)));
+  owned = λ q. more q ∙ (rw (unsigned_tied life.id q, h.owned q) (sym (owner_push 0 q lives life h.rising w)));
 }
 
 pub lives_ended : (test : AssignLife → Bool) (at : ℕ) (lives : List AssignLife) (m : BTreeMap ℕ Object) → AreLives lives m → AreLives (map (gone_if test at) lives) m
@@ -309,13 +265,6 @@ has_owner id (life ∷ lives) = elim (cases_Bool (life.id == id)) [
   | inr h ↦ rw h (has_owner id lives)
 ]
 
-object_equal : (o : Object) → object_ord.ghosts.cmp o o ≡ Equal
-object_equal (object.Folder a) = equal_id a
-object_equal (object.Group a) = equal_id a
-object_equal (object.Def a) = equal_id a
-object_equal (object.Attr a) = equal_id a
-object_equal (object.Subject a) = equal_id a
-
 distributes : (a b c : Bool) → (a && (b || c)) ≡ ((a && b) || (a && c))
 distributes true b c = refl
 distributes false b c = refl
@@ -329,13 +278,6 @@ still o n ids [] h = tt
 still o n ids (life ∷ lives) h = ((λ t. or_right (life.id == n) (list_any (λ id. life.id == id) ids) (h.0 t)), still o n ids lives h.1)
 
 -- ---- an assignment ends
-
-object_itself : (o : Object) → same_object o o ≡ true
-object_itself (object.Folder a) = eq-eqb a a refl
-object_itself (object.Group a) = eq-eqb a a refl
-object_itself (object.Def a) = eq-eqb a a refl
-object_itself (object.Attr a) = eq-eqb a a refl
-object_itself (object.Subject a) = eq-eqb a a refl
 
 pub id_tells : (id at floor : ℕ) (o : Object) (lives : List AssignLife) → Rising floor (ids_of lives) → owner_of id lives ≡ Some o
     → map (gone_if (is_life o id) at) lives ≡ map (gone_if (λ (life : AssignLife). life.id == id) at) lives
@@ -372,7 +314,7 @@ later_id : (o : Object) (x y : AssignLife) → object_eq.ghosts.eq x.owner o ≡
 later_id o x y h k w =
     let a = object_same x.owner o (sym (object_is x.owner o) ∙ h) in
     let b = object_same y.owner o (sym (object_is y.owner o) ∙ k) in
-    rw (a, b, object_equal o) (greater_id y.id x.id w)
+    rw (a, b, object_tied o) (after y.id x.id w)
 
 pub owned_in_order : (o : Object) (lives : List AssignLife) → Rising 0 (ids_of lives)
     → in_order life_order (filter (λ (life : AssignLife). object_eq.ghosts.eq life.owner o) lives) ≡ on_owner o lives

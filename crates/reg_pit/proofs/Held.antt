@@ -1,81 +1,22 @@
 -- Privileges on objects as keys.
-use Rattle.std.proofs.Common.{◌≡◌, ◌<◌, ◌≤◌, ◌^◌, ◌+◌, ◌==◌, ◌&&◌, ◌||◌, ℕ, List, Bool, true, false, length, take, get_or, if◌then◌else◌, nat_le, arith, refl, sym, ◌∙◌, inl, inr}
+use Rattle.std.proofs.Common.{◌≡◌, ◌<◌, ◌≤◌, ◌^◌, ◌+◌, ◌&&◌, ◌||◌, ℕ, List, Bool, true, false, length, take, get_or, if◌then◌else◌, nat_le, arith, refl, sym, ◌∙◌, inl, inr}
 use Rattle.std.proofs.lemmas.Bool.{cases_Bool}
 use Rattle.std.proofs.lemmas.Bool.Decides.{nat_tests}
 use Rattle.std.proofs.lemmas.Grind.{common_steps}
-use Rattle.std.proofs.lemmas.Cmp.{nat_cmp_total}
 use Rattle.std.proofs.lemmas.List.Folds.{list_any_more}
-use Rattle.std.specs.Ordering.{nat_cmp, ordering_then, ordering_reverse, is_eq, is_le, is_gt, eq_by_cmp}
+use Rattle.std.specs.Ordering.{ordering_then, ordering_reverse, is_eq, is_le, is_gt, eq_by_cmp}
 use Rattle.std.specs.declared.cmp.Ordering.{Ordering}
 use Rattle.std.specs.declared.cmp.Ordering.TheVariants.{Less, Equal, Greater}
 use Rattle.reg_base.specs.declared.privilege.Privilege.{Privilege}
 use Rattle.reg_base.specs.declared.privilege.Privilege.TheVariants as privilege
 use Rattle.reg_terms.specs.Kinds.{same_object}
 use Rattle.reg_terms.specs.declared.kinds.Object.{Object}
-use Rattle.reg_terms.specs.declared.kinds.Object.TheVariants as object
 use Rattle.reg_terms.specs.declared.kinds.Holder.{Holder}
 use Rattle.reg_terms.specs.declared.kinds.Holder.TheVariants as holder
 use Rattle.reg_pit.specs.Spans.{covers}
 use Rattle.reg_pit.specs.Runs.{spans_of, is_between}
 use Rattle.reg_pit.specs.Grants.{object_cmp, privilege_cmp, holder_cmp, grant_cmp, is_granted, has_grant, Fits, AreHeld}
-
-number_tells : (a b : ℕ) → is_eq (nat_cmp a b) ≡ (b == a)
-number_tells a b = grind (arith, nat_tests, common_steps)
-
--- the order of objects tells whether two are one
-pub object_tells : (a b : Object) → is_eq (object_cmp a b) ≡ same_object b a
-object_tells (object.Folder a) (object.Folder b) = number_tells a b
-object_tells (object.Folder a) (object.Group b) = refl
-object_tells (object.Folder a) (object.Def b) = refl
-object_tells (object.Folder a) (object.Attr b) = refl
-object_tells (object.Folder a) (object.Subject b) = refl
-object_tells (object.Group a) (object.Folder b) = refl
-object_tells (object.Group a) (object.Group b) = number_tells a b
-object_tells (object.Group a) (object.Def b) = refl
-object_tells (object.Group a) (object.Attr b) = refl
-object_tells (object.Group a) (object.Subject b) = refl
-object_tells (object.Def a) (object.Folder b) = refl
-object_tells (object.Def a) (object.Group b) = refl
-object_tells (object.Def a) (object.Def b) = number_tells a b
-object_tells (object.Def a) (object.Attr b) = refl
-object_tells (object.Def a) (object.Subject b) = refl
-object_tells (object.Attr a) (object.Folder b) = refl
-object_tells (object.Attr a) (object.Group b) = refl
-object_tells (object.Attr a) (object.Def b) = refl
-object_tells (object.Attr a) (object.Attr b) = number_tells a b
-object_tells (object.Attr a) (object.Subject b) = refl
-object_tells (object.Subject a) (object.Folder b) = refl
-object_tells (object.Subject a) (object.Group b) = refl
-object_tells (object.Subject a) (object.Def b) = refl
-object_tells (object.Subject a) (object.Attr b) = refl
-object_tells (object.Subject a) (object.Subject b) = number_tells a b
-
-pub object_turned : (a b : Object) → object_cmp b a ≡ ordering_reverse (object_cmp a b)
-object_turned (object.Folder a) (object.Folder b) = nat_cmp_total.antisymm b a
-object_turned (object.Folder a) (object.Group b) = refl
-object_turned (object.Folder a) (object.Def b) = refl
-object_turned (object.Folder a) (object.Attr b) = refl
-object_turned (object.Folder a) (object.Subject b) = refl
-object_turned (object.Group a) (object.Folder b) = refl
-object_turned (object.Group a) (object.Group b) = nat_cmp_total.antisymm b a
-object_turned (object.Group a) (object.Def b) = refl
-object_turned (object.Group a) (object.Attr b) = refl
-object_turned (object.Group a) (object.Subject b) = refl
-object_turned (object.Def a) (object.Folder b) = refl
-object_turned (object.Def a) (object.Group b) = refl
-object_turned (object.Def a) (object.Def b) = nat_cmp_total.antisymm b a
-object_turned (object.Def a) (object.Attr b) = refl
-object_turned (object.Def a) (object.Subject b) = refl
-object_turned (object.Attr a) (object.Folder b) = refl
-object_turned (object.Attr a) (object.Group b) = refl
-object_turned (object.Attr a) (object.Def b) = refl
-object_turned (object.Attr a) (object.Attr b) = nat_cmp_total.antisymm b a
-object_turned (object.Attr a) (object.Subject b) = refl
-object_turned (object.Subject a) (object.Folder b) = refl
-object_turned (object.Subject a) (object.Group b) = refl
-object_turned (object.Subject a) (object.Def b) = refl
-object_turned (object.Subject a) (object.Attr b) = refl
-object_turned (object.Subject a) (object.Subject b) = nat_cmp_total.antisymm b a
+use Rattle.reg_pit.proofs.Objects.{object_tells, object_turned, object_tied}
 
 -- ---- the keys of one object
 
@@ -134,15 +75,8 @@ pub of_object : (a : Object) (top : ℕ) (o : Object) (p : Privilege) (h : Holde
 of_object a top o p h e f =
     rw (object_turned a o) (parts (object_cmp a o) (privilege_cmp privilege.Admin p) (holder_cmp holder.Everyone h) (privilege_cmp p privilege.AttrView) (holder_cmp h (holder.Group top)) (least p h) (greatest p h top e f)) ∙ object_tells a o
 
-pub object_itself : (a : Object) → object_cmp a a ≡ Equal
-object_itself (object.Folder a) = grind (arith, nat_tests, common_steps)
-object_itself (object.Group a) = grind (arith, nat_tests, common_steps)
-object_itself (object.Def a) = grind (arith, nat_tests, common_steps)
-object_itself (object.Attr a) = grind (arith, nat_tests, common_steps)
-object_itself (object.Subject a) = grind (arith, nat_tests, common_steps)
-
 pub forward : (a : Object) (first last : Object × Privilege × Holder) (top : ℕ) → first ≡ (a, privilege.Admin, holder.Everyone) → last ≡ (a, privilege.AttrView, holder.Group top) → is_gt (grant_cmp first last) ≡ false
-forward a first last top e f = rw (e, f, object_itself a) refl
+forward a first last top e f = rw (e, f, object_tied a) refl
 
 -- ---- one more
 

@@ -1,6 +1,7 @@
 -- The privileges on one object, in order.
-use Rattle.std.proofs.Common.{◌≡◌, ◌≤◌, ◌^◌, ◌&&◌, ◌||◌, ℕ, List, [], ◌∷◌, Bool, true, false, map, nat_le, arith, refl, sym, ◌∙◌, ap, inl, inr}
-use Rattle.std.proofs.lemmas.Bool.{cases_Bool, and_parts, eqb-true}
+use Rattle.std.proofs.Common.{◌≡◌, ◌≤◌, ◌^◌, ◌&&◌, ℕ, List, [], ◌∷◌, Bool, true, false, map, nat_le, arith, refl, sym, ◌∙◌, inl, inr}
+use Rattle.std.proofs.lemmas.Bool.{cases_Bool, and_parts}
+use Rattle.std.proofs.Math.Bool.{or-true}
 use Rattle.std.proofs.lemmas.Bool.Decides.{nat_tests}
 use Rattle.std.specs.List.{list_any, AllByRecursion}
 use Rattle.std.specs.List.Sorted.{IsStrictlySortedBy}
@@ -11,43 +12,13 @@ use Rattle.reg_base.specs.declared.privilege.Privilege.{Privilege}
 use Rattle.reg_base.specs.declared.privilege.Privilege.TheVariants as privilege
 use Rattle.reg_terms.specs.Kinds.{same_object}
 use Rattle.reg_terms.specs.declared.kinds.Object.{Object}
-use Rattle.reg_terms.specs.declared.kinds.Object.TheVariants as object
 use Rattle.reg_terms.specs.declared.kinds.Holder.{Holder}
 use Rattle.reg_terms.specs.declared.kinds.Holder.TheVariants as holder
 use Rattle.reg_pit.specs.Spans.{covers}
 use Rattle.reg_pit.specs.Runs.{spans_of, is_between}
 use Rattle.reg_pit.specs.Grants.{object_cmp, privilege_cmp, holder_cmp, grant_cmp, held_cmp, is_granted, has_grant, Fits, AreHeld}
-use Rattle.reg_pit.proofs.Held.{object_tells, object_turned, object_itself, of_object, same_grant}
-
-one_object : (a b : Object) → same_object b a ≡ true → b ≡ a
-one_object (object.Folder a) (object.Folder b) h = ap object.Folder (eqb-true b a h)
-one_object (object.Folder a) (object.Group b) h = cc
-one_object (object.Folder a) (object.Def b) h = cc
-one_object (object.Folder a) (object.Attr b) h = cc
-one_object (object.Folder a) (object.Subject b) h = cc
-one_object (object.Group a) (object.Folder b) h = cc
-one_object (object.Group a) (object.Group b) h = ap object.Group (eqb-true b a h)
-one_object (object.Group a) (object.Def b) h = cc
-one_object (object.Group a) (object.Attr b) h = cc
-one_object (object.Group a) (object.Subject b) h = cc
-one_object (object.Def a) (object.Folder b) h = cc
-one_object (object.Def a) (object.Group b) h = cc
-one_object (object.Def a) (object.Def b) h = ap object.Def (eqb-true b a h)
-one_object (object.Def a) (object.Attr b) h = cc
-one_object (object.Def a) (object.Subject b) h = cc
-one_object (object.Attr a) (object.Folder b) h = cc
-one_object (object.Attr a) (object.Group b) h = cc
-one_object (object.Attr a) (object.Def b) h = cc
-one_object (object.Attr a) (object.Attr b) h = ap object.Attr (eqb-true b a h)
-one_object (object.Attr a) (object.Subject b) h = cc
-one_object (object.Subject a) (object.Folder b) h = cc
-one_object (object.Subject a) (object.Group b) h = cc
-one_object (object.Subject a) (object.Def b) h = cc
-one_object (object.Subject a) (object.Attr b) h = cc
-one_object (object.Subject a) (object.Subject b) h = ap object.Subject (eqb-true b a h)
-
-itself : (a : Object) → same_object a a ≡ true
-itself a = sym (object_tells a a) ∙ rw (object_itself a) refl
+use Rattle.reg_pit.proofs.Objects.{object_tells, object_turned, object_tied, object_itself, object_same}
+use Rattle.reg_pit.proofs.Held.{of_object, same_grant}
 
 -- what lies between is of the object
 between_equal : (a b c d e : Ordering) → (is_le (ordering_then (ordering_then a b) c) && is_le (ordering_then (ordering_then (ordering_reverse a) d) e)) ≡ true → is_eq a ≡ true
@@ -59,16 +30,12 @@ module _ (a : Object) (first last : Object × Privilege × Holder) (top : ℕ) (
   of_it : (k : Object × Privilege × Holder) → is_between grant_cmp first last k ≡ true → k.0 ≡ a
   of_it (o, p, h) e =
       let both = rw (first_is, last_is, object_turned a o) at e in
-      one_object a o (sym (object_tells a o) ∙ between_equal (object_cmp a o) (privilege_cmp privilege.Admin p) (holder_cmp holder.Everyone h) (privilege_cmp p privilege.AttrView) (holder_cmp h (holder.Group top)) both)
+      object_same o a (sym (object_tells a o) ∙ between_equal (object_cmp a o) (privilege_cmp privilege.Admin p) (holder_cmp holder.Everyone h) (privilege_cmp p privilege.AttrView) (holder_cmp h (holder.Group top)) both)
 
   module _ (same : (x : Object × Privilege × Holder) → eq_by_cmp grant_cmp x x ≡ true) (turned : (x y : Object × Privilege × Holder) → eq_by_cmp grant_cmp x y ≡ eq_by_cmp grant_cmp y x) where
-    any_true : (b : Bool) → (b || true) ≡ true
-    any_true true = refl
-    any_true false = refl
-
     all_of_it : (keys : List (Object × Privilege × Holder)) → ((k : Object × Privilege × Holder) → list_any (eq_by_cmp grant_cmp k) keys ≡ true → is_between grant_cmp first last k ≡ true) → AllByRecursion (λ (k : Object × Privilege × Holder). k.0 ≡ a) keys
     all_of_it [] h = tt
-    all_of_it (k ∷ keys) h = (of_it k (h k (rw (same k) refl)), all_of_it keys (λ j e. h j (rw e (any_true (eq_by_cmp grant_cmp j k)))))
+    all_of_it (k ∷ keys) h = (of_it k (h k (rw (same k) refl)), all_of_it keys (λ j e. h j (rw e (or-true (eq_by_cmp grant_cmp j k)))))
 
     -- without the object, which all have
     less_then : (b c : Ordering) → ordering_then (ordering_then Equal b) c ≡ Less → ordering_then b c ≡ Less
@@ -77,7 +44,7 @@ module _ (a : Object) (first last : Object × Privilege × Holder) (top : ℕ) (
     one_less : (x y : Object × Privilege × Holder) → x.0 ≡ a → y.0 ≡ a → grant_cmp x y ≡ Less → held_cmp (x.1, x.2) (y.1, y.2) ≡ Less
     one_less (o, p, h) (q, r, j) e f less =
         let both : grant_cmp (a, p, h) (a, r, j) ≡ Less = rw (e, f) at less in
-        less_then (privilege_cmp p r) (holder_cmp h j) (rw (object_itself a) at both)
+        less_then (privilege_cmp p r) (holder_cmp h j) (rw (object_tied a) at both)
 
     below : (x : Object × Privilege × Holder) (keys : List (Object × Privilege × Holder)) → x.0 ≡ a → AllByRecursion (λ (k : Object × Privilege × Holder). k.0 ≡ a) keys → AllByRecursion (λ k. grant_cmp x k ≡ Less) keys
         → AllByRecursion (λ g. held_cmp (x.1, x.2) g ≡ Less) (map (λ (k : Object × Privilege × Holder). (k.1, k.2)) keys)
@@ -90,7 +57,7 @@ module _ (a : Object) (first last : Object × Privilege × Holder) (top : ℕ) (
     in_order (k ∷ keys) f h = (below k keys f.0 f.1 h.0, in_order keys f.1 h.1)
 
     one_found : (p : Privilege) (h : Holder) (k : Object × Privilege × Holder) → k.0 ≡ a → (is_eq (privilege_cmp k.1 p) && is_eq (holder_cmp k.2 h)) ≡ eq_by_cmp grant_cmp (a, p, h) k
-    one_found p h (o, q, j) e = sym (turned (a, p, h) (o, q, j) ∙ (same_grant o a q p j h ∙ (let whole : same_object a o ≡ true = rw e (itself a) in rw whole refl)))
+    one_found p h (o, q, j) e = sym (turned (a, p, h) (o, q, j) ∙ (same_grant o a q p j h ∙ (let whole : same_object a o ≡ true = rw e (object_itself a) in rw whole refl)))
 
     found_by : (p : Privilege) (h : Holder) (keys : List (Object × Privilege × Holder)) → AllByRecursion (λ (k : Object × Privilege × Holder). k.0 ≡ a) keys
         → has_grant (map (λ (k : Object × Privilege × Holder). (k.1, k.2)) keys) p h ≡ list_any (eq_by_cmp grant_cmp (a, p, h)) keys
@@ -106,7 +73,7 @@ module _ (a : Object) (first last : Object × Privilege × Holder) (top : ℕ) (
       held_in_order sorted = in_order keys all_a sorted
 
       fitting : (p : Privilege) (h : Holder) → Fits h → (is_between grant_cmp first last (a, p, h) && is_granted grants a p h t) ≡ is_granted grants a p h t
-      fitting p h f = rw (first_is, last_is, of_object a top a p h top_is f, itself a) refl
+      fitting p h f = rw (first_is, last_is, of_object a top a p h top_is f, object_itself a) refl
 
       none_of : (b c : Bool) → c ≡ false → (b && c) ≡ c
       none_of true c e = refl

@@ -1,6 +1,7 @@
 -- All intervals of the keys from one to another, key by key.
 use Rattle.std.proofs.Common.{◌≡◌, ◌<◌, ◌≤◌, ◌^◌, ◌==◌, ◌&&◌, ◌||◌, ◌++◌, ℕ, suc, List, [], ◌∷◌, Bool, true, false, map, filter, Option, Some, None, nat_lt, nat_le, if◌then◌else◌, arith, refl, sym, ◌∙◌, ap, inl, inr}
 use Rattle.std.proofs.lemmas.Bool.{cases_Bool, eqb-true, and_parts}
+use Rattle.std.proofs.Math.Bool.{or-true}
 use Rattle.std.proofs.lemmas.Bool.Decides.{nat_tests}
 use Rattle.std.proofs.lemmas.Grind.{common_steps}
 use Rattle.std.proofs.lemmas.Cmp.{tied_itself, alike_right}
@@ -29,10 +30,6 @@ kept_one test x xs h = rw h refl
 
 left_one : {X : Type 0} (test : X → Bool) (x : X) (xs : List X) → test x ≡ false → filter test (x ∷ xs) ≡ filter test xs
 left_one test x xs h = rw h refl
-
-or_true : (b : Bool) → (b || true) ≡ true
-or_true true = refl
-or_true false = refl
 
 one_row : {K : Type 0} (k j : K) (s e : ℕ) → j ≡ k → e ≤ never → (k, (span_of (e, s)).0, (span_of (e, s)).1) ≡ keyed_row ((j, e), s)
 one_row k j s e same h = elim (cases_Bool (e == never)) [
@@ -104,7 +101,7 @@ module _ {K : Type 0} (R : K → K → Ordering) (o : IsTotalOrder R) where
   covered_more k t e es h = elim (answer (R k e.0.0)) [
     | less b ↦ rw b h
     | greater b ↦ rw b h
-    | equal b ↦ rw (b, h) (or_true (has_moment t (span_of (e.0.1, e.1))))
+    | equal b ↦ rw (b, h) (or-true (has_moment t (span_of (e.0.1, e.1))))
   ]
 
   fewer : (k : K) (x : (K × ℕ) × ℕ) (es : List ((K × ℕ) × ℕ)) → RunsFrom 0 (runs_of R k (x ∷ es)) → RunsFrom 0 (runs_of R k es)

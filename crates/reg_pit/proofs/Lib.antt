@@ -7,6 +7,8 @@ pub mod Between
 pub mod Clearing
 pub mod Notes
 pub mod Pairs
+pub mod Known
+pub mod Objects
 pub mod Held
 pub mod HeldOn
 pub mod Until

@@ -1,16 +1,16 @@
 -- Pairs of numbers as keys.
-use Rattle.std.proofs.Common.{◌≡◌, ◌<◌, ◌≤◌, ◌^◌, ◌==◌, ◌&&◌, ◌||◌, ℕ, List, [], ◌∷◌, Bool, true, false, map, if◌then◌else◌, nat_le, arith, refl, sym, ◌∙◌, inl, inr}
-use Rattle.std.proofs.lemmas.Bool.{cases_Bool, eqb-true, ne_eqb}
+use Rattle.std.proofs.Common.{◌≡◌, ◌<◌, ◌≤◌, ◌^◌, ◌==◌, ◌&&◌, ◌||◌, ℕ, List, [], ◌∷◌, Bool, true, false, cond, map, if◌then◌else◌, nat_le, arith, refl, sym, ◌∙◌, inl, inr}
+use Rattle.std.proofs.lemmas.Bool.{cases_Bool, and_parts, eqb-true, ne_eqb}
+use Rattle.std.proofs.Math.Bool.{and_comm, or-true}
 use Rattle.std.proofs.lemmas.Bool.Decides.{nat_tests}
 use Rattle.std.proofs.lemmas.Grind.{common_steps}
 use Rattle.std.specs.List.{list_any, AllByRecursion}
 use Rattle.std.specs.List.Sorted.{IsStrictlySortedBy}
 use Rattle.std.specs.Ordering.{nat_cmp, eq_by_cmp}
 use Rattle.std.specs.declared.cmp.Ordering.TheVariants.{Less}
-use Rattle.reg_pit.specs.Spans.{covers, AreSpans, NoLater}
+use Rattle.reg_pit.specs.Spans.{covers}
 use Rattle.reg_pit.specs.Runs.{spans_of, is_between}
-use Rattle.reg_pit.specs.Members.{pair_cmp, are_on, Lists, AreMirrored}
-use Rattle.reg_pit.proofs.Alone.{alone}
+use Rattle.reg_pit.specs.Members.{pair_cmp, are_on, has_pair, Lists, AreKnown}
 
 pub same_pair : (a b x y : ℕ) → eq_by_cmp pair_cmp (a, b) (x, y) ≡ ((x == a) && (y == b))
 same_pair a b x y = grind (arith, nat_tests, common_steps)
@@ -18,31 +18,34 @@ same_pair a b x y = grind (arith, nat_tests, common_steps)
 pub pair_noted : (a b x y at t : ℕ) (on new old : Bool) → new ≡ (if eq_by_cmp pair_cmp (a, b) (x, y) && nat_le at t then on else old) → new ≡ (if ((x == a) && (y == b)) && nat_le at t then on else old)
 pair_noted a b x y at t on new old h = h ∙ rw (same_pair a b x y) refl
 
--- ---- the same the other way round
+-- ---- what is known the other way round
 
-either_way : (p q : Bool) → (p && q) ≡ (q && p)
-either_way true true = refl
-either_way true false = refl
-either_way false true = refl
-either_way false false = refl
+module _ (k : ℕ × ℕ) (old new : List (ℕ × ℕ)) (more : (q : ℕ × ℕ) → has_pair q new ≡ cond (eq_by_cmp pair_cmp k q) true (has_pair q old)) where
+  pub known_now : has_pair k new ≡ true
+  known_now = let itself : eq_by_cmp pair_cmp (k.0, k.1) (k.0, k.1) ≡ true = grind (arith, nat_tests, common_steps) in more k ∙ rw itself refl
 
-module _ (a b at : ℕ) (on : Bool) (pairs reversed pairs_after reversed_after : List (((ℕ × ℕ) × ℕ) × ℕ)) (was : AreMirrored pairs reversed)
-    (set : (k : ℕ × ℕ) (t : ℕ) → covers (spans_of pair_cmp pairs_after k) t ≡ (if eq_by_cmp pair_cmp (a, b) k && nat_le at t then on else covers (spans_of pair_cmp pairs k) t))
-    (set_back : (k : ℕ × ℕ) (t : ℕ) → covers (spans_of pair_cmp reversed_after k) t ≡ (if eq_by_cmp pair_cmp (b, a) k && nat_le at t then on else covers (spans_of pair_cmp reversed k) t)) where
-  same_then : (x y t : ℕ) → covers (spans_of pair_cmp reversed_after (y, x)) t ≡ are_on pairs_after x y t
-  same_then x y t = set_back (y, x) t ∙ (rw (same_pair b a y x, either_way (y == b) (x == a), was.turned x y, ← same_pair a b x y) (sym (set (x, y) t)))
+  pub known_still : (q : ℕ × ℕ) → has_pair q old ≡ true → has_pair q new ≡ true
+  known_still q h = more q ∙ (rw h (elim (eq_by_cmp pair_cmp k q) as (λ b. cond b true true ≡ true) [ true ↦ refl | false ↦ refl ]))
 
-  pub mirrored : a < 2 ^ 32 → b < 2 ^ 32 → ((k : ℕ × ℕ) → NoLater at (spans_of pair_cmp pairs_after k)) → ((k : ℕ × ℕ) → NoLater at (spans_of pair_cmp reversed_after k))
-      → ((k : ℕ × ℕ) → AreSpans (spans_of pair_cmp pairs_after k)) → ((k : ℕ × ℕ) → AreSpans (spans_of pair_cmp reversed_after k)) → AreMirrored pairs_after reversed_after
-  mirrored a_fits b_fits last last_back apart apart_back = record {
-    turned = λ x y. alone (λ t. are_on pairs_after x y t) at (spans_of pair_cmp reversed_after (y, x)) (spans_of pair_cmp pairs_after (x, y))
-        (record { are = apart_back (y, x); last = last_back (y, x); covers = λ t w. same_then x y t }) (record { are = apart (x, y); last = last (x, y); covers = λ t w. refl });
+module _ (a b at : ℕ) (on : Bool) (pairs pairs_after : List (((ℕ × ℕ) × ℕ) × ℕ)) (reversed reversed_after : List (ℕ × ℕ)) (was : AreKnown pairs reversed)
+    (set : (k : ℕ × ℕ) (t : ℕ) → covers (spans_of pair_cmp pairs_after k) t ≡ (if eq_by_cmp pair_cmp (a, b) k && nat_le at t then on else covers (spans_of pair_cmp pairs k) t)) where
+  pub known_after : a < 2 ^ 32 → b < 2 ^ 32 → (on ≡ true → has_pair (b, a) reversed_after ≡ true) → ((q : ℕ × ℕ) → has_pair q reversed ≡ true → has_pair q reversed_after ≡ true) → AreKnown pairs_after reversed_after
+  known_after a_fits b_fits here others = record {
+    known = λ x y t h.
+        let told = pair_noted a b x y at t on (are_on pairs_after x y t) (are_on pairs x y t) (set (x, y) t) in
+        elim (cases_Bool (((x == a) && (y == b)) && nat_le at t)) [
+          | inl e ↦
+              let same = and_parts (x == a) (y == b) (and_parts ((x == a) && (y == b)) (nat_le at t) e).0 in
+              let is_on : on ≡ true = sym (rw e at told) ∙ h in
+              rw (eqb-true x a same.0, eqb-true y b same.1) (here is_on)
+          | inr f ↦ others (y, x) (was.known x y t (sym (rw f at told) ∙ h))
+        ];
     first = λ x y t h.
         let other : (x == a) ≡ false = ne_eqb x a (λ e. absurd (omega (arith, e, h, a_fits))) in
         set (x, y) t ∙ rw (same_pair a b x y, other) (was.first x y t h);
     second = λ x y t h.
         let other : (y == b) ≡ false = ne_eqb y b (λ e. absurd (omega (arith, e, h, b_fits))) in
-        set (x, y) t ∙ rw (same_pair a b x y, either_way (x == a) (y == b), other) (was.second x y t h);
+        set (x, y) t ∙ rw (same_pair a b x y, and_comm (x == a) (y == b), other) (was.second x y t h);
   }
 
 -- ---- those with one first number
@@ -53,14 +56,10 @@ between_one a top x y = grind (arith, nat_tests, common_steps)
 module _ (a : ℕ) where
   all_first : (pairs : List (ℕ × ℕ)) → ((k : ℕ × ℕ) → list_any (eq_by_cmp pair_cmp k) pairs ≡ true → (k.0 == a) ≡ true) → AllByRecursion (λ (p : ℕ × ℕ). p.0 ≡ a) pairs
   all_first [] h = tt
-  all_first (p ∷ pairs) h = (eqb-true p.0 a (h p (found p)), all_first pairs (λ k e. h k (rw e (any_true (eq_by_cmp pair_cmp k p)))))
+  all_first (p ∷ pairs) h = (eqb-true p.0 a (h p (found p)), all_first pairs (λ k e. h k (rw e (or-true (eq_by_cmp pair_cmp k p)))))
     where
       found : (p : ℕ × ℕ) → (eq_by_cmp pair_cmp p p || list_any (eq_by_cmp pair_cmp p) pairs) ≡ true
       found (x, y) = let itself : eq_by_cmp pair_cmp (x, y) (x, y) ≡ true = grind (arith, nat_tests, common_steps) in rw itself refl
-
-      any_true : (b : Bool) → (b || true) ≡ true
-      any_true true = refl
-      any_true false = refl
 
   below : (x : ℕ × ℕ) (pairs : List (ℕ × ℕ)) → x.0 ≡ a → AllByRecursion (λ (p : ℕ × ℕ). p.0 ≡ a) pairs → AllByRecursion (λ q. pair_cmp x q ≡ Less) pairs → AllByRecursion (λ n. nat_cmp x.1 n ≡ Less) (map (λ (p : ℕ × ℕ). p.1) pairs)
   below x [] e f h = tt
@@ -69,7 +68,7 @@ module _ (a : ℕ) where
       let same : p.0 ≡ a = f.0 in
       (grind (arith, nat_tests, common_steps, less, same, e), below x pairs e f.1 h.1)
 
-  ascending : (pairs : List (ℕ × ℕ)) → AllByRecursion (λ (p : ℕ × ℕ). p.0 ≡ a) pairs → IsStrictlySortedBy pair_cmp pairs → IsStrictlySortedBy nat_cmp (map (λ (p : ℕ × ℕ). p.1) pairs)
+  pub ascending : (pairs : List (ℕ × ℕ)) → AllByRecursion (λ (p : ℕ × ℕ). p.0 ≡ a) pairs → IsStrictlySortedBy pair_cmp pairs → IsStrictlySortedBy nat_cmp (map (λ (p : ℕ × ℕ). p.1) pairs)
   unfolding IsStrictlySortedBy
   ascending [] f h = tt
   ascending (p ∷ pairs) f h = (below p pairs f.0 f.1 h.0, ascending pairs f.1 h.1)

@@ -1,5 +1,5 @@
 -- The intervals of one key among those of all keys.
-use Rattle.std.proofs.Common.{is_some, ◌≡◌, ◌<◌, ◌≤◌, ◌&&◌, ℕ, suc, List, [], ◌∷◌, Bool, true, false, not, map, filter, cond, Option, Some, None, nat_le, arith, refl, sym, ◌∙◌, ap, inl, inr}
+use Rattle.std.proofs.Common.{◌≡◌, ◌<◌, ◌≤◌, ◌&&◌, ℕ, suc, List, [], ◌∷◌, Bool, true, false, not, map, filter, cond, Option, Some, None, nat_le, arith, refl, sym, ◌∙◌, ap, inl, inr}
 use Rattle.std.proofs.lemmas.Bool.{cases_Bool}
 use Rattle.std.proofs.lemmas.Bool.Decides.{nat_tests}
 use Rattle.std.proofs.lemmas.Grind.{common_steps}
@@ -15,22 +15,13 @@ use Rattle.std.specs.declared.ops.Bound.TheVariants.{Included}
 use Rattle.std.specs.declared.cmp.Ordering.{Ordering}
 use Rattle.std.specs.declared.cmp.Ordering.TheVariants.{Less, Equal}
 use Rattle.reg_pit.specs.Spans.{NoLater}
-use Rattle.reg_pit.specs.Runs.{never, place_cmp, runs_of, spans_of, RunsFrom, AreRuns, Switched}
+use Rattle.reg_pit.specs.Runs.{never, span_of, place_cmp, runs_of, spans_of, RunsFrom, AreRuns, EndedBy, Switched}
 use Rattle.reg_pit.proofs.Orders.{Answer, less, equal, greater, answer, then_equal, then_less, is_equal}
-use Rattle.reg_pit.proofs.Turning.{start_at, with_run, without_run, Turned, begins, goes_on, stays_on, stays_off, vanishes, ends, open_start}
+use Rattle.reg_pit.proofs.Turning.{start_at, with_run, without_run, Turned, begins, goes_on, stays_on, stays_off, vanishes, ends, open_start, overwritten, put_back, start_with, ended_with, ended_without}
 
 -- an end and a start
 abbrev pub run_of : {K : Type 0} → (K × ℕ) × ℕ → ℕ × ℕ
 run_of e = (e.0.1, e.1)
-
--- what a look-up answers
-some_one : (o : Option ℕ) → is_some o ≡ true → (s : ℕ) × (o ≡ Some s)
-some_one None h = cc
-some_one (Some s) h = (s, refl)
-
-no_one : (o : Option ℕ) → is_some o ≡ false → o ≡ None
-no_one None h = refl
-no_one (Some s) h = cc
 
 module _ {K : Type 0} (R : K → K → Ordering) (o : IsTotalOrder R) where
   -- equal keys have the same intervals
@@ -158,28 +149,61 @@ module _ {K : Type 0} (R : K → K → Ordering) (o : IsTotalOrder R) where
 
   -- an end that is never, and one that is now
   module _ (key : K) (at : ℕ) (old : List ((K × ℕ) × ℕ)) (kept : AreRuns R old) (last : (k : K) → NoLater at (spans_of R old k)) (moment : at < never) (open_ now : ℕ) (is_never : open_ ≡ never) (is_now : now ≡ at) where
-    pub key_stays_on : is_some (lookup (is_at (place_cmp R (key, open_))) old) ≡ true → Switched R key at true old old
-    key_stays_on h = let (s, there) = some_one (lookup (is_at (place_cmp R (key, never))) old) (rw is_never at h) in
-        switched key at true old old kept last kept.ordered (λ k f. refl) (stays_on 0 at s (runs_of R key old) moment (kept.each key) (last key) (one_there key never s old there))
+    -- and a moment after which none ended
+    module _ (latest : ℕ) (ended : (k : K) → EndedBy latest (spans_of R old k)) where
+      abbrev pub Begun : List ((K × ℕ) × ℕ) → Type 0
+      Begun new = Switched R key at true old new × ((k : K) → EndedBy latest (spans_of R new k))
 
-    pub key_begins : (new : List ((K × ℕ) × ℕ)) → is_some (lookup (is_at (place_cmp R (key, open_))) old) ≡ false → lookup (is_at (place_cmp R (key, now))) old ≡ None
-        → new ≡ insert_entry (place_cmp R) old (key, open_) at → IsStrictlySortedBy (place_cmp R) (keys_of new) → Switched R key at true old new
-    key_begins new h i e sorted =
-        let none = no_one (lookup (is_at (place_cmp R (key, never))) old) (rw is_never at h) in
-        let here : lookup (is_at (place_cmp R (key, at))) old ≡ None = rw is_now at i in
-        let more : new ≡ insert_entry (place_cmp R) old (key, never) at = rw is_never at e in
-        switched key at true old new kept last sorted (λ k f. rw more (insert_other key k never at old f))
-        (rw (more, insert_same key never at old kept.ordered) (begins 0 at (runs_of R key old) (omega arith) moment (kept.each key) (last key) (nothing_there key never old none) (nothing_there key at old here)))
+      begun : (new : List ((K × ℕ) × ℕ)) → IsStrictlySortedBy (place_cmp R) (keys_of new) → ((k : K) → is_eq (R k key) ≡ false → runs_of R k new ≡ runs_of R k old) → Turned 0 at true (runs_of R key old) (runs_of R key new)
+          → EndedBy latest (map span_of (runs_of R key new)) → Begun new
+      begun new sorted others here by = (
+        switched key at true old new kept last sorted others here,
+        λ k. elim (answer (R k key)) [
+          | equal e ↦ rw (alike_runs k key new e) by
+          | less e ↦ rw (others k (ap is_eq e)) (ended k)
+          | greater e ↦ rw (others k (ap is_eq e)) (ended k)
+        ],
+      )
 
-    pub key_goes_on : (s : ℕ) (one new : List ((K × ℕ) × ℕ)) → is_some (lookup (is_at (place_cmp R (key, open_))) old) ≡ false → lookup (is_at (place_cmp R (key, now))) old ≡ Some s
-        → one ≡ insert_entry (place_cmp R) old (key, open_) s → new ≡ remove_entry (is_at (place_cmp R (key, now))) one → IsStrictlySortedBy (place_cmp R) (keys_of new) → Switched R key at true old new
-    key_goes_on s one new h i e f sorted =
-        let none = no_one (lookup (is_at (place_cmp R (key, never))) old) (rw is_never at h) in
-        let here : lookup (is_at (place_cmp R (key, at))) old ≡ Some s = rw is_now at i in
-        let more : one ≡ insert_entry (place_cmp R) old (key, never) s = rw is_never at e in
-        let less : new ≡ remove_entry (is_at (place_cmp R (key, at))) one = rw is_now at f in
-        switched key at true old new kept last sorted (λ k far. rw (less, remove_other key k at one far, more) (insert_other key k never s old far))
-        (rw (less, remove_same key at one, more, insert_same key never s old kept.ordered) (goes_on 0 at s (runs_of R key old) moment (kept.each key) (last key) (nothing_there key never old none) (one_there key at s old here)))
+      -- one that goes on is put back
+      pub key_stays_on : (s : ℕ) (one new : List ((K × ℕ) × ℕ)) → lookup (is_at (place_cmp R (key, open_))) old ≡ Some s → one ≡ insert_entry (place_cmp R) old (key, open_) at → IsStrictlySortedBy (place_cmp R) (keys_of one)
+          → new ≡ insert_entry (place_cmp R) one (key, open_) s → IsStrictlySortedBy (place_cmp R) (keys_of new) → Begun new
+      key_stays_on s one new h e ordered f sorted =
+          let there = one_there key never s old (rw is_never at h) in
+          let more : one ≡ insert_entry (place_cmp R) old (key, never) at = rw is_never at e in
+          let back : new ≡ insert_entry (place_cmp R) one (key, never) s = rw is_never at f in
+          let same : runs_of R key new ≡ runs_of R key old =
+          rw (back, insert_same key never s one ordered, more, insert_same key never at old kept.ordered, overwritten never at s (runs_of R key old)) (put_back 0 s (runs_of R key old) (kept.each key) there) in
+          begun new sorted (λ k far. rw (back, insert_other key k never s one far, more) (insert_other key k never at old far))
+          (rw same (stays_on 0 at s (runs_of R key old) moment (kept.each key) (last key) there)) (rw same (ended key))
+
+      pub key_begins : (new : List ((K × ℕ) × ℕ)) → lookup (is_at (place_cmp R (key, open_))) old ≡ None → start_at at (runs_of R key old) ≡ None
+          → new ≡ insert_entry (place_cmp R) old (key, open_) at → IsStrictlySortedBy (place_cmp R) (keys_of new) → Begun new
+      key_begins new h none e sorted =
+          let more : new ≡ insert_entry (place_cmp R) old (key, never) at = rw is_never at e in
+          let here : runs_of R key new ≡ with_run (runs_of R key old) never at = rw more (insert_same key never at old kept.ordered) in
+          begun new sorted (λ k far. rw more (insert_other key k never at old far))
+          (rw here (begins 0 at (runs_of R key old) (omega arith) moment (kept.each key) (last key) (nothing_there key never old (rw is_never at h)) none)) (rw here (ended_with latest at (runs_of R key old) (ended key)))
+
+      -- what ends at the moment, where one that begins then was put in
+      pub start_then : (new : List ((K × ℕ) × ℕ)) (start : Option ℕ) → new ≡ insert_entry (place_cmp R) old (key, open_) at → lookup (is_at (place_cmp R (key, now))) new ≡ start → start_at at (runs_of R key old) ≡ start
+      start_then new start e h =
+          let more : new ≡ insert_entry (place_cmp R) old (key, never) at = rw is_never at e in
+          let here : start_at at (runs_of R key new) ≡ start = sym (start_found key at new) ∙ (rw is_now at h) in
+          sym (start_with at at (runs_of R key old) moment) ∙ (rw (more, insert_same key never at old kept.ordered) at here)
+
+      pub key_goes_on : (s : ℕ) (one two new : List ((K × ℕ) × ℕ)) → lookup (is_at (place_cmp R (key, open_))) old ≡ None → start_at at (runs_of R key old) ≡ Some s
+          → one ≡ insert_entry (place_cmp R) old (key, open_) at → IsStrictlySortedBy (place_cmp R) (keys_of one) → two ≡ insert_entry (place_cmp R) one (key, open_) s
+          → new ≡ remove_entry (is_at (place_cmp R (key, now))) two → IsStrictlySortedBy (place_cmp R) (keys_of new) → Begun new
+      key_goes_on s one two new h there e ordered f d sorted =
+          let more : one ≡ insert_entry (place_cmp R) old (key, never) at = rw is_never at e in
+          let over : two ≡ insert_entry (place_cmp R) one (key, never) s = rw is_never at f in
+          let less : new ≡ remove_entry (is_at (place_cmp R (key, at))) two = rw is_now at d in
+          let here : runs_of R key new ≡ without_run at (with_run (runs_of R key old) never s) =
+          rw (less, remove_same key at two, over, insert_same key never s one ordered, more, insert_same key never at old kept.ordered, overwritten never at s (runs_of R key old)) refl in
+          begun new sorted (λ k far. rw (less, remove_other key k at two far, over, insert_other key k never s one far, more) (insert_other key k never at old far))
+          (rw here (goes_on 0 at s (runs_of R key old) moment (kept.each key) (last key) (nothing_there key never old (rw is_never at h)) there))
+          (rw here (ended_without latest at (with_run (runs_of R key old) never s) (ended_with latest s (runs_of R key old) (ended key))))
 
     pub key_stays_off : lookup (is_at (place_cmp R (key, open_))) old ≡ None → Switched R key at false old old
     key_stays_off h =

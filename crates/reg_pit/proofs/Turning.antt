@@ -1,14 +1,16 @@
 -- The intervals of one key, as it is switched on or off at a moment.
-use Rattle.std.proofs.Common.{◌≡◌, ◌<◌, ◌≤◌, ◌==◌, ◌&&◌, ◌||◌, ℕ, suc, List, [], ◌∷◌, Bool, true, false, map, cond, Option, Some, None, nat_lt, nat_le, if◌then◌else◌, arith, refl, ◌∙◌, inl, inr}
+use Rattle.std.proofs.Common.{◌≡◌, ◌<◌, ◌≤◌, ◌==◌, ◌&&◌, ◌||◌, ℕ, suc, List, [], ◌∷◌, Bool, true, false, map, cond, Option, Some, None, nat_lt, nat_le, if◌then◌else◌, arith, refl, ap, ◌∙◌, inl, inr}
 use Rattle.std.proofs.lemmas.Bool.{cases_Bool, eqb-true, eq-eqb, ne_eqb}
 use Rattle.std.proofs.lemmas.Bool.Decides.{nat_tests}
 use Rattle.std.proofs.lemmas.Grind.{common_steps}
+use Rattle.std.proofs.lemmas.Cmp.{nat_cmp_total, tied_itself}
 use Rattle.std.specs.Map.{lookup, remove_entry}
 use Rattle.std.specs.BTreeMap.{is_at, insert_entry}
 use Rattle.std.specs.Ordering.{nat_cmp}
-use Rattle.std.specs.declared.cmp.Ordering.TheVariants.{Less, Greater}
+use Rattle.std.specs.declared.cmp.Ordering.TheVariants.{Less, Equal, Greater}
 use Rattle.reg_pit.specs.Spans.{covers, NoLater}
-use Rattle.reg_pit.specs.Runs.{never, span_of, RunsFrom}
+use Rattle.reg_pit.specs.Runs.{never, span_of, RunsFrom, EndedBy}
+use Rattle.reg_pit.proofs.Orders.{less, equal, greater, answer}
 
 -- the start of the interval with an end
 abbrev pub start_at : ℕ → List (ℕ × ℕ) → Option ℕ
@@ -30,7 +32,7 @@ pub record Turned (n at : ℕ) (on : Bool) (old new : List (ℕ × ℕ)) : Type 
 pub at_end : (e f : ℕ) → is_at (nat_cmp e) f ≡ (f == e)
 at_end e f = grind (arith, nat_tests, common_steps)
 
-after : (e f : ℕ) → f < e → nat_cmp e f ≡ Greater
+pub after : (e f : ℕ) → f < e → nat_cmp e f ≡ Greater
 after e f h = grind (arith, nat_tests, common_steps)
 
 before : (e f : ℕ) → e < f → nat_cmp e f ≡ Less
@@ -225,4 +227,86 @@ open_start s n at [] h u = cc
 open_start s n at ((e, x) ∷ runs) h u = elim (cases_Bool (e == never)) [
   | inl y ↦ let q : x ≡ s = the_one (is_at (nat_cmp never) e) x s (start_at never runs) (at_end never e ∙ y) u in let k = (rw y at h).0 in omega (arith, q, k)
   | inr y ↦ let q : is_at (nat_cmp never) e ≡ false = at_end never e ∙ y in open_start s n at runs (no_later_rest at e x runs h) (rw q at u)
+]
+
+-- ---- one put in the place of another
+
+-- of two that are put in with one end, the later one stays
+pub overwritten : (e a s : ℕ) (runs : List (ℕ × ℕ)) → with_run (with_run runs e a) e s ≡ with_run runs e s
+overwritten e a s [] = rw (tied_itself nat_cmp_total e) refl
+overwritten e a s ((f, x) ∷ runs) = elim (answer (nat_cmp e f)) [
+  | less b ↦ rw (b, tied_itself nat_cmp_total e) refl
+  | equal b ↦ rw (b, b) refl
+  | greater b ↦ rw (b, b) (ap (λ rest. (f, x) ∷ rest) (overwritten e a s runs))
+]
+
+-- one that has no end, put in with the start that it has
+pub put_back : (n s : ℕ) (runs : List (ℕ × ℕ)) → RunsFrom n runs → start_at never runs ≡ Some s → with_run runs never s ≡ runs
+put_back n s [] r u = cc
+put_back n s ((e, x) ∷ runs) r u = elim (cases_Bool (e == never)) [
+  | inl y ↦
+      let q : x ≡ s = the_one (is_at (nat_cmp never) e) x s (start_at never runs) (at_end never e ∙ y) u in
+      let tie : nat_cmp never e ≡ Equal = grind (arith, nat_tests, common_steps, y) in
+      rw (tie, q) refl
+  | inr z ↦
+      let m : e < never = grind (arith, nat_tests, z, r.2) in
+      rw (after never e m) (ap (λ rest. (e, x) ∷ rest) (put_back (suc e) s runs r.3 (rw (apart never e m) at u)))
+]
+
+other_end : (at : ℕ) → at < never → is_at (nat_cmp at) never ≡ false
+other_end at b = at_end at never ∙ ne_eqb never at (λ k. absurd (omega (arith, k, b)))
+
+-- what ends at a moment is the same with one more that has no end
+pub start_with : (at s : ℕ) (runs : List (ℕ × ℕ)) → at < never → start_at at (with_run runs never s) ≡ start_at at runs
+start_with at s [] b = rw (other_end at b) refl
+start_with at s ((e, x) ∷ runs) b = elim (answer (nat_cmp never e)) [
+  | less a ↦ rw (a, other_end at b) refl
+  | equal a ↦
+      let same : e ≡ never = grind (arith, nat_tests, common_steps, a) in
+      let far : is_at (nat_cmp at) e ≡ false = rw same (other_end at b) in
+      rw (a, far) refl
+  | greater a ↦ rw a (ap (λ rest. cond (is_at (nat_cmp at) e) (Some x) rest) (start_with at s runs b))
+]
+
+-- ---- no end later than a moment
+
+pub no_later_ended : (at : ℕ) (spans : List (ℕ × Option ℕ)) → NoLater at spans → EndedBy at spans
+no_later_ended at [] h = tt
+no_later_ended at ((s, None) ∷ spans) h = no_later_ended at spans h.1
+no_later_ended at ((s, Some e) ∷ spans) h = (h.1, no_later_ended at spans h.2)
+
+-- so nothing ends at a later one
+pub nothing_ends : (at latest : ℕ) (runs : List (ℕ × ℕ)) → latest < at → at < never → EndedBy latest (map span_of runs) → start_at at runs ≡ None
+nothing_ends at latest [] w b h = refl
+nothing_ends at latest ((e, s) ∷ runs) w b h = elim (cases_Bool (e == never)) [
+  | inl y ↦
+      let far : is_at (nat_cmp at) e ≡ false = at_end at e ∙ ne_eqb e at (λ k. absurd (omega (arith, k, b, eqb-true e never y))) in
+      rw far (nothing_ends at latest runs w b (rw y at h))
+  | inr z ↦
+      let both = rw z at h in
+      let far : is_at (nat_cmp at) e ≡ false = at_end at e ∙ ne_eqb e at (λ k. absurd (omega (arith, k, w, both.0))) in
+      rw far (nothing_ends at latest runs w b both.1)
+]
+
+-- the same of one more that has no end, and of one less
+pub ended_with : (latest s : ℕ) (runs : List (ℕ × ℕ)) → EndedBy latest (map span_of runs) → EndedBy latest (map span_of (with_run runs never s))
+ended_with latest s [] h = tt
+ended_with latest s ((e, x) ∷ runs) h = elim (answer (nat_cmp never e)) [
+  | less a ↦ rw a h
+  | equal a ↦ rw a (elim (cases_Bool (e == never)) [ inl y ↦ rw y (rw y at h) | inr z ↦ rw z (rw z at h) ])
+  | greater a ↦ rw a (elim (cases_Bool (e == never)) [
+    | inl y ↦ rw y (ended_with latest s runs (rw y at h))
+    | inr z ↦ let both = rw z at h in rw z (both.0, ended_with latest s runs both.1)
+  ])
+]
+
+pub ended_without : (latest e : ℕ) (runs : List (ℕ × ℕ)) → EndedBy latest (map span_of runs) → EndedBy latest (map span_of (without_run e runs))
+ended_without latest e [] h = tt
+ended_without latest e ((f, x) ∷ runs) h = elim (cases_Bool (f == never)) [
+  | inl y ↦
+      let rest : EndedBy latest (map span_of runs) = rw y at h in
+      elim (cases_Bool (is_at (nat_cmp e) f)) [ inl t ↦ rw t rest | inr k ↦ rw (k, y) (ended_without latest e runs rest) ]
+  | inr z ↦
+      let both = rw z at h in
+      elim (cases_Bool (is_at (nat_cmp e) f)) [ inl t ↦ rw t both.1 | inr k ↦ rw (k, z) (both.0, ended_without latest e runs both.1) ]
 ]

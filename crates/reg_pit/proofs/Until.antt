@@ -1,6 +1,7 @@
 -- Intervals put together moment by moment.
-use Rattle.std.proofs.Common.{◌≡◌, ◌≤◌, ◌&&◌, ◌||◌, ℕ, zero, suc, List, [], ◌∷◌, Bool, true, false, Option, Some, None, nat_lt, nat_le, arith, refl, sym, ◌∙◌, inl, inr}
+use Rattle.std.proofs.Common.{◌≡◌, ◌≤◌, ◌&&◌, ℕ, zero, suc, List, [], ◌∷◌, Bool, true, false, Option, Some, None, nat_lt, nat_le, arith, refl, sym, ◌∙◌, inl, inr}
 use Rattle.std.proofs.lemmas.Bool.{cases_Bool}
+use Rattle.std.proofs.Math.Bool.{or-true}
 use Rattle.std.proofs.lemmas.Bool.Decides.{nat_tests}
 use Rattle.std.proofs.lemmas.Grind.{common_steps}
 use Rattle.reg_pit.specs.Spans.{covers, AreSpans, SpansFrom, NoLater, AreSpansOf, on_at, off_at, spans_until}
@@ -28,14 +29,10 @@ on_before n t [] w = let a : nat_le (suc n) t ≡ false = grind (arith, nat_test
 on_before n t ((s, None) ∷ spans) w = refl
 on_before n t ((s, Some e) ∷ spans) w = rw (on_before n t spans w) refl
 
-or_true : (b : Bool) → (b || true) ≡ true
-or_true true = refl
-or_true false = refl
-
 on_then : (n : ℕ) (spans : List (ℕ × Option ℕ)) → NoLater n spans → covers (on_at (suc n) spans) (suc n) ≡ true
 on_then n [] l = let a : nat_le (suc n) (suc n) ≡ true = grind (arith, nat_tests) in rw a refl
 on_then n ((s, None) ∷ spans) l = let a : nat_le s (suc n) ≡ true = grind (arith, nat_tests, l.0) in rw a refl
-on_then n ((s, Some e) ∷ spans) l = rw (on_then n spans l.2) (or_true (nat_le s (suc n) && nat_lt (suc n) e))
+on_then n ((s, Some e) ∷ spans) l = rw (on_then n spans l.2) (or-true (nat_le s (suc n) && nat_lt (suc n) e))
 
 -- ---- and off then
 

@@ -1,6 +1,6 @@
 -- Memberships as intervals.
-use Rattle.std.specs.Prelude.{◌≡◌, ◌≤◌, ◌^◌, ◌==◌, ◌++◌, ℕ, List, [], ◌∷◌, Bool, false, Option, map}
-use Rattle.std.specs.Ordering.{nat_cmp, ordering_then}
+use Rattle.std.specs.Prelude.{◌≡◌, ◌≤◌, ◌^◌, ◌==◌, ◌++◌, ℕ, List, [], ◌∷◌, Bool, true, false, Option, map}
+use Rattle.std.specs.Ordering.{nat_cmp, ordering_then, eq_by_cmp}
 use Rattle.std.specs.List.{list_any}
 use Rattle.std.specs.List.Sorted.{IsStrictlySortedBy}
 use Rattle.std.specs.declared.cmp.Ordering.{Ordering}
@@ -25,8 +25,12 @@ pub record Lists (test : ℕ → Bool) (numbers : List ℕ) : Type 0 where
   pub ascending : IsStrictlySortedBy nat_cmp numbers
   pub each : (n : ℕ) → list_any (λ x. x == n) numbers ≡ test n
 
--- each pair has the intervals of the pair the other way round, and is of numbers of 32 bits
-pub record AreMirrored (pairs reversed : List (((ℕ × ℕ) × ℕ) × ℕ)) : Type 0 where
-  pub turned : (x y : ℕ) → spans_of pair_cmp reversed (y, x) ≡ spans_of pair_cmp pairs (x, y)
+-- whether a pair is among some
+abbrev pub has_pair : ℕ × ℕ → List (ℕ × ℕ) → Bool
+has_pair k pairs = list_any (eq_by_cmp pair_cmp k) pairs
+
+-- each pair that was ever on is known the other way round, and is of numbers of 32 bits
+pub record AreKnown (pairs : List (((ℕ × ℕ) × ℕ) × ℕ)) (reversed : List (ℕ × ℕ)) : Type 0 where
+  pub known : (x y t : ℕ) → are_on pairs x y t ≡ true → has_pair (y, x) reversed ≡ true
   pub first : (x y t : ℕ) → 2 ^ 32 ≤ x → are_on pairs x y t ≡ false
   pub second : (x y t : ℕ) → 2 ^ 32 ≤ y → are_on pairs x y t ≡ false

@@ -38,6 +38,17 @@ pub record AreRuns {K : Type 0} (R : K → K → Ordering) (es : List ((K × ℕ
   pub ordered : IsStrictlySortedBy (place_cmp R) (keys_of es)
   pub each : (k : K) → RunsFrom 0 (runs_of R k es)
 
+-- no interval that has an end ends later than a moment
+abbrev pub EndedBy : ℕ → List (ℕ × Option ℕ) → Type 0
+EndedBy latest [] = ⊤
+EndedBy latest ((s, None) ∷ spans) = EndedBy latest spans
+EndedBy latest ((s, Some e) ∷ spans) = (e ≤ latest) × EndedBy latest spans
+
+-- the intervals, and a moment after which none ended
+pub record AreKept {K : Type 0} (R : K → K → Ordering) (latest : ℕ) (es : List ((K × ℕ) × ℕ)) : Type 0 where
+  pub runs : AreRuns R es
+  pub ended : (k : K) → EndedBy latest (spans_of R es k)
+
 -- from a moment on a key is on or off; all else is as before
 pub record Switched {K : Type 0} (R : K → K → Ordering) (key : K) (at : ℕ) (on : Bool) (old new : List ((K × ℕ) × ℕ)) : Type 0 where
   pub kept : AreRuns R new

@@ -1,10 +1,10 @@
 // Intervals of moments for each key.
-ghost use Rattle.std.specs.Prelude.{Bool, List, Option, ◌≡◌, ◌≤◌, ◌<◌, ◌+◌, ◌*◌, ◌^◌, ◌&&◌, ℕ, [], true, false, length, nat_le, nat_lt, Some, None, IfOk, OnOk, OnErr, if◌then◌else◌};
+ghost use Rattle.std.specs.Prelude.{Bool, List, Option, ◌≡◌, ◌≤◌, ◌<◌, ◌+◌, ◌*◌, ◌^◌, ◌&&◌, ℕ, [], true, false, length, nat_le, nat_lt, Some, None, IfSome, IfNone, IfOk, OnOk, OnErr, if◌then◌else◌};
 ghost use Rattle.std.specs.Ordering.{eq_by_cmp, is_gt};
 ghost use Rattle.std.specs.List.{list_any};
 ghost use Rattle.std.specs.List.Sorted.{IsStrictlySortedBy};
 ghost use Rattle.reg_pit.specs.Spans.{covers, AreSpans, AreSpansOf, NoLater, spans_until};
-ghost use Rattle.reg_pit.specs.Runs.{AreRuns, Switched, is_between, spans_of, TiesAreOne, AreAllOn, keyed_spans};
+ghost use Rattle.reg_pit.specs.Runs.{AreRuns, EndedBy, Switched, is_between, spans_of, TiesAreOne, AreAllOn, keyed_spans};
 
 use crate::ends::End;
 use reg_base::{Moment, Steps};
@@ -21,43 +21,49 @@ pub struct Intervals<K: Ord + Copy> {
     alloc: Global,
     /// The start of each interval, by its key and its end.
     starts: BTreeMap<(K, End), Moment>,
+    /// A moment after which no interval ended, so that one that begins later is known to go on from
+    /// none.
+    latest: Moment,
 }
 
 impl<K: Ord + Copy> Model for Intervals<K> {
     ghost use Rattle.std.specs.Prelude.{List, ℕ};
-    ghost use Rattle.reg_pit.specs.Runs.{AreRuns};
+    ghost use Rattle.reg_pit.specs.Runs.{AreKept};
 
     ghost Value = { List ((K × ℕ) × ℕ) };
 
     ghost view = { λ i. i.starts.entries };
 
-    ghost invariant = { λ i. AreRuns K.cmp i.starts.entries };
+    ghost invariant = { λ i. AreKept K.cmp i.latest i.starts.entries };
 }
 
 /// Lets an interval of the key begin, unless one goes on: one that ended at the moment goes on.
+/// None ended after `latest`.
 fn begin<K: Ord + Copy>(
     starts: &mut BTreeMap<(K, End), Moment>,
     key: K,
     at: Moment,
+    latest: Moment,
 ) -> Result<(), AllocError>
     requires kept { AreRuns K.cmp starts.old.entries }
     requires last { (k : K) → NoLater at (spans_of K.cmp starts.old.entries k) }
+    requires ended { (k : K) → EndedBy latest (spans_of K.cmp starts.old.entries k) }
     ensures ok { OnOk result (Switched K.cmp key at true starts.old.entries starts.new.entries) }
+    ensures ended { OnOk result ((k : K) → EndedBy latest (spans_of K.cmp starts.new.entries k)) }
     ensures err { OnErr result (starts.new.entries ≡ starts.old.entries) }
 {
     let never = End::never();
     let now = End::at(at);
-    if starts.contains_key(&(key, never)) {
+    if let Some(began) = starts.insert((key, never), at)? {
+        starts.insert((key, never), began)?; // as it was
         return Ok(());
     }
-    match starts.get(&(key, now)).copied() {
-        Some(start) => {
-            starts.insert((key, never), start)?;
-            starts.remove(&(key, now));
-        }
-        None => {
-            starts.insert((key, never), at)?;
-        }
+    if latest.micros() < at.micros() {
+        return Ok(());
+    }
+    if let Some(start) = starts.get(&(key, now)).copied() {
+        starts.insert((key, never), start)?;
+        starts.remove(&(key, now));
     }
     Ok(())
 }
@@ -95,6 +101,7 @@ impl<K: Ord + Copy> Intervals<K> {
         Intervals {
             alloc,
             starts: BTreeMap::new(alloc),
+            latest: Moment::start(),
         }
     }
 
@@ -108,9 +115,36 @@ impl<K: Ord + Copy> Intervals<K> {
         ensures err { OnErr result (self.new ≡ self.old) }
     {
         if on {
-            begin(&mut self.starts, key, at)
-        } else {
-            end(&mut self.starts, key, at)
+            return begin(&mut self.starts, key, at, self.latest);
+        }
+        end(&mut self.starts, key, at)?;
+        self.latest = at;
+        Ok(())
+    }
+
+    /// The start of the first interval of the key that ends after a moment.
+    fn first_after(&self, key: K, t: Moment) -> Option<Moment>
+        ensures some { IfSome result (λ start. nat_le start t ≡ covers (spans_of K.cmp self.now key) t) }
+        ensures one { IfSome result (λ start. 1 ≤ length (spans_of K.cmp self.now key)) }
+        ensures none { IfNone result (covers (spans_of K.cmp self.now key) t ≡ false) }
+    {
+        match self
+            .starts
+            .range((key, End::after(t))..=(key, End::never()))
+            .next()
+        {
+            Some((_, start)) => Some(*start),
+            None => None,
+        }
+    }
+
+    /// Whether the key is on at a moment. Takes no memory.
+    pub(crate) fn is_on(&self, key: K, t: Moment) -> bool
+        ensures { result ≡ covers (spans_of K.cmp self.now key) t }
+    {
+        match self.first_after(key, t) {
+            Some(start) => start <= t,
+            None => false,
         }
     }
 
@@ -120,14 +154,10 @@ impl<K: Ord + Copy> Intervals<K> {
         ensures looks { steps.new ≤ steps.old + 1 }
         ensures cost { (s : ℕ) → steps.new ≡ steps.old + s → 2 ^ s ≤ 2 * length (spans_of K.cmp self.now key) + 1 }
     {
-        match self
-            .starts
-            .range((key, End::after(t))..=(key, End::never()))
-            .next()
-        {
-            Some((_, start)) => {
+        match self.first_after(key, t) {
+            Some(start) => {
                 steps.tick(); // one interval looked at
-                *start <= t
+                start <= t
             }
             None => false,
         }

@@ -1,15 +1,16 @@
 // When each person was an effective member of each group.
-ghost use Rattle.std.specs.Prelude.{◌≡◌, ◌≤◌, ◌+◌, ◌*◌, ◌^◌, ◌==◌, ◌&&◌, ℕ, List, [], true, length, map, nat_le, IfOk, if◌then◌else◌};
+ghost use Rattle.std.specs.Prelude.{◌≡◌, ◌≤◌, ◌+◌, ◌*◌, ◌^◌, ◌==◌, ◌&&◌, ℕ, List, [], true, length, map, nat_le, IfOk, OnOk, if◌then◌else◌};
 ghost use Rattle.std.specs.List.{list_any};
 ghost use Rattle.std.specs.List.Sorted.{IsStrictlySortedBy};
 ghost use Rattle.std.specs.Ordering.{nat_cmp};
 ghost use Rattle.reg_pit.specs.Spans.{covers, NoLater, AreSpans};
 ghost use Rattle.reg_pit.specs.Runs.{spans_of};
-ghost use Rattle.reg_pit.specs.Members.{pair_cmp, are_on, Lists, second_spans};
+ghost use Rattle.reg_pit.specs.Members.{pair_cmp, are_on, has_pair, Lists, second_spans};
 
 use crate::Intervals;
 use reg_base::{GroupId, Moment, Steps, SubjectId};
 use std::alloc::{AllocError, Global};
+use std::collections::BTreeSet;
 use std::marker::Model;
 use std::sync::ledger::Ledger;
 
@@ -19,19 +20,20 @@ use std::sync::ledger::Ledger;
 pub(crate) struct Memberships {
     alloc: Global,
     by_group: Intervals<(GroupId, SubjectId)>,
-    /// The same by person, so that the groups of a person are found.
-    by_person: Intervals<(SubjectId, GroupId)>,
+    /// The person and the group of each membership that ever was, so that the groups of a person
+    /// are found.
+    by_person: BTreeSet<(SubjectId, GroupId)>,
 }
 
 impl Model for Memberships {
     ghost use Rattle.std.specs.Prelude.{List, ℕ};
-    ghost use Rattle.reg_pit.specs.Members.{AreMirrored};
+    ghost use Rattle.reg_pit.specs.Members.{AreKnown};
 
     ghost Value = { List (((ℕ × ℕ) × ℕ) × ℕ) };
 
     ghost view = { λ m. m.by_group };
 
-    ghost invariant = { λ m. AreMirrored m.by_group m.by_person };
+    ghost invariant = { λ m. AreKnown m.by_group m.by_person.keys };
 }
 
 /// The second of each pair.
@@ -53,6 +55,22 @@ fn without_first<A: Copy, B: Copy>(
         .collect(alloc)
 }
 
+/// Adds a group to those of a person, if a membership begins.
+fn know(
+    by_person: &mut BTreeSet<(SubjectId, GroupId)>,
+    g: GroupId,
+    s: SubjectId,
+    begins: bool,
+) -> Result<(), AllocError>
+    ensures known { OnOk result (begins ≡ true → has_pair (s, g) by_person.new.keys ≡ true) }
+    ensures others { OnOk result ((k : ℕ × ℕ) → has_pair k by_person.old.keys ≡ true → has_pair k by_person.new.keys ≡ true) }
+{
+    if begins {
+        by_person.insert((s, g))?;
+    }
+    Ok(())
+}
+
 impl Memberships {
     /// Nobody was ever a member. Takes no memory.
     pub(crate) fn new(alloc: Global) -> Memberships
@@ -61,7 +79,7 @@ impl Memberships {
         Memberships {
             alloc,
             by_group: Intervals::new(alloc),
-            by_person: Intervals::new(alloc),
+            by_person: BTreeSet::new(alloc),
         }
     }
 
@@ -82,10 +100,8 @@ impl Memberships {
             mut by_group,
             mut by_person,
         } = self;
+        know(&mut by_person, g, s, on)?;
         by_group.set((g, s), on, at)?;
-        by_person.set((s, g), on, at)?;
-        by_group.law_rows_apart();
-        by_person.law_rows_apart();
         Ok(Memberships {
             alloc,
             by_group,
@@ -160,8 +176,12 @@ impl Memberships {
     {
         let first = (s, GroupId::new(0));
         let last = (s, GroupId::new(u32::MAX));
-        let pairs = self.by_person.on_between(first, last, t)?;
-        let groups = seconds(self.alloc, &pairs)?;
+        let mut groups = Vec::new(self.alloc);
+        for pair in self.by_person.range(first..=last) {
+            if self.by_group.is_on((pair.1, s), t) {
+                groups.push(pair.1)?;
+            }
+        }
         Ok(groups)
     }
 }

@@ -12,7 +12,7 @@ returns-clause-value g c =
     let part : c.range-place-items.result ≡ entries_between (place_cmp g.K.Ord.cmp) (Included (c.args.key, c.at-first.result)) (Included (c.args.key, c.never.result)) c.self.inside.starts.entries =
     rw (c.new.ensures.start, c.new.ensures.end) at (c.range-place-items.ensures.between c.new.ensures.exhausted) in
     let all : map deref_pair c.loop-place.yielded ≡ c.range-place-items.result = search (rules, iter_end) in
-    rw (← c.self.view_is) (c.loop-place.invariant ∙ (ap (λ x. map row_of x) all ∙ rows_are g.K.Ord.cmp g.met.K.Ord.total c.args.key c.at-first.result c.never.result c.self.inside.starts.entries _ c.self.invariant part (c.at-first.ensures ∙ c.start.ensures) c.never.ensures))
+    rw (← c.self.view_is) (c.loop-place.invariant ∙ (ap (λ x. map row_of x) all ∙ rows_are g.K.Ord.cmp g.met.K.Ord.total c.args.key c.at-first.result c.never.result c.self.inside.starts.entries _ c.self.invariant.runs part (c.at-first.ensures ∙ c.start.ensures) c.never.ensures))
 
 pub returns-clause-spans : goal.returns-clause-spans
 returns-clause-spans g c =
@@ -20,5 +20,5 @@ returns-clause-spans g c =
     rw (c.new.ensures.start, c.new.ensures.end) at (c.range-place-items.ensures.between c.new.ensures.exhausted) in
     let all : map deref_pair c.loop-place.yielded ≡ c.range-place-items.result = search (rules, iter_end) in
     let value : c.loop-place.rows.items ≡ spans_of g.K.Ord.cmp c.self.inside.starts.entries c.args.key =
-    c.loop-place.invariant ∙ (ap (λ x. map row_of x) all ∙ rows_are g.K.Ord.cmp g.met.K.Ord.total c.args.key c.at-first.result c.never.result c.self.inside.starts.entries _ c.self.invariant part (c.at-first.ensures ∙ c.start.ensures) c.never.ensures) in
-    rw value (are_spans g.K.Ord.cmp c.self.inside.starts.entries c.self.invariant c.args.key)
+    c.loop-place.invariant ∙ (ap (λ x. map row_of x) all ∙ rows_are g.K.Ord.cmp g.met.K.Ord.total c.args.key c.at-first.result c.never.result c.self.inside.starts.entries _ c.self.invariant.runs part (c.at-first.ensures ∙ c.start.ensures) c.never.ensures) in
+    rw value (are_spans g.K.Ord.cmp c.self.inside.starts.entries c.self.invariant.runs c.args.key)

@@ -1,8 +1,13 @@
-use Rattle.std.proofs.Common.{refl}
-use Rattle.reg_pit.specs.Members.{are_on}
-use Rattle.reg_pit.proofs.Pairs.{listed}
+use Rattle.std.proofs.Common.{◌≡◌, map, filter, rules}
+use Rattle.std.specs.Map.Iter.{deref}
+use Rattle.std.specs.BTreeMap.Range.{range_contains}
+use Rattle.std.specs.declared.ops.Bound.TheVariants.{Included}
+use Rattle.std.proofs.lemmas.Map.Iter.{iter_end}
+use Rattle.reg_pit.specs.Members.{pair_cmp}
+use Rattle.reg_pit.proofs.Known.{firsts_then}
 use Rattle.reg_pit.proofs.memberships.Memberships.groups.Goals as goal
 
 pub returns : goal.returns
-returns c = rw (← c.self.view_is, c.in_ok-groups.ensures, c.deref.ensures.value) (listed c.args.s c.new.result c.new-2.result c.args.t c.in_ok-pairs.pairs.items c.self.inside.by_person
-    (λ g. are_on c.self.inside.by_group g c.args.s c.args.t) c.new.ensures c.new-2.ensures c.in_ok-pairs.ensures.ascending c.in_ok-pairs.ensures.each (λ g. rw (c.self.invariant.turned g c.args.s) refl) (λ g h. c.self.invariant.first g c.args.s c.args.t h))
+returns c =
+    let all : map deref c.loop-pair.yielded ≡ filter (range_contains pair_cmp (Included (c.args.s, c.new.result)) (Included (c.args.s, c.new-2.result))) c.self.inside.by_person.keys = search (rules, iter_end) in
+    rw (← c.self.view_is) (firsts_then c.self.inside.by_group c.args.s c.args.t c.new.result c.new-2.result c.self.inside.by_person.keys _ c.loop-pair.groups.items c.self.invariant c.range-pair-items.ensures.ordered c.new.ensures c.new-2.ensures all (rw c.self.view_is c.loop-pair.invariant))
