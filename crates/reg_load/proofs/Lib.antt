@@ -1,0 +1,9 @@
+pub mod GroupMore
+pub mod GroupsMade
+pub mod GroupsSuit
+pub mod RowsGoCome
+pub mod LoadSuits
+pub mod GroupGrants
+pub mod Found
+pub mod Pairs
+pub mod Worked

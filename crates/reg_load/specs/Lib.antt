@@ -1,0 +1,5 @@
+pub mod Loads
+pub mod LoadChecks
+pub mod Loading
+pub mod Finding
+pub mod Sets
