@@ -1,9 +1,9 @@
 -- Worked examples computed: the log of a membership that begins, ends and begins again at one moment, a deleted group's
--- entries, life and last name, a root that was always there, what rules did with their numbers, and an attribute that is assigned,
--- has a value and goes.
+-- entries, life and last name, a root that was always there, what rules did with their numbers, an attribute that is assigned,
+-- has a value and goes, and a loader job.
 use Rattle.std.proofs.Common.{◌≡◌, ◌++◌, ℕ, List, [], ◌∷◌, true, false, Option, Some, None, codes, map, refl}
 use Rattle.reg_terms.specs.declared.event.Event.{Event}
-use Rattle.reg_terms.specs.declared.event.Event.TheVariants.{SubjectMade, GroupMade, GroupGone, RowAdded, RowRemoved, DefinitionMade, AttributeMade, AttributeGone, AssignMade, AssignGone, ValueAdded}
+use Rattle.reg_terms.specs.declared.event.Event.TheVariants.{SubjectMade, GroupMade, GroupGone, RowAdded, RowRemoved, DefinitionMade, AttributeMade, AttributeGone, AssignMade, AssignGone, ValueAdded, JobMade, JobGone}
 use Rattle.reg_terms.specs.declared.kinds.Member.TheVariants.{Person}
 use Rattle.reg_terms.specs.declared.kinds.AttrValue.TheVariants.{Moment}
 use Rattle.reg_terms.specs.declared.kinds.DefKind.TheVariants.{Timestamp}
@@ -21,7 +21,7 @@ use Rattle.reg_rules.specs.declared.actions.Action.{Action}
 use Rattle.reg_rules.specs.declared.actions.Action.TheVariants.{Removed, Ended}
 use Rattle.reg_rules.specs.Actions.{all_done}
 use Rattle.reg_terms.specs.declared.entry_kinds.EntryKind.{EntryKind}
-use Rattle.reg_terms.specs.declared.entry_kinds.EntryKind.TheVariants.{SubjectAdd, GroupAdd, GroupDelete, RowAdd, RowRemove, RowWindow, DefinitionAdd, AttributeAdd, AttributeDelete, AssignAdd, AssignRemove, ValueAdd, MemberBegin, MemberEnd}
+use Rattle.reg_terms.specs.declared.entry_kinds.EntryKind.TheVariants.{SubjectAdd, GroupAdd, GroupDelete, RowAdd, RowRemove, RowWindow, DefinitionAdd, AttributeAdd, AttributeDelete, AssignAdd, AssignRemove, ValueAdd, MemberBegin, MemberEnd, JobAdd, JobDelete}
 use Rattle.reg_audit.specs.Definitions.{definition_in}
 use Rattle.reg_audit.specs.Lines.{log_of}
 use Rattle.reg_audit.specs.Lives.{life_of, gone_of, gone_name, gone_named}
@@ -171,3 +171,14 @@ definition_known = refl
 pub attribute_lived : life_of (Attr 1) attributes ≡ Some (5, Some 9)
 unfolding life_of attributes step due review assigned valued unassigned
 attribute_lived = refl
+
+-- a loader job (1) of staff is made and goes: its entries have its number
+pub loading : List Step
+loading =
+    step 5 with_staff (JobMade (record { id = 1; name = codes "nightly"; target = Group 1; source = codes "isa"; min_size = 1; max_percent = 20 }) ∷ []) nothing nothing
+    ∷ step 6 with_staff (JobGone 1 ∷ []) nothing nothing
+    ∷ []
+
+pub jobs_told : map {B = EntryKind × Option Object × ℕ} (λ (l : Line). (l.kind, l.object, l.number)) (log_of loading) ≡ (JobAdd, None, 1) ∷ (JobDelete, None, 1) ∷ []
+unfolding log_of turns member loading step with_staff ann staff
+jobs_told = refl

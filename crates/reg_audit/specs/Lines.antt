@@ -5,7 +5,7 @@ use Rattle.std.specs.List.{list_any}
 use Rattle.reg_base.specs.declared.privilege.Privilege.{Privilege}
 use Rattle.reg_terms.specs.Privileges.{code}
 use Rattle.reg_terms.specs.declared.event.Event.{Event}
-use Rattle.reg_terms.specs.declared.event.Event.TheVariants.{FolderMade, FolderRenamed, FolderMoved, FolderGone, SubjectMade, GroupMade, GroupRenamed, GroupMoved, GroupGone, RowAdded, RowRemoved, RowRedated, Composed, Decomposed, GrantAdded, GrantRemoved, InheritAdded, InheritRemoved, DefinitionMade, DefinitionGone, AttributeMade, AttributeGone, AssignMade, AssignGone, ValueAdded, ValueRemoved, RuleMade, RuleGone, ConsumerAdded, ConsumerAcked}
+use Rattle.reg_terms.specs.declared.event.Event.TheVariants.{FolderMade, FolderRenamed, FolderMoved, FolderGone, SubjectMade, GroupMade, GroupRenamed, GroupMoved, GroupGone, RowAdded, RowRemoved, RowRedated, Composed, Decomposed, GrantAdded, GrantRemoved, InheritAdded, InheritRemoved, DefinitionMade, DefinitionGone, AttributeMade, AttributeGone, AssignMade, AssignGone, ValueAdded, ValueRemoved, RuleMade, RuleGone, JobMade, JobGone, ConsumerAdded, ConsumerAcked}
 use Rattle.reg_terms.specs.declared.kinds.Holder.{Holder}
 use Rattle.reg_terms.specs.declared.kinds.Holder.TheVariants as holder
 use Rattle.reg_terms.specs.declared.kinds.Member.{Member}
@@ -42,9 +42,9 @@ row_line at k g m = record { at = at; kind = k; object = Some (object.Group g); 
 abbrev pub grant_line : ℕ → EntryKind → Object → Holder → Privilege → Line
 grant_line at k o h p = record { at = at; kind = k; object = Some o; entity = Some h; number = code p }
 
--- an entry of a rule
-abbrev pub rule_line : ℕ → EntryKind → ℕ → Line
-rule_line at k id = record { at = at; kind = k; object = None; entity = None; number = id }
+-- an entry of a rule or of a loader job, with its number alone
+abbrev pub number_line : ℕ → EntryKind → ℕ → Line
+number_line at k id = record { at = at; kind = k; object = None; entity = None; number = id }
 
 -- the owner of an assignment, if that stands
 abbrev pub assign_owner : ℕ → Lists → Option Object
@@ -82,8 +82,10 @@ line_of at before (AssignMade row) = Some (assign_line at kind.AssignAdd (Some r
 line_of at before (AssignGone id) = Some (assign_line at kind.AssignRemove (assign_owner id before) id)
 line_of at before (ValueAdded id v) = Some (assign_line at kind.ValueAdd (assign_owner id before) id)
 line_of at before (ValueRemoved id v) = Some (assign_line at kind.ValueRemove (assign_owner id before) id)
-line_of at before (RuleMade row) = Some (rule_line at kind.RuleAdd row.id)
-line_of at before (RuleGone id) = Some (rule_line at kind.RuleDelete id)
+line_of at before (RuleMade row) = Some (number_line at kind.RuleAdd row.id)
+line_of at before (RuleGone id) = Some (number_line at kind.RuleDelete id)
+line_of at before (JobMade row) = Some (number_line at kind.JobAdd row.id)
+line_of at before (JobGone id) = Some (number_line at kind.JobDelete id)
 line_of at before (ConsumerAdded row) = None
 line_of at before (ConsumerAcked consumer seq) = None
 

@@ -1,10 +1,10 @@
 // The entries of events, of what rules did, and of memberships that begin or end.
 ghost use Rattle.std.specs.Prelude.{◌≡◌};
-ghost use Rattle.reg_audit.specs.Lines.{acted_line, action_line, assign_line, assign_owner, line_of, object_line, row_line, rule_line, grant_line, entity_of, turn_line};
+ghost use Rattle.reg_audit.specs.Lines.{acted_line, action_line, assign_line, assign_owner, line_of, object_line, row_line, number_line, grant_line, entity_of, turn_line};
 ghost use Rattle.reg_terms.specs.declared.kinds.Object.TheVariants as object;
 
 use reg_base::{
-    AssignId, AttrDefId, AttrId, FolderId, GroupId, Moment, Privilege, RuleId, SubjectId,
+    AssignId, AttrDefId, AttrId, FolderId, GroupId, JobId, Moment, Privilege, RuleId, SubjectId,
 };
 use reg_facts::Facts;
 use reg_log::{EntryKind, Line};
@@ -114,17 +114,31 @@ fn inherit_line(at: Moment, kind: EntryKind, row: &InheritRow) -> Line
     )
 }
 
-/// An entry of a rule.
-fn rule_line(at: Moment, kind: EntryKind, id: RuleId) -> Line
-    ensures { result ≡ rule_line at kind id }
+/// An entry with a number alone.
+fn number_line(at: Moment, kind: EntryKind, number: u64) -> Line
+    ensures { result ≡ number_line at kind number }
 {
     Line {
         at,
         kind,
         object: None,
         entity: None,
-        number: id.number() as u64,
+        number,
     }
+}
+
+/// An entry of a rule.
+fn rule_line(at: Moment, kind: EntryKind, id: RuleId) -> Line
+    ensures { result ≡ number_line at kind id }
+{
+    number_line(at, kind, id.number() as u64)
+}
+
+/// An entry of a loader job.
+fn job_line(at: Moment, kind: EntryKind, id: JobId) -> Line
+    ensures { result ≡ number_line at kind id }
+{
+    number_line(at, kind, id.number() as u64)
 }
 
 /// The owner of an assignment, if that stands.
@@ -200,6 +214,8 @@ pub fn line_of(at: Moment, facts: &Facts, event: &Event) -> Option<Line>
         }
         Event::RuleMade { row } => rule_line(at, EntryKind::RuleAdd, row.id),
         Event::RuleGone { rule } => rule_line(at, EntryKind::RuleDelete, *rule),
+        Event::JobMade { row } => job_line(at, EntryKind::JobAdd, row.id),
+        Event::JobGone { job } => job_line(at, EntryKind::JobDelete, *job),
         Event::ConsumerAdded { .. } | Event::ConsumerAcked { .. } => return None,
     };
     Some(line)

@@ -39,6 +39,10 @@ abbrev pub is_person_at : List ℕ → Option ℕ → Bool
 is_person_at text None = false
 is_person_at text (Some place) = is_part 32 (take place text) && is_part 64 (drop (place + 1) text)
 
+-- where a person comes from: the part before the slash
+abbrev pub is_source : List ℕ → Bool
+is_source text = is_part 32 text
+
 -- the text of a person, `source/id`
 abbrev pub is_person : List ℕ → Bool
 is_person text = is_person_at text (position (λ b. b == 47) text)

@@ -20,7 +20,7 @@ pub use ids::{AssignId, AttrDefId, AttrId, FolderId, GroupId, JobId, RuleId, Sub
 pub use moment::Moment;
 pub use name::Name;
 pub use name_parts::{extension_of, folder_of};
-pub use names::{is_extension, is_name, is_person};
+pub use names::{is_extension, is_name, is_person, is_source};
 pub use privilege::Privilege;
 pub use steps::Steps;
 pub use text::Text;

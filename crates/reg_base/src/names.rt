@@ -1,7 +1,7 @@
 // Names of objects and the texts of persons, judged byte by byte.
 ghost use Rattle.std.specs.Prelude.{◌≡◌, List, ℕ, length, position, ◌==◌, ◌<◌, IfSome, IfOk, IsTrue, if◌then◌else◌, Some, None};
 ghost use Rattle.std.specs.List.{list_all};
-ghost use Rattle.reg_base.specs.Names.{is_extension_byte, is_extension, extensions_of, is_name, name_of, is_person_byte, is_part, is_person};
+ghost use Rattle.reg_base.specs.Names.{is_extension_byte, is_extension, extensions_of, is_name, name_of, is_person_byte, is_part, is_person, is_source};
 
 fn is_extension_byte(byte: u8) -> bool
     ensures { result ≡ is_extension_byte byte }
@@ -59,6 +59,14 @@ fn slash_in(text: &[u8]) -> Option<usize>
     ensures first { result ≡ position (λ b. b == 47) text.now }
 {
     text.iter().position(|byte| *byte == b'/')
+}
+
+/// Whether the text is a source of persons: 1 to 32 bytes of ASCII letters, digits, `_`, `-`, `.` and `@`. It takes no
+/// memory.
+pub fn is_source(text: &[u8]) -> bool
+    ensures { result ≡ is_source text.now }
+{
+    is_part(32, text)
 }
 
 /// Whether the text is a person's: `source/id`, where the source has 1 to 32 bytes and the id 1 to 64 bytes of ASCII

@@ -9,7 +9,7 @@ use Rattle.reg_base.specs.declared.entity.Entity.{Entity}
 use Rattle.reg_base.specs.declared.entity.Entity.TheVariants.{Person, Group, System, Everyone}
 use Rattle.reg_terms.specs.Forms.{is_entity, is_folder_text, is_object_text, is_optional_moment, query_has_form}
 use Rattle.reg_terms.specs.Limits.{max_moment}
-use Rattle.reg_terms.specs.declared.query.Query.TheVariants.{GroupGet, FolderList, Members, Rows, Groups, Grants, May, Attributes, History, Log}
+use Rattle.reg_terms.specs.declared.query.Query.TheVariants.{GroupGet, FolderList, Members, Rows, Groups, Grants, May, Attributes, History, Log, Admin}
 
 -- what an option holds has its form
 abbrev IsFormed : Option Entity → Type 0
@@ -80,6 +80,10 @@ may_formed object entity at h k l = rw (h, k, l) refl
 pub attributes_formed : (object : List ℕ) (at : Option ℕ) → is_object_text object ≡ true → is_optional_moment at ≡ true → query_has_form (Attributes object at) ≡ true
 unfolding query_has_form
 attributes_formed object at h k = rw (h, k) refl
+
+pub admin_formed : query_has_form Admin ≡ true
+unfolding query_has_form
+admin_formed = refl
 
 -- a moment is at most the greatest
 pub moment_formed : (m : ℕ) → m ≤ 253402300799999999 → is_optional_moment (Some m) ≡ true

@@ -22,7 +22,7 @@ is_built route.Grants = true
 is_built route.Privileges = true
 is_built route.Attributes = true
 is_built route.Log = true
-is_built route.Admin = false
+is_built route.Admin = true
 
 -- a message of a route: its method is looked at first, and then whether one caller is named
 abbrev pub with_caller : Route → Option (List ℕ) → Asked

@@ -63,4 +63,5 @@ query_by route.Log p = do
   consumer ← extension_from (codes "consumer") p.path
   max ← number_from (codes "max") p.max
   Ok (query.Log consumer max)
+query_by route.Admin p = Ok query.Admin
 query_by _ p = Err (BadRequest [])

@@ -33,8 +33,9 @@ fn is_built(route: &Route) -> bool
         | Route::Grants
         | Route::Privileges
         | Route::Attributes
-        | Route::Log => true,
-        Route::Load | Route::Admin => false,
+        | Route::Log
+        | Route::Admin => true,
+        Route::Load => false,
     }
 }
 

@@ -235,6 +235,7 @@ fn attributes(alloc: Global, parameters: &Parameters) -> Result<Query, Unread>
 }
 
 /// The query that a route asks. BadRequest comes before BadName.
+#[tactic(auto, using(crate::proofs::Formed::admin_formed))]
 pub(crate) fn query_by(
     alloc: Global,
     route: Route,
@@ -254,6 +255,7 @@ pub(crate) fn query_by(
         Route::Grants => grants(alloc, parameters),
         Route::Privileges => may(alloc, parameters),
         Route::Attributes => attributes(alloc, parameters),
+        Route::Admin => Ok(Query::Admin),
         _ => Err(bad(alloc, "")),
     }
 }

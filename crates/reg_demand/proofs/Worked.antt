@@ -6,7 +6,7 @@ use Rattle.reg_base.specs.declared.entity.Entity.{Entity}
 use Rattle.reg_base.specs.declared.entity.Entity.TheVariants as entity
 use Rattle.reg_base.specs.declared.privilege.Privilege.TheVariants as privilege
 use Rattle.reg_terms.specs.declared.command.Command.{Command}
-use Rattle.reg_terms.specs.declared.command.Command.TheVariants.{FolderAdd, FolderRename, FolderMove, GroupAdd, GroupRename, SubjectAdd, MemberAdd, MemberRemove, GrantAdd, GrantRemove, InheritAdd, RuleVeto, RuleDelete, ConsumerAdd, ConsumerAck, AttrdefAdd, AttrAdd, AttrDelete, AssignAdd, ValueAdd}
+use Rattle.reg_terms.specs.declared.command.Command.TheVariants.{FolderAdd, FolderRename, FolderMove, GroupAdd, GroupRename, SubjectAdd, MemberAdd, MemberRemove, GrantAdd, GrantRemove, InheritAdd, RuleVeto, RuleDelete, ConsumerAdd, ConsumerAck, JobSimple, JobList, JobDelete, AttrdefAdd, AttrAdd, AttrDelete, AssignAdd, ValueAdd}
 use Rattle.reg_terms.specs.declared.kinds.DefKind.TheVariants as values
 use Rattle.reg_terms.specs.declared.kinds.InheritKind.TheVariants as kind
 use Rattle.reg_terms.specs.declared.kinds.Owners.{Owners}
@@ -144,6 +144,34 @@ unseen_before_root = refl
 pub rule_goes_by_root : of_bob folders (RuleDelete 1) ≡ Some (Denied (codes ":") (codes "ROOT"))
 unfolding folders bob ann events_of object_of resolve placed lies_in member extension_of folder_of
 rule_goes_by_root = refl
+
+-- loader jobs are made and seen by root alone, and what a new one names is looked for first
+pub loaded : Lists
+loaded = after (JobSimple (codes "nightly") (codes "app:web:admins") (codes "uni") 1 20 ∷ []) folders
+
+pub job_is_for_root : of_bob folders (JobSimple (codes "nightly") (codes "app:web:admins") (codes "uni") 1 20) ≡ Some (Denied (codes ":") (codes "ROOT"))
+unfolding folders bob ann events_of object_of resolve placed lies_in member extension_of folder_of
+job_is_for_root = refl
+
+pub unseen_before_job : of_bob hidden (JobSimple (codes "nightly") (codes "old:web:admins") (codes "uni") 1 20) ≡ Some (NotFound (codes "old:web:admins"))
+unfolding hidden folders bob ann events_of object_of resolve placed lies_in member extension_of folder_of
+unseen_before_job = refl
+
+pub no_folder_before_job : of_bob folders (JobList (codes "nightly") (codes "none") (codes "uni") 1 20) ≡ Some (NotFound (codes "none"))
+unfolding folders bob ann events_of object_of resolve placed lies_in member extension_of folder_of
+no_folder_before_job = refl
+
+pub job_is_hidden : of_bob loaded (JobDelete (codes "nightly")) ≡ Some (NotFound (codes "nightly"))
+unfolding loaded folders bob ann events_of object_of resolve placed lies_in member extension_of folder_of
+job_is_hidden = refl
+
+pub root_finds_job : refused (live_of 0 loaded.rows loaded.composites) loaded entity.System (JobDelete (codes "nightly")) ≡ None
+unfolding loaded folders bob ann events_of object_of resolve placed lies_in member extension_of folder_of
+root_finds_job = refl
+
+pub root_finds_no_other_job : refused (live_of 0 loaded.rows loaded.composites) loaded entity.System (JobDelete (codes "none")) ≡ Some (NotFound (codes "none"))
+unfolding loaded folders bob ann events_of object_of resolve placed lies_in member extension_of folder_of
+root_finds_no_other_job = refl
 
 -- who doesn't stand is told nothing
 pub no_caller : refused (live_of 0 folders.rows folders.composites) folders (entity.Person (codes "uni/eve")) (GroupRename (codes "none") (codes "x")) ≡ Some NoCaller

@@ -7,7 +7,7 @@ use Rattle.reg_base.specs.declared.entity.Entity.TheVariants as entity
 use Rattle.reg_base.specs.declared.privilege.Privilege.{Privilege}
 use Rattle.reg_base.specs.declared.privilege.Privilege.TheVariants.{Admin, Update, Read, Optin, Optout, GroupAttrRead, GroupAttrUpdate, StemAdmin, Create, StemAttrRead, StemAttrUpdate, AttrAdmin, AttrUpdate}
 use Rattle.reg_terms.specs.declared.command.Command.{Command}
-use Rattle.reg_terms.specs.declared.command.Command.TheVariants.{FolderAdd, FolderRename, FolderMove, FolderDelete, SubjectAdd, GroupAdd, GroupRename, GroupMove, GroupDelete, MemberAdd, MemberRemove, MemberWindow, CompositeSet, CompositeClear, GrantAdd, GrantRemove, InheritAdd, InheritRemove, AttrdefAdd, AttrdefDelete, AttrAdd, AttrDelete, AssignAdd, AssignRemove, ValueAdd, ValueRemove, RuleRemoveLost, RuleEndLost, RuleVeto, RuleOnCreate, RuleDelete, ConsumerAdd, ConsumerAck}
+use Rattle.reg_terms.specs.declared.command.Command.TheVariants.{FolderAdd, FolderRename, FolderMove, FolderDelete, SubjectAdd, GroupAdd, GroupRename, GroupMove, GroupDelete, MemberAdd, MemberRemove, MemberWindow, CompositeSet, CompositeClear, GrantAdd, GrantRemove, InheritAdd, InheritRemove, AttrdefAdd, AttrdefDelete, AttrAdd, AttrDelete, AssignAdd, AssignRemove, ValueAdd, ValueRemove, RuleRemoveLost, RuleEndLost, RuleVeto, RuleOnCreate, RuleDelete, JobSimple, JobList, JobDelete, ConsumerAdd, ConsumerAck}
 use Rattle.reg_terms.specs.declared.kinds.Object.{Object}
 use Rattle.reg_terms.specs.declared.kinds.Object.TheVariants as object
 use Rattle.reg_facts.specs.Attributes.{definition_id, attribute_id}
@@ -146,5 +146,8 @@ demands by (RuleEndLost check owner days) f = Root ∷ []
 demands by (RuleVeto owner condition) f = Root ∷ []
 demands by (RuleOnCreate folder scope privilege holder) f = Root ∷ []
 demands by (RuleDelete id) f = Root ∷ []
+demands by (JobSimple job group source min_size max_percent) f = Root ∷ []
+demands by (JobList job folder source min_size max_percent) f = Root ∷ []
+demands by (JobDelete job) f = Root ∷ []
 demands by (ConsumerAdd consumer) f = Root ∷ []
 demands by (ConsumerAck consumer seq) f = Root ∷ []

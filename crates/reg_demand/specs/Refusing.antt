@@ -6,7 +6,7 @@ use Rattle.reg_base.specs.declared.entity.Entity.TheVariants as entity
 use Rattle.reg_base.specs.declared.privilege.Privilege.TheVariants.{View}
 use Rattle.reg_terms.specs.Privileges.{line_of}
 use Rattle.reg_terms.specs.declared.command.Command.{Command}
-use Rattle.reg_terms.specs.declared.command.Command.TheVariants.{FolderAdd, FolderRename, FolderMove, FolderDelete, SubjectAdd, GroupAdd, GroupRename, GroupMove, GroupDelete, MemberAdd, MemberRemove, MemberWindow, CompositeSet, CompositeClear, GrantAdd, GrantRemove, InheritAdd, InheritRemove, AttrdefAdd, AttrdefDelete, AttrAdd, AttrDelete, AssignAdd, AssignRemove, ValueAdd, ValueRemove, RuleRemoveLost, RuleEndLost, RuleVeto, RuleOnCreate, RuleDelete, ConsumerAdd, ConsumerAck}
+use Rattle.reg_terms.specs.declared.command.Command.TheVariants.{FolderAdd, FolderRename, FolderMove, FolderDelete, SubjectAdd, GroupAdd, GroupRename, GroupMove, GroupDelete, MemberAdd, MemberRemove, MemberWindow, CompositeSet, CompositeClear, GrantAdd, GrantRemove, InheritAdd, InheritRemove, AttrdefAdd, AttrdefDelete, AttrAdd, AttrDelete, AssignAdd, AssignRemove, ValueAdd, ValueRemove, RuleRemoveLost, RuleEndLost, RuleVeto, RuleOnCreate, RuleDelete, JobSimple, JobList, JobDelete, ConsumerAdd, ConsumerAck}
 use Rattle.reg_terms.specs.declared.kinds.Object.{Object}
 use Rattle.reg_terms.specs.declared.kinds.Object.TheVariants as object
 use Rattle.reg_terms.specs.declared.refusal.Refusal.{Refusal}
@@ -17,6 +17,7 @@ use Rattle.reg_facts.specs.Attributes.{definition_id, attribute_id}
 use Rattle.reg_facts.specs.Consumers.{consumer_place}
 use Rattle.reg_facts.specs.Edits.{the_id, member_of, has_member}
 use Rattle.reg_facts.specs.Grants.{has_grant, has_inherit, entity_object, object_of, grant_of, inherit_of}
+use Rattle.reg_facts.specs.Jobs.{job_by}
 use Rattle.reg_facts.specs.Lists.{Lists}
 use Rattle.reg_facts.specs.Naming.{folder_id, group_id, home_of}
 use Rattle.reg_effect.specs.declared.live.Live.{Live}
@@ -123,6 +124,10 @@ inherit_stands (Some row) f = has_inherit row f.inherits
 abbrev pub no_consumer : Live → Lists → Who → List ℕ → Check
 no_consumer L f c consumer = (not (is_root L f c && is_some (consumer_place consumer f.consumers)), NotFound consumer)
 
+-- no loader job has the name, or the caller isn't root, who alone sees them
+abbrev pub no_job : Live → Lists → Who → List ℕ → Check
+no_job L f c job = (not (is_root L f c && is_some (job_by job f.jobs)), NotFound job)
+
 -- what isn't found, by the fields of a command in order; for a new name it is its folder
 abbrev pub not_found : Live → Lists → Who → Command → List Check
 not_found L f c (FolderAdd folder display) = no_folder (home_of folder) f ∷ []
@@ -156,6 +161,9 @@ not_found L f c (RuleEndLost check owner days) = no_group L f c check ∷ no_gro
 not_found L f c (RuleVeto owner condition) = no_group L f c owner ∷ no_group L f c condition ∷ []
 not_found L f c (RuleOnCreate folder scope privilege holder) = no_folder folder f ∷ no_entity L f c holder ∷ []
 not_found L f c (RuleDelete id) = []
+not_found L f c (JobSimple job group source min_size max_percent) = no_group L f c group ∷ []
+not_found L f c (JobList job folder source min_size max_percent) = no_folder folder f ∷ []
+not_found L f c (JobDelete job) = no_job L f c job ∷ []
 not_found L f c (ConsumerAdd consumer) = []
 not_found L f c (ConsumerAck consumer seq) = no_consumer L f c consumer ∷ []
 

@@ -11,6 +11,7 @@ mod folders;
 mod grants;
 mod groups;
 mod inherits;
+mod jobs;
 mod lacking;
 mod memberships;
 mod refusals;

@@ -65,7 +65,7 @@ same_attributes rows a h = h
 
 -- ---- what an assignment speaks of
 
-owner_more : (f g : Lists) → MoreFolders f.folders g.folders → MoreSubjects f.subjects g.subjects → MoreGroups f.groups g.groups → (o : Object) → OwnerStands f o → OwnerStands g o
+pub owner_more : (f g : Lists) → MoreFolders f.folders g.folders → MoreSubjects f.subjects g.subjects → MoreGroups f.groups g.groups → (o : Object) → OwnerStands f o → OwnerStands g o
 owner_more f g folders subjects groups (Folder d) h = named_is d g ∙ folders d (sym (named_is d f) ∙ h)
 owner_more f g folders subjects groups (Group x) h = groups x h
 owner_more f g folders subjects groups (Def a) h = h
@@ -209,7 +209,7 @@ other_assigns f rows made ascend stand few h = record {
 
 -- ---- a folder or a group less, and what is assigned to it
 
-owner_less_folder : (id : ℕ) (f : Lists) (o : Object) → same_object o (Folder id) ≡ false → OwnerStands f o → OwnerStands (happened (FolderGone id) f) o
+pub owner_less_folder : (id : ℕ) (f : Lists) (o : Object) → same_object o (Folder id) ≡ false → OwnerStands f o → OwnerStands (happened (FolderGone id) f) o
 owner_less_folder id f (Folder d) other h =
     named_is d (happened (FolderGone id) f) ∙ root_or d (list_any (is_folder d) (placed_folders f.folders)) (list_any (is_folder d) (placed_folders (filter (λ (row : FolderRow). not (row.id == id)) f.folders))) (among_less d id f.folders other) (sym (named_is d f) ∙ h)
 owner_less_folder id f (Group x) other h = h
@@ -217,7 +217,7 @@ owner_less_folder id f (Def a) other h = h
 owner_less_folder id f (Attr a) other h = h
 owner_less_folder id f (Subject s) other h = h
 
-owner_less_group : (id : ℕ) (f : Lists) (o : Object) → same_object o (Group id) ≡ false → OwnerStands f o → OwnerStands (happened (GroupGone id) f) o
+pub owner_less_group : (id : ℕ) (f : Lists) (o : Object) → same_object o (Group id) ≡ false → OwnerStands f o → OwnerStands (happened (GroupGone id) f) o
 owner_less_group id f (Folder d) other h = named_is d (happened (GroupGone id) f) ∙ (sym (named_is d f) ∙ h)
 owner_less_group id f (Group x) other h = still id x f.groups other h
 owner_less_group id f (Def a) other h = h

@@ -1,9 +1,8 @@
 -- No two consumers share a name, at the start and after each event that suits.
-use Rattle.std.proofs.Common.{◌≡◌, ◌++◌, ◌∙◌, ℕ, List, [], ◌∷◌, Bool, true, false, Option, Some, None, map, inl, inr, refl, sym}
+use Rattle.std.proofs.Common.{◌≡◌, ◌++◌, ◌∙◌, ℕ, List, [], ◌∷◌, Bool, true, false, Option, Some, None, map, inl, inr, refl}
 use Rattle.std.specs.Prelude.{if◌then◌else◌}
 use Rattle.std.specs.Str.{bytes_eq}
-use Rattle.std.proofs.lemmas.Bool.{cases_Bool, true≢false}
-use Rattle.std.proofs.lemmas.Slice.Eq.{bytes_eq-Decides}
+use Rattle.std.proofs.lemmas.Bool.{cases_Bool}
 use Rattle.reg_terms.specs.declared.event.Event.{Event}
 use Rattle.reg_terms.specs.declared.event.Event.TheVariants.{ConsumerAdded, ConsumerAcked}
 use Rattle.reg_terms.specs.declared.rows.ConsumerRow.{ConsumerRow}
@@ -11,14 +10,7 @@ use Rattle.reg_facts.specs.Consumers.{consumer_place, acknowledged, AreConsumers
 use Rattle.reg_facts.specs.Events.{happened}
 use Rattle.reg_facts.specs.Lists.{Lists}
 use Rattle.reg_facts.specs.Suiting.{Suits}
-use Rattle.reg_facts.proofs.Held.{subject_apart}
-
--- two texts that differ, the other way round
-differ : (a b : List ℕ) → bytes_eq a b ≡ false → bytes_eq b a ≡ false
-differ a b h = elim (cases_Bool (bytes_eq b a)) [
-  | inl t ↦ absurd (true≢false (sym ((bytes_eq-Decides a b).1 (sym ((bytes_eq-Decides b a).0 t))) ∙ h))
-  | inr t ↦ t
-]
+use Rattle.reg_facts.proofs.Held.{subject_apart, text_other}
 
 -- who isn't at the head, nor behind it, isn't there
 none_by : (b : Bool) (place : ℕ) (o : Option ℕ) → b ≡ false → o ≡ None → (if b then Some place else o) ≡ None
@@ -35,7 +27,7 @@ once_more : (rows : List ConsumerRow) (row : ConsumerRow) → AreConsumersOnce r
 once_more [] row once new = (refl, tt)
 once_more (r ∷ rows) row once new =
     let parts = subject_apart (bytes_eq r.name row.name) r.place (consumer_place row.name rows) new in
-    (none_more r.name rows row once.0 (differ r.name row.name parts.0), once_more rows row once.1 parts.1)
+    (none_more r.name rows row once.0 (text_other r.name row.name parts.0), once_more rows row once.1 parts.1)
 
 -- who has read further has the same name
 name_kept : (name : List ℕ) (seq : ℕ) (row : ConsumerRow) → (acknowledged name seq row).name ≡ row.name

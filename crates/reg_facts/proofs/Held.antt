@@ -7,7 +7,7 @@ use Rattle.std.proofs.lemmas.Bool.{cases_Bool, or_parts, or_left, true≢false}
 use Rattle.std.proofs.lemmas.List.Folds.{list_any-append}
 use Rattle.std.proofs.lemmas.Slice.Eq.{bytes_eq-Decides}
 use Rattle.reg_terms.specs.declared.event.Event.{Event}
-use Rattle.reg_terms.specs.declared.event.Event.TheVariants.{FolderMade, FolderGone, SubjectMade, GroupMade, GroupRenamed, GroupMoved, GroupGone, GrantAdded, GrantRemoved, InheritAdded, InheritRemoved, DefinitionMade, DefinitionGone, AttributeMade, AssignMade, RuleMade}
+use Rattle.reg_terms.specs.declared.event.Event.TheVariants.{FolderMade, FolderGone, SubjectMade, GroupMade, GroupRenamed, GroupMoved, GroupGone, GrantAdded, GrantRemoved, InheritAdded, InheritRemoved, DefinitionMade, DefinitionGone, AttributeMade, AssignMade, RuleMade, JobMade}
 use Rattle.reg_terms.specs.declared.kinds.Holder.{Holder}
 use Rattle.reg_terms.specs.declared.kinds.Holder.TheVariants as holder
 use Rattle.reg_terms.specs.declared.kinds.Object.{Object}
@@ -40,7 +40,7 @@ subject_apart true id o h = absurd (never id h)
 subject_apart false id o h = (refl, h)
 
 -- a text that no subject has
-text_other : (a b : List ℕ) → bytes_eq a b ≡ false → bytes_eq b a ≡ false
+pub text_other : (a b : List ℕ) → bytes_eq a b ≡ false → bytes_eq b a ≡ false
 text_other a b h = elim (cases_Bool (bytes_eq b a)) [
   | inl t ↦ absurd (true≢false (sym ((bytes_eq-Decides a b).1 (sym ((bytes_eq-Decides b a).0 t))) ∙ h))
   | inr t ↦ t
@@ -155,6 +155,13 @@ rule_made made id (object.Def a) h = h
 rule_made made id (object.Attr a) h = h
 rule_made made id (object.Subject s) h = h
 
+job_made : (made : Made) (id : ℕ) → MoreMade made (record made { jobs = id })
+job_made made id (object.Folder d) h = h
+job_made made id (object.Group g) h = h
+job_made made id (object.Def a) h = h
+job_made made id (object.Attr a) h = h
+job_made made id (object.Subject s) h = h
+
 -- a group less that holds nothing
 pub holder_less : (id : ℕ) (ss : List SubjectRow) (gs : List GroupRow) (h : Holder) → same_holder h (holder.Group id) ≡ false → HolderStands ss gs h → HolderStands ss (groups_less id gs) h
 holder_less id ss gs holder.Everyone other stands = tt
@@ -223,4 +230,5 @@ happened_held (DefinitionGone id) f suits h = record {
 happened_held (AttributeMade row) f suits h = held_still f (happened (AttributeMade row) f) h.texts_once (attribute_made f.made row.id suits.0) (same_subjects f.subjects) (same_groups f.groups) refl refl h
 happened_held (AssignMade row) f suits h = held_still f (happened (AssignMade row) f) h.texts_once (assign_made f.made row.id) (same_subjects f.subjects) (same_groups f.groups) refl refl h
 happened_held (RuleMade row) f suits h = held_still f (happened (RuleMade row) f) h.texts_once (rule_made f.made row.id) (same_subjects f.subjects) (same_groups f.groups) refl refl h
+happened_held (JobMade row) f suits h = held_still f (happened (JobMade row) f) h.texts_once (job_made f.made row.id) (same_subjects f.subjects) (same_groups f.groups) refl refl h
 happened_held e f suits h = others_held f (happened e f) refl refl refl refl refl h

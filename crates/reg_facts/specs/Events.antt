@@ -3,9 +3,9 @@ use Rattle.std.specs.Prelude.{ℕ, ◌+◌, ◌==◌, Bool, List, [], ◌∷◌,
 use Rattle.reg_base.specs.NameParts.{extension_of}
 use Rattle.reg_base.specs.declared.entity.Entity.{Entity}
 use Rattle.reg_terms.specs.declared.command.Command.{Command}
-use Rattle.reg_terms.specs.declared.command.Command.TheVariants.{FolderAdd, FolderRename, FolderMove, FolderDelete, SubjectAdd, GroupAdd, GroupRename, GroupMove, GroupDelete, MemberAdd, MemberRemove, MemberWindow, CompositeSet, CompositeClear, GrantAdd, GrantRemove, InheritAdd, InheritRemove, AttrdefAdd, AttrdefDelete, AttrAdd, AttrDelete, AssignAdd, AssignRemove, ValueAdd, ValueRemove, RuleRemoveLost, RuleEndLost, RuleVeto, RuleOnCreate, RuleDelete, ConsumerAdd, ConsumerAck}
+use Rattle.reg_terms.specs.declared.command.Command.TheVariants.{FolderAdd, FolderRename, FolderMove, FolderDelete, SubjectAdd, GroupAdd, GroupRename, GroupMove, GroupDelete, MemberAdd, MemberRemove, MemberWindow, CompositeSet, CompositeClear, GrantAdd, GrantRemove, InheritAdd, InheritRemove, AttrdefAdd, AttrdefDelete, AttrAdd, AttrDelete, AssignAdd, AssignRemove, ValueAdd, ValueRemove, RuleRemoveLost, RuleEndLost, RuleVeto, RuleOnCreate, RuleDelete, JobSimple, JobList, JobDelete, ConsumerAdd, ConsumerAck}
 use Rattle.reg_terms.specs.declared.event.Event.{Event}
-use Rattle.reg_terms.specs.declared.event.Event.TheVariants.{FolderMade, FolderRenamed, FolderMoved, FolderGone, SubjectMade, GroupMade, GroupRenamed, GroupMoved, GroupGone, RowAdded, RowRemoved, RowRedated, Composed, Decomposed, GrantAdded, GrantRemoved, InheritAdded, InheritRemoved, DefinitionMade, DefinitionGone, AttributeMade, AttributeGone, AssignMade, AssignGone, ValueAdded, ValueRemoved, RuleMade, RuleGone, ConsumerAdded, ConsumerAcked}
+use Rattle.reg_terms.specs.declared.event.Event.TheVariants.{FolderMade, FolderRenamed, FolderMoved, FolderGone, SubjectMade, GroupMade, GroupRenamed, GroupMoved, GroupGone, RowAdded, RowRemoved, RowRedated, Composed, Decomposed, GrantAdded, GrantRemoved, InheritAdded, InheritRemoved, DefinitionMade, DefinitionGone, AttributeMade, AttributeGone, AssignMade, AssignGone, ValueAdded, ValueRemoved, RuleMade, RuleGone, JobMade, JobGone, ConsumerAdded, ConsumerAcked}
 use Rattle.reg_terms.specs.declared.kinds.Member.{Member}
 use Rattle.reg_terms.specs.declared.kinds.AttrValue.{AttrValue}
 use Rattle.reg_terms.specs.declared.kinds.DefKind.{DefKind}
@@ -23,6 +23,7 @@ use Rattle.reg_terms.specs.declared.rows.DefinitionRow.{DefinitionRow}
 use Rattle.reg_terms.specs.declared.rows.AttributeRow.{AttributeRow}
 use Rattle.reg_terms.specs.declared.rows.AssignRow.{AssignRow}
 use Rattle.reg_terms.specs.declared.rows.RuleRow.{RuleRow}
+use Rattle.reg_terms.specs.declared.rows.JobRow.{JobRow}
 use Rattle.reg_terms.specs.declared.kinds.RuleForm.{RuleForm}
 use Rattle.reg_base.specs.declared.privilege.Privilege.TheVariants.{Admin, StemAdmin, AttrAdmin}
 use Rattle.reg_terms.specs.Values.{with_value, without_value}
@@ -30,6 +31,7 @@ use Rattle.reg_facts.specs.Attributes.{attribute_id, definition_id, value_of}
 use Rattle.reg_facts.specs.Edits.{member_of, is_row, is_composite, the_id, person_text, from_or, folder_renamed, folder_moved, group_renamed, group_moved, windowed, without_notes}
 use Rattle.reg_facts.specs.Consumers.{acknowledged}
 use Rattle.reg_facts.specs.Grants.{same_grant, same_inherit, object_of, grant_of, inherit_of, makers_grant}
+use Rattle.reg_facts.specs.Jobs.{job_by}
 use Rattle.reg_facts.specs.Lists.{Lists}
 use Rattle.reg_facts.specs.Rules.{creation_grants, form_of, not_yet}
 use Rattle.reg_facts.specs.Naming.{folder_id, group_id, home_id}
@@ -65,6 +67,8 @@ happened (ValueAdded id v) f = record f { assigns = map (with_value id v) f.assi
 happened (ValueRemoved id v) f = record f { assigns = map (without_value id v) f.assigns }
 happened (RuleMade row) f = record f { rules = f.rules ++ row ∷ []; made = record f.made { rules = row.id } }
 happened (RuleGone id) f = record f { rules = filter (λ (row : RuleRow). not (row.id == id)) f.rules }
+happened (JobMade row) f = record f { jobs = f.jobs ++ row ∷ []; made = record f.made { jobs = row.id } }
+happened (JobGone id) f = record f { jobs = filter (λ (row : JobRow). not (row.id == id)) f.jobs }
 happened (ConsumerAdded row) f = record f { consumers = f.consumers ++ row ∷ [] }
 happened (ConsumerAcked name seq) f = record f { consumers = map (acknowledged name seq) f.consumers }
 
@@ -101,6 +105,11 @@ abbrev pub on_rule : ℕ → Option RuleForm → List Event
 on_rule id None = []
 on_rule id (Some form) = RuleMade (record { id = id; form = form }) ∷ []
 
+-- and so does a loader job that a command speaks of
+abbrev pub on_job : Option JobRow → List Event
+on_job None = []
+on_job (Some row) = JobGone row.id ∷ []
+
 -- grants are made, one after another
 abbrev pub grants_added : List GrantRow → List Event
 grants_added rows = map (λ row. GrantAdded row) rows
@@ -135,6 +144,9 @@ new_attribute attribute definition f = record { id = f.made.attributes + 1; fold
 
 abbrev pub new_assign : List ℕ → Object → Lists → AssignRow
 new_assign attribute o f = record { id = f.made.assigns + 1; attribute = the_id (attribute_id attribute f); owner = o; values = [] }
+
+abbrev pub new_job : List ℕ → Object → List ℕ → ℕ → ℕ → Lists → JobRow
+new_job job target source min_size max_percent f = record { id = f.made.jobs + 1; name = job; target = target; source = source; min_size = min_size; max_percent = max_percent }
 
 -- the grants on a group that is made: that of its maker, and those of rules by id, each once
 abbrev pub new_groups_grants : Entity → List ℕ → Lists → List GrantRow
@@ -176,6 +188,9 @@ events_of at by (RuleEndLost check owner days) f = on_rule (f.made.rules + 1) (f
 events_of at by (RuleVeto owner condition) f = on_rule (f.made.rules + 1) (form_of (RuleVeto owner condition) f)
 events_of at by (RuleOnCreate folder scope privilege holder) f = on_rule (f.made.rules + 1) (form_of (RuleOnCreate folder scope privilege holder) f)
 events_of at by (RuleDelete id) f = RuleGone id ∷ []
+events_of at by (JobSimple job group source min_size max_percent) f = JobMade (new_job job (Group (the_id (group_id group f))) source min_size max_percent f) ∷ []
+events_of at by (JobList job folder source min_size max_percent) f = JobMade (new_job job (Folder (the_id (folder_id folder f))) source min_size max_percent f) ∷ []
+events_of at by (JobDelete job) f = on_job (job_by job f.jobs)
 events_of at by (ConsumerAdd consumer) f = ConsumerAdded (record { name = consumer; place = 0 }) ∷ []
 events_of at by (ConsumerAck consumer seq) f = ConsumerAcked consumer seq ∷ []
 

@@ -6,6 +6,7 @@ use Rattle.reg_terms.specs.declared.rows.GroupRow.{GroupRow}
 use Rattle.reg_terms.specs.declared.rows.SubjectRow.{SubjectRow}
 use Rattle.reg_terms.specs.declared.rows.DefinitionRow.{DefinitionRow}
 use Rattle.reg_terms.specs.declared.rows.AttributeRow.{AttributeRow}
+use Rattle.reg_terms.specs.declared.rows.JobRow.{JobRow}
 
 -- the row of this id, of each kind
 abbrev pub folder_row : ℕ → List FolderRow → Option FolderRow
@@ -22,3 +23,6 @@ definition_row id rows = find (λ (row : DefinitionRow). row.id == id) rows
 
 abbrev pub attribute_row : ℕ → List AttributeRow → Option AttributeRow
 attribute_row id rows = find (λ (row : AttributeRow). row.id == id) rows
+
+abbrev pub job_row : ℕ → List JobRow → Option JobRow
+job_row id rows = find (λ (row : JobRow). row.id == id) rows

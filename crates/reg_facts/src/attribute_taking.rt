@@ -4,6 +4,7 @@ ghost use Rattle.reg_facts.specs.Events.{happened};
 ghost use Rattle.reg_facts.specs.Suiting.{Suits};
 ghost use Rattle.reg_terms.specs.declared.event.Event.TheVariants.{DefinitionMade, DefinitionGone, AttributeMade, AttributeGone, AssignMade, AssignGone, ValueAdded, ValueRemoved};
 
+use crate::facts::{both, finished};
 use crate::{AssignRow, AttrValue, AttributeRow, DefinitionRow, Facts, Object};
 use reg_base::{AssignId, AttrDefId, AttrId};
 use std::alloc::{AllocError, Global};
@@ -18,12 +19,14 @@ impl Facts {
         ensures { IfOk result (λ f. f ≡ happened (DefinitionMade row) self) }
     {
         let object = Object::Def(row.id);
-        let mut facts = self;
-        facts
-            .children
-            .put(alloc, row.folder.number(), row.extension.as_str(), object)?;
-        facts.tables.push_definition(row)?;
-        Ok(facts)
+        let Facts {
+            mut tables,
+            subject_index,
+            mut children,
+        } = self;
+        let put = children.put(alloc, row.folder.number(), row.extension.as_str(), object);
+        let done = both(put, tables.push_definition(row));
+        finished(done, tables, subject_index, children)
     }
 
     pub(crate) fn definition_gone(self, id: AttrDefId) -> Facts
@@ -47,12 +50,14 @@ impl Facts {
         ensures { IfOk result (λ f. f ≡ happened (AttributeMade row) self) }
     {
         let object = Object::Attr(row.id);
-        let mut facts = self;
-        facts
-            .children
-            .put(alloc, row.folder.number(), row.extension.as_str(), object)?;
-        facts.tables = facts.tables.with_attribute(row)?;
-        Ok(facts)
+        let Facts {
+            mut tables,
+            subject_index,
+            mut children,
+        } = self;
+        let put = children.put(alloc, row.folder.number(), row.extension.as_str(), object);
+        let done = both(put, tables.push_attribute(alloc, row));
+        finished(done, tables, subject_index, children)
     }
 
     pub(crate) fn attribute_gone(self, id: AttrId) -> Facts
@@ -67,13 +72,17 @@ impl Facts {
         facts
     }
 
-    pub(crate) fn assign_made(self, row: AssignRow) -> Result<Facts, AllocError>
+    pub(crate) fn assign_made(self, alloc: Global, row: AssignRow) -> Result<Facts, AllocError>
         requires { Suits (AssignMade row) self }
         ensures { IfOk result (λ f. f ≡ happened (AssignMade row) self) }
     {
-        let mut facts = self;
-        facts.tables = facts.tables.with_assign(row)?;
-        Ok(facts)
+        let Facts {
+            mut tables,
+            subject_index,
+            children,
+        } = self;
+        let done = tables.push_assign(alloc, row);
+        finished(done, tables, subject_index, children)
     }
 
     pub(crate) fn assign_gone(self, id: AssignId) -> Facts
@@ -85,13 +94,22 @@ impl Facts {
         facts
     }
 
-    pub(crate) fn value_added(self, id: AssignId, value: AttrValue) -> Result<Facts, AllocError>
+    pub(crate) fn value_added(
+        self,
+        alloc: Global,
+        id: AssignId,
+        value: AttrValue,
+    ) -> Result<Facts, AllocError>
         requires { Suits (ValueAdded id value) self }
         ensures { IfOk result (λ f. f ≡ happened (ValueAdded id value) self) }
     {
-        let mut facts = self;
-        facts.tables = facts.tables.with_value(id, value)?;
-        Ok(facts)
+        let Facts {
+            mut tables,
+            subject_index,
+            children,
+        } = self;
+        let done = tables.push_value(alloc, id, value);
+        finished(done, tables, subject_index, children)
     }
 
     pub(crate) fn value_removed(self, id: AssignId, value: &AttrValue) -> Facts

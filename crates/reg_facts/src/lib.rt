@@ -21,6 +21,8 @@ mod facts;
 mod grant_rows;
 mod grants;
 mod inherit_rows;
+mod job_editing;
+mod jobs;
 mod list_edits;
 mod member_rows;
 mod members;

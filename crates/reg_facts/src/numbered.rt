@@ -5,7 +5,7 @@ ghost use Rattle.std.specs.List.Sorted.{IsStrictlySortedBy};
 ghost use Rattle.std.specs.Option.{option_copied};
 ghost use Rattle.std.specs.Ordering.{nat_cmp};
 
-use crate::{AttributeRow, DefinitionRow, FolderRow, GroupRow, RuleRow, SubjectRow};
+use crate::{AttributeRow, DefinitionRow, FolderRow, GroupRow, JobRow, RuleRow, SubjectRow};
 
 /// A row that has an id of its kind.
 pub trait Numbered {
@@ -69,6 +69,16 @@ impl Numbered for AttributeRow {
 }
 
 impl Numbered for RuleRow {
+    const FIRST: u32 = 1;
+
+    ghost number_of = { λ row. row.id };
+
+    fn number(&self) -> u32 {
+        self.id.number()
+    }
+}
+
+impl Numbered for JobRow {
     const FIRST: u32 = 1;
 
     ghost number_of = { λ row. row.id };

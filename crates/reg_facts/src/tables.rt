@@ -26,6 +26,7 @@ use reg_base::{AssignId, AttrDefId, AttrId, FolderId, GroupId, Moment, RuleId, S
 use reg_table::Table;
 use std::alloc::{AllocError, Global};
 use std::marker::Model;
+use std::mem;
 
 /// The lists. Contracts see the record of them.
 #[derive(Debug, Drop)]
@@ -144,15 +145,14 @@ impl Tables {
         Ok(())
     }
 
-    /// The lists with an immediate membership more that doesn't stand. Where there is no memory they
-    /// are gone.
-    pub fn with_row(self, row: MemberRow) -> Result<Tables, AllocError>
-        requires { has_row row.group row.member self.rows ≡ false }
-        ensures { IfOk result (λ t. t ≡ happened (RowAdded row) self) }
+    /// Adds an immediate membership that doesn't stand. Where there is no memory all are gone.
+    pub fn push_row(&mut self, alloc: Global, row: MemberRow) -> Result<(), AllocError>
+        requires { has_row row.group row.member self.old.rows ≡ false }
+        ensures { OnOk result (self.new ≡ happened (RowAdded row) self.old) }
     {
-        let mut tables = self;
-        tables.member_rows = tables.member_rows.with(row)?;
-        Ok(tables)
+        let rows = mem::replace(&mut self.member_rows, MemberRows::new(alloc));
+        self.member_rows = rows.with(row)?;
+        Ok(())
     }
 
     /// Adds a composite that isn't one yet.
@@ -296,16 +296,16 @@ impl Tables {
         self.assign_rows.remove_on(&object);
     }
 
-    /// The lists with an attribute more, of the next id. Where there is no memory they are gone.
-    pub fn with_attribute(self, row: AttributeRow) -> Result<Tables, AllocError>
-        requires { AttributesAscend (self.attributes ++ row ∷ []) }
-        ensures { IfOk result (λ t. t ≡ happened (AttributeMade row) self) }
+    /// Adds an attribute of the next id. Where there is no memory all are gone.
+    pub fn push_attribute(&mut self, alloc: Global, row: AttributeRow) -> Result<(), AllocError>
+        requires { AttributesAscend (self.old.attributes ++ row ∷ []) }
+        ensures { OnOk result (self.new ≡ happened (AttributeMade row) self.old) }
     {
         let number = row.id.number();
-        let mut tables = self;
-        tables.attribute_rows = tables.attribute_rows.with(row)?;
-        tables.counts.attributes = number;
-        Ok(tables)
+        let rows = mem::replace(&mut self.attribute_rows, AttributeRows::new(alloc));
+        self.attribute_rows = rows.with(row)?;
+        self.counts.attributes = number;
+        Ok(())
     }
 
     /// Takes an attribute away.
@@ -315,18 +315,17 @@ impl Tables {
         self.attribute_rows.remove(id);
     }
 
-    /// The lists with an assignment more, of the next id and with no value. Where there is no
-    /// memory they are gone.
-    pub fn with_assign(self, row: AssignRow) -> Result<Tables, AllocError>
-        requires ascend { AssignsAscend (self.assigns ++ row ∷ []) }
+    /// Adds an assignment of the next id that has no value. Where there is no memory all are gone.
+    pub fn push_assign(&mut self, alloc: Global, row: AssignRow) -> Result<(), AllocError>
+        requires ascend { AssignsAscend (self.old.assigns ++ row ∷ []) }
         requires empty { row.values ≡ [] }
-        ensures { IfOk result (λ t. t ≡ happened (AssignMade row) self) }
+        ensures { OnOk result (self.new ≡ happened (AssignMade row) self.old) }
     {
         let number = row.id.number();
-        let mut tables = self;
-        tables.assign_rows = tables.assign_rows.with(row)?;
-        tables.counts.assigns = number;
-        Ok(tables)
+        let rows = mem::replace(&mut self.assign_rows, AssignRows::new(alloc));
+        self.assign_rows = rows.with(row)?;
+        self.counts.assigns = number;
+        Ok(())
     }
 
     /// Takes an assignment away, with its values.
@@ -336,15 +335,20 @@ impl Tables {
         self.assign_rows.remove(id);
     }
 
-    /// The lists with a value behind the others of an assignment. Where there is no memory they are
+    /// Adds a value behind the others of an assignment. Where there is no memory all assignments are
     /// gone.
-    pub fn with_value(self, id: AssignId, value: AttrValue) -> Result<Tables, AllocError>
-        requires { value_count self.assigns < max_values }
-        ensures { IfOk result (λ t. t ≡ happened (ValueAdded id value) self) }
+    pub fn push_value(
+        &mut self,
+        alloc: Global,
+        id: AssignId,
+        value: AttrValue,
+    ) -> Result<(), AllocError>
+        requires { value_count self.old.assigns < max_values }
+        ensures { OnOk result (self.new ≡ happened (ValueAdded id value) self.old) }
     {
-        let mut tables = self;
-        tables.assign_rows = tables.assign_rows.add_value(id, value)?;
-        Ok(tables)
+        let rows = mem::replace(&mut self.assign_rows, AssignRows::new(alloc));
+        self.assign_rows = rows.add_value(id, value)?;
+        Ok(())
     }
 
     /// Takes the first of the values of an assignment that are this one away.
@@ -354,16 +358,16 @@ impl Tables {
         self.assign_rows.remove_value(id, value);
     }
 
-    /// The lists with a rule more, of the next id. Where there is no memory they are gone.
-    pub fn with_rule(self, row: RuleRow) -> Result<Tables, AllocError>
-        requires { RulesAscend (self.rules ++ row ∷ []) }
-        ensures { IfOk result (λ t. t ≡ happened (RuleMade row) self) }
+    /// Adds a rule of the next id. Where there is no memory all are gone.
+    pub fn push_rule(&mut self, alloc: Global, row: RuleRow) -> Result<(), AllocError>
+        requires { RulesAscend (self.old.rules ++ row ∷ []) }
+        ensures { OnOk result (self.new ≡ happened (RuleMade row) self.old) }
     {
         let number = row.id.number();
-        let mut tables = self;
-        tables.rule_rows = tables.rule_rows.with(row)?;
-        tables.counts.rules = number;
-        Ok(tables)
+        let rows = mem::replace(&mut self.rule_rows, RuleRows::new(alloc));
+        self.rule_rows = rows.with(row)?;
+        self.counts.rules = number;
+        Ok(())
     }
 
     /// Takes a rule away.

@@ -4,6 +4,7 @@ ghost use Rattle.reg_facts.specs.Events.{happened};
 ghost use Rattle.reg_facts.specs.Suiting.{Suits};
 ghost use Rattle.reg_terms.specs.declared.event.Event.TheVariants.{FolderMade, FolderRenamed, FolderMoved, FolderGone, SubjectMade, GroupMade, GroupRenamed, GroupMoved, GroupGone, RowAdded, RowRemoved, RowRedated, Composed, Decomposed, GrantAdded, GrantRemoved, InheritAdded, InheritRemoved, RuleMade, RuleGone, ConsumerAdded, ConsumerAcked};
 
+use crate::facts::{both, finished};
 use crate::{
     CompositeRow, ConsumerRow, Event, Facts, FolderRow, GrantRow, GroupRow, InheritRow, Member,
     MemberRow, Object, RuleRow, SubjectRow,
@@ -29,7 +30,7 @@ impl Facts {
             Event::GroupRenamed { group, extension } => self.group_renamed(alloc, group, extension),
             Event::GroupMoved { group, to } => self.group_moved(alloc, group, to),
             Event::GroupGone { group } => Ok(self.group_gone(group)),
-            Event::RowAdded { row } => self.row_added(row),
+            Event::RowAdded { row } => self.row_added(alloc, row),
             Event::RowRemoved { group, member } => Ok(self.row_removed(group, &member)),
             Event::RowRedated {
                 group,
@@ -47,12 +48,14 @@ impl Facts {
             Event::DefinitionGone { definition } => Ok(self.definition_gone(definition)),
             Event::AttributeMade { row } => self.attribute_made(alloc, row),
             Event::AttributeGone { attribute } => Ok(self.attribute_gone(attribute)),
-            Event::AssignMade { row } => self.assign_made(row),
+            Event::AssignMade { row } => self.assign_made(alloc, row),
             Event::AssignGone { assign } => Ok(self.assign_gone(assign)),
-            Event::ValueAdded { assign, value } => self.value_added(assign, value),
+            Event::ValueAdded { assign, value } => self.value_added(alloc, assign, value),
             Event::ValueRemoved { assign, value } => Ok(self.value_removed(assign, &value)),
-            Event::RuleMade { row } => self.rule_made(row),
+            Event::RuleMade { row } => self.rule_made(alloc, row),
             Event::RuleGone { rule } => Ok(self.rule_gone(rule)),
+            Event::JobMade { row } => self.job_made(row),
+            Event::JobGone { job } => Ok(self.job_gone(job)),
             Event::ConsumerAdded { row } => self.consumer_added(row),
             Event::ConsumerAcked { consumer, seq } => Ok(self.consumer_acked(&consumer, seq)),
         }
@@ -100,12 +103,14 @@ impl Facts {
     {
         let parent = row.parent.unwrap();
         let object = Object::Folder(row.id);
-        let mut facts = self;
-        facts
-            .children
-            .put(alloc, parent.number(), row.extension.as_str(), object)?;
-        facts.tables.push_folder(row)?;
-        Ok(facts)
+        let Facts {
+            mut tables,
+            subject_index,
+            mut children,
+        } = self;
+        let put = children.put(alloc, parent.number(), row.extension.as_str(), object);
+        let done = both(put, tables.push_folder(row));
+        finished(done, tables, subject_index, children)
     }
 
     fn folder_renamed(
@@ -118,14 +123,16 @@ impl Facts {
         ensures { IfOk result (λ f. f ≡ happened (FolderRenamed id extension) self) }
     {
         let object = Object::Folder(id);
-        let mut facts = self;
-        let place = facts.tables.the_place(&object);
-        facts.children.take(place.folder.number(), place.extension);
-        facts
-            .children
-            .put(alloc, place.folder.number(), extension.as_str(), object)?;
-        facts.tables.rename_folder(id, extension);
-        Ok(facts)
+        let Facts {
+            mut tables,
+            subject_index,
+            mut children,
+        } = self;
+        let place = tables.the_place(&object);
+        children.take(place.folder.number(), place.extension);
+        let done = children.put(alloc, place.folder.number(), extension.as_str(), object);
+        tables.rename_folder(id, extension);
+        finished(done, tables, subject_index, children)
     }
 
     fn folder_moved(self, alloc: Global, id: FolderId, to: FolderId) -> Result<Facts, AllocError>
@@ -133,14 +140,16 @@ impl Facts {
         ensures { IfOk result (λ f. f ≡ happened (FolderMoved id to) self) }
     {
         let object = Object::Folder(id);
-        let mut facts = self;
-        let place = facts.tables.the_place(&object);
-        facts.children.take(place.folder.number(), place.extension);
-        facts
-            .children
-            .put(alloc, to.number(), place.extension, object)?;
-        facts.tables.move_folder(id, to);
-        Ok(facts)
+        let Facts {
+            mut tables,
+            subject_index,
+            mut children,
+        } = self;
+        let place = tables.the_place(&object);
+        children.take(place.folder.number(), place.extension);
+        let done = children.put(alloc, to.number(), place.extension, object);
+        tables.move_folder(id, to);
+        finished(done, tables, subject_index, children)
     }
 
     fn folder_gone(self, id: FolderId) -> Facts
@@ -159,12 +168,14 @@ impl Facts {
         requires { Suits (SubjectMade row) self }
         ensures { IfOk result (λ f. f ≡ happened (SubjectMade row) self) }
     {
-        let mut facts = self;
-        facts
-            .subject_index
-            .insert(alloc, row.text.as_str(), row.id.number())?;
-        facts.tables.push_subject(row)?;
-        Ok(facts)
+        let Facts {
+            mut tables,
+            mut subject_index,
+            children,
+        } = self;
+        let put = subject_index.insert(alloc, row.text.as_str(), row.id.number());
+        let done = both(put, tables.push_subject(row));
+        finished(done, tables, subject_index, children)
     }
 
     fn group_made(self, alloc: Global, row: GroupRow) -> Result<Facts, AllocError>
@@ -172,12 +183,14 @@ impl Facts {
         ensures { IfOk result (λ f. f ≡ happened (GroupMade row) self) }
     {
         let object = Object::Group(row.id);
-        let mut facts = self;
-        facts
-            .children
-            .put(alloc, row.folder.number(), row.extension.as_str(), object)?;
-        facts.tables.push_group(row)?;
-        Ok(facts)
+        let Facts {
+            mut tables,
+            subject_index,
+            mut children,
+        } = self;
+        let put = children.put(alloc, row.folder.number(), row.extension.as_str(), object);
+        let done = both(put, tables.push_group(row));
+        finished(done, tables, subject_index, children)
     }
 
     fn group_renamed(self, alloc: Global, id: GroupId, extension: Text) -> Result<Facts, AllocError>
@@ -185,14 +198,16 @@ impl Facts {
         ensures { IfOk result (λ f. f ≡ happened (GroupRenamed id extension) self) }
     {
         let object = Object::Group(id);
-        let mut facts = self;
-        let place = facts.tables.the_place(&object);
-        facts.children.take(place.folder.number(), place.extension);
-        facts
-            .children
-            .put(alloc, place.folder.number(), extension.as_str(), object)?;
-        facts.tables.rename_group(id, extension);
-        Ok(facts)
+        let Facts {
+            mut tables,
+            subject_index,
+            mut children,
+        } = self;
+        let place = tables.the_place(&object);
+        children.take(place.folder.number(), place.extension);
+        let done = children.put(alloc, place.folder.number(), extension.as_str(), object);
+        tables.rename_group(id, extension);
+        finished(done, tables, subject_index, children)
     }
 
     fn group_moved(self, alloc: Global, id: GroupId, to: FolderId) -> Result<Facts, AllocError>
@@ -200,14 +215,16 @@ impl Facts {
         ensures { IfOk result (λ f. f ≡ happened (GroupMoved id to) self) }
     {
         let object = Object::Group(id);
-        let mut facts = self;
-        let place = facts.tables.the_place(&object);
-        facts.children.take(place.folder.number(), place.extension);
-        facts
-            .children
-            .put(alloc, to.number(), place.extension, object)?;
-        facts.tables.move_group(id, to);
-        Ok(facts)
+        let Facts {
+            mut tables,
+            subject_index,
+            mut children,
+        } = self;
+        let place = tables.the_place(&object);
+        children.take(place.folder.number(), place.extension);
+        let done = children.put(alloc, to.number(), place.extension, object);
+        tables.move_group(id, to);
+        finished(done, tables, subject_index, children)
     }
 
     fn group_gone(self, id: GroupId) -> Facts
@@ -222,13 +239,17 @@ impl Facts {
         facts
     }
 
-    fn row_added(self, row: MemberRow) -> Result<Facts, AllocError>
+    fn row_added(self, alloc: Global, row: MemberRow) -> Result<Facts, AllocError>
         requires { Suits (RowAdded row) self }
         ensures { IfOk result (λ f. f ≡ happened (RowAdded row) self) }
     {
-        let mut facts = self;
-        facts.tables = facts.tables.with_row(row)?;
-        Ok(facts)
+        let Facts {
+            mut tables,
+            subject_index,
+            children,
+        } = self;
+        let done = tables.push_row(alloc, row);
+        finished(done, tables, subject_index, children)
     }
 
     fn row_removed(self, group: GroupId, member: &Member) -> Facts
@@ -259,9 +280,13 @@ impl Facts {
         requires { Suits (Composed row) self }
         ensures { IfOk result (λ f. f ≡ happened (Composed row) self) }
     {
-        let mut facts = self;
-        facts.tables.push_composite(row)?;
-        Ok(facts)
+        let Facts {
+            mut tables,
+            subject_index,
+            children,
+        } = self;
+        let done = tables.push_composite(row);
+        finished(done, tables, subject_index, children)
     }
 
     fn decomposed(self, group: GroupId) -> Facts
@@ -277,9 +302,13 @@ impl Facts {
         requires { Suits (GrantAdded row) self }
         ensures { IfOk result (λ f. f ≡ happened (GrantAdded row) self) }
     {
-        let mut facts = self;
-        facts.tables.push_grant(row)?;
-        Ok(facts)
+        let Facts {
+            mut tables,
+            subject_index,
+            children,
+        } = self;
+        let done = tables.push_grant(row);
+        finished(done, tables, subject_index, children)
     }
 
     fn grant_removed(self, row: &GrantRow) -> Facts
@@ -295,9 +324,13 @@ impl Facts {
         requires { Suits (InheritAdded row) self }
         ensures { IfOk result (λ f. f ≡ happened (InheritAdded row) self) }
     {
-        let mut facts = self;
-        facts.tables.push_inherit(row)?;
-        Ok(facts)
+        let Facts {
+            mut tables,
+            subject_index,
+            children,
+        } = self;
+        let done = tables.push_inherit(row);
+        finished(done, tables, subject_index, children)
     }
 
     fn inherit_removed(self, row: &InheritRow) -> Facts
@@ -309,13 +342,17 @@ impl Facts {
         facts
     }
 
-    fn rule_made(self, row: RuleRow) -> Result<Facts, AllocError>
+    fn rule_made(self, alloc: Global, row: RuleRow) -> Result<Facts, AllocError>
         requires { Suits (RuleMade row) self }
         ensures { IfOk result (λ f. f ≡ happened (RuleMade row) self) }
     {
-        let mut facts = self;
-        facts.tables = facts.tables.with_rule(row)?;
-        Ok(facts)
+        let Facts {
+            mut tables,
+            subject_index,
+            children,
+        } = self;
+        let done = tables.push_rule(alloc, row);
+        finished(done, tables, subject_index, children)
     }
 
     fn rule_gone(self, rule: RuleId) -> Facts
@@ -331,9 +368,13 @@ impl Facts {
         requires { Suits (ConsumerAdded row) self }
         ensures { IfOk result (λ f. f ≡ happened (ConsumerAdded row) self) }
     {
-        let mut facts = self;
-        facts.tables.push_consumer(row)?;
-        Ok(facts)
+        let Facts {
+            mut tables,
+            subject_index,
+            children,
+        } = self;
+        let done = tables.push_consumer(row);
+        finished(done, tables, subject_index, children)
     }
 
     fn consumer_acked(self, consumer: &Text, seq: u64) -> Facts

@@ -1,26 +1,25 @@
 -- What is written for a reply is taken apart as that reply.
-use Rattle.std.proofs.Common.{◌≡◌, ℕ, ◌≤◌, Bool, true, ◌&&◌, List, [], ◌∷◌, map, codes, Option, Some, None, refl, sym, ap, ◌∙◌, arith, lit≤, option_map, Result, Ok, Err, IfOk, ℤ, pos, negsuc, ltb}
+use Rattle.std.proofs.Common.{◌≡◌, ℕ, ◌≤◌, Bool, true, ◌&&◌, List, [], ◌∷◌, map, codes, Option, Some, None, refl, sym, ap, ◌∙◌, arith, lit≤, option_map, Result, Ok, Err, IfOk, ℤ, pos, negsuc}
 use Rattle.std.specs.List.{list_all}
-use Rattle.std.proofs.lemmas.Bool.{and_parts, leb-true, lt-ltb, ltb-true}
+use Rattle.std.proofs.lemmas.Bool.{and_parts, lt-ltb, ltb-true}
 use Rattle.std.proofs.lemmas.Option.{same_Some}
 use Rattle.std.proofs.lemmas.Str.{is_utf8-from_IsUtf8}
-use Rattle.serde_json.specs.Data.{Data, number, string, array, depth, items_depth}
-use Rattle.serde_json.specs.Find.{get, as_i64, as_str, of_integer}
+use Rattle.serde_json.specs.Data.{Data, number, string, depth, items_depth}
+use Rattle.serde_json.specs.Find.{as_i64, of_integer}
 use Rattle.serde_json.specs.Read.{read}
 use Rattle.serde_json.specs.View.{items_of}
 use Rattle.serde_json.specs.Written.{compact_text}
-use Rattle.reg_base.specs.Names.{is_name}
-use Rattle.reg_base.specs.MomentText.{text_of}
-use Rattle.reg_base.proofs.Texts.{text_of_reads}
 use Rattle.reg_base.specs.declared.privilege.Privilege.{Privilege}
-use Rattle.reg_base.specs.declared.privilege.Privilege.TheVariants.{Admin, Update, Read, View, Optin, Optout, GroupAttrRead, GroupAttrUpdate, StemAdmin, Create, StemAttrRead, StemAttrUpdate, AttrAdmin, AttrUpdate, AttrRead, AttrView}
 use Rattle.reg_terms.specs.Forms.{is_i64, is_moment, is_optional_moment}
-use Rattle.reg_terms.specs.Privileges.{line_of, privilege_named}
 use Rattle.reg_terms.specs.EntryWords.{word_of, kind_worded}
 use Rattle.reg_terms.specs.declared.entry_kinds.EntryKind.{EntryKind}
 use Rattle.reg_terms.specs.declared.entry_kinds.EntryKind.TheVariants as entry
 use Rattle.reg_terms.specs.declared.kinds.AttrValue.{AttrValue}
 use Rattle.reg_terms.specs.declared.kinds.AttrValue.TheVariants as value
+use Rattle.reg_terms.specs.declared.admin_shown.ConsumerShown.{ConsumerShown}
+use Rattle.reg_terms.specs.declared.admin_shown.GoneShown.{GoneShown}
+use Rattle.reg_terms.specs.declared.admin_shown.JobShown.{JobShown}
+use Rattle.reg_terms.specs.declared.admin_shown.RuleShown.{RuleShown}
 use Rattle.reg_terms.specs.declared.kinds.SetOp.{SetOp}
 use Rattle.reg_terms.specs.declared.kinds.SetOp.TheVariants.{Intersection, Complement}
 use Rattle.reg_terms.specs.declared.shown.AssignShown.{AssignShown}
@@ -38,52 +37,14 @@ use Rattle.reg_terms.specs.declared.reply.Reply.TheVariants as reply
 use Rattle.reg_json.specs.Fields.{composite_kind}
 use Rattle.reg_json.specs.Flat.{moment_data}
 use Rattle.reg_json.specs.Refusals.{refusal_data, refused}
+use Rattle.reg_json.specs.AdminReplies.{consumer_data, gone_data, job_data, rule_data}
 use Rattle.reg_json.specs.Replies.{accepted_data, strings, row_data, row_items, kind_word, factors_data, grant_data, names_of, span_data, entry_data, value_data, assign_data, answer_data, reply_data, text}
-use Rattle.reg_json.specs.Taking.{has, text_in, name_in, number_in, optional_number_in, moment_in, moment_or_null, optional_moment_in, items_in, all_of, texts_in, row_from, kind_in, factors_from, factors_or_null, privilege_from, grant_from, span_from, entry_kind_in, entry_from, value_from, id_in, assign_from, group_from, listing_from, members_from, memberships_from, groups_from, grants_from, may_from, attributes_from, history_from, log_from, list_from, answer_from, bare_refusal, http_refusal, field_refusal, object_refusal, denied_from, future_from, place_from, full_from, limit_from, named_from, with_object, with_field, with_nothing, other_refusal, refusal_from, accepted_from, fault_from, reply_from, reply_of}
+use Rattle.reg_json.specs.Taking.{has, text_in, number_in, optional_number_in, items_in, all_of, row_from, kind_in, factors_from, factors_or_null, privilege_from, privilege_in, grant_from, span_from, entry_kind_in, entry_from, value_from, assign_from, consumer_from, gone_from, job_from, rule_from, consumers_in, gone_in, jobs_in, rules_in, group_from, listing_from, members_from, memberships_from, groups_from, grants_from, may_from, attributes_from, history_from, admin_from, log_from, list_from, answer_from, bare_refusal, http_refusal, field_refusal, object_refusal, denied_from, future_from, place_from, full_from, limit_from, named_from, with_object, with_field, with_nothing, other_refusal, refusal_from, accepted_from, fault_from, reply_from, reply_of}
 use Rattle.reg_json.specs.Told.{told_value, told_assign, told_answer, told}
-use Rattle.reg_json.specs.Writable.{is_u64, is_optional_u64, row_fits, span_fits, entry_fits, value_fits, assign_fits, answer_fits, refusal_fits, reply_fits, IsWritable}
+use Rattle.reg_json.specs.Writable.{is_u32, is_u64, is_optional_u64, row_fits, span_fits, entry_fits, value_fits, assign_fits, consumer_fits, gone_fits, job_fits, rule_fits, answer_fits, refusal_fits, reply_fits, IsWritable}
 use Rattle.reg_json.proofs.Plain.{is_plain, are_plain, plain_read, all_plain, all_flat}
-
--- ---- what stands under a key
-
-name_there : (key : List ℕ) (d : Data) (name : List ℕ) → get key d ≡ Some (string name) → is_name name ≡ true → name_in key d ≡ Some name
-unfolding name_in text_in
-name_there key d name there good = rw (there, good) refl
-
-moment_there : (key : List ℕ) (d : Data) (moment : ℕ) → get key d ≡ Some (string (text_of moment)) → is_moment moment ≡ true → moment_in key d ≡ Some moment
-unfolding moment_in text_in
-moment_there key d moment there good = rw there (text_of_reads moment (leb-true _ _ good))
-
-null_or : (moment : Option ℕ) → is_optional_moment moment ≡ true → moment_or_null (moment_data moment) ≡ Some moment
-unfolding moment_or_null
-null_or None good = refl
-null_or (Some moment) good = rw (text_of_reads moment (leb-true _ _ good)) refl
-
-optional_there : (key : List ℕ) (d : Data) (moment : Option ℕ) → get key d ≡ Some (moment_data moment) → is_optional_moment moment ≡ true → optional_moment_in key d ≡ Some moment
-unfolding optional_moment_in
-optional_there key d moment there good = rw there (null_or moment good)
-
--- ---- arrays
-
-all_again : {A : Type 0} (write : A → Data) (take_one : Data → Option A) (fits : A → Bool) → ((x : A) → fits x ≡ true → take_one (write x) ≡ Some x) → (xs : List A) → list_all fits xs ≡ true → all_of take_one (items_of (map write xs)) ≡ Some xs
-all_again write take_one fits one [] h = refl
-all_again write take_one fits one (x ∷ xs) h =
-    let both = and_parts (fits x) (list_all fits xs) h in
-    rw (one x both.0, all_again write take_one fits one xs both.1) refl
-
-abbrev any : {A : Type 0} → A → Bool
-any x = true
-
-all_any : {A : Type 0} (xs : List A) → list_all any xs ≡ true
-all_any [] = refl
-all_any (x ∷ xs) = all_any xs
-
-strings_again : (texts : List (List ℕ)) → all_of as_str (strings texts) ≡ Some texts
-strings_again texts = all_again string as_str any (λ x h. refl) texts (all_any texts)
-
-texts_there : (key : List ℕ) (d : Data) (texts : List (List ℕ)) → get key d ≡ Some (array (strings texts)) → texts_in key d ≡ Some texts
-unfolding texts_in items_in
-texts_there key d texts there = rw there (strings_again texts)
+use Rattle.reg_json.proofs.UnderKeys.{all_again, all_any, any, moment_there, name_there, optional_there, privilege_again, small_there, texts_there}
+use Rattle.reg_json.proofs.AdminBack.{consumer_again, consumer_plain, gone_again, gone_plain, job_again, job_plain, rule_again, rule_plain, rule_flat, wide}
 
 -- ---- what queries show
 
@@ -109,31 +70,8 @@ unfolding factors_or_null
 composite_again None = refl
 composite_again (Some factors) = ap (option_map (λ f. Some f)) (factors_again factors)
 
-named_again : (p : Privilege) → privilege_named (line_of p).name ≡ Some p
-unfolding privilege_named
-named_again Admin = refl
-named_again Update = refl
-named_again Read = refl
-named_again View = refl
-named_again Optin = refl
-named_again Optout = refl
-named_again GroupAttrRead = refl
-named_again GroupAttrUpdate = refl
-named_again StemAdmin = refl
-named_again Create = refl
-named_again StemAttrRead = refl
-named_again StemAttrUpdate = refl
-named_again AttrAdmin = refl
-named_again AttrUpdate = refl
-named_again AttrRead = refl
-named_again AttrView = refl
-
-privilege_again : (p : Privilege) → privilege_from (string (line_of p).name) ≡ Some p
-unfolding privilege_from
-privilege_again p = named_again p
-
 grant_again : (grant : GrantShown) → grant_from (grant_data grant) ≡ Some grant
-unfolding grant_from text_in
+unfolding grant_from privilege_in text_in
 grant_again grant = rw (privilege_again grant.privilege) refl
 
 span_again : (span : SpanShown) → span_fits span ≡ true → span_from (span_data span) ≡ Some span
@@ -200,15 +138,11 @@ all_told write take_one fits tell one (x ∷ xs) h =
     let both = and_parts (fits x) (list_all fits xs) h in
     rw (one x both.0, all_told write take_one fits tell one xs both.1) refl
 
-id_there : (key : List ℕ) (d : Data) (n : ℕ) → number_in key d ≡ Some n → ltb n 4294967296 ≡ true → id_in key d ≡ Some n
-unfolding id_in
-id_there key d n there small = rw (there, small) refl
-
 assign_again : (a : AssignShown) → assign_fits a ≡ true → assign_from (assign_data a) ≡ Some (told_assign a)
 unfolding assign_from number_in text_in items_in
 assign_again a h =
-    let both = and_parts (ltb a.id 4294967296) (list_all value_fits a.values) h in
-    rw (id_there (codes "id") (assign_data a) a.id refl both.0, all_told value_data value_from value_fits told_value value_again a.values both.1) refl
+    let both = and_parts (is_u32 a.id) (list_all value_fits a.values) h in
+    rw (small_there (codes "id") (assign_data a) a.id refl both.0, all_told value_data value_from value_fits told_value value_again a.values both.1) refl
 
 -- ---- answers
 
@@ -216,8 +150,22 @@ names_again : (privileges : List Privilege) → all_of privilege_from (strings (
 names_again [] = refl
 names_again (p ∷ ps) = rw (privilege_again p, names_again ps) refl
 
+-- what root is told has its form, list by list
+record ListsFit (consumers : List ConsumerShown) (gone : List GoneShown) (jobs : List JobShown) (rules : List RuleShown) : Type 0 where
+  all_consumers : list_all consumer_fits consumers ≡ true
+  all_gone : list_all gone_fits gone ≡ true
+  all_jobs : list_all job_fits jobs ≡ true
+  all_rules : list_all rule_fits rules ≡ true
+
+lists_fit : (consumers : List ConsumerShown) (gone : List GoneShown) (jobs : List JobShown) (rules : List RuleShown) → answer_fits (answer.Admin consumers gone jobs rules) ≡ true → ListsFit consumers gone jobs rules
+lists_fit consumers gone jobs rules h =
+    let first = and_parts (list_all consumer_fits consumers) _ h in
+    let second = and_parts (list_all gone_fits gone) _ first.1 in
+    let third = and_parts (list_all job_fits jobs) _ second.1 in
+    record { all_consumers = first.0; all_gone = second.0; all_jobs = third.0; all_rules = third.1 }
+
 answer_again : (a : Answer) → answer_fits a ≡ true → answer_from (answer_data a) ≡ Some (told_answer a)
-unfolding answer_from list_from has answer_data group_from listing_from members_from memberships_from groups_from grants_from may_from attributes_from history_from log_from items_in number_in text_in
+unfolding answer_from list_from has answer_data group_from listing_from members_from memberships_from groups_from grants_from may_from attributes_from history_from log_from admin_from consumers_in gone_in jobs_in rules_in items_in number_in text_in
 answer_again (answer.GroupGet display name) h = rw (name_there (codes "name") (answer_data (answer.GroupGet display name)) name refl h) refl
 answer_again (answer.FolderList attributes definitions folders groups) h =
     let d = answer_data (answer.FolderList attributes definitions folders groups) in
@@ -230,6 +178,9 @@ answer_again (answer.May privileges) h = rw (names_again privileges) refl
 answer_again (answer.Attributes assignments) h = rw (all_told assign_data assign_from assign_fits told_assign assign_again assignments h) refl
 answer_again (answer.History history) h = rw (all_again span_data span_from span_fits span_again history h) refl
 answer_again (answer.Log entries last place) h = rw (all_again entry_data entry_from entry_fits entry_again entries (and_parts (list_all entry_fits entries) (is_u64 last && is_u64 place) h).0) refl
+answer_again (answer.Admin consumers gone jobs rules) h =
+    let fit = lists_fit consumers gone jobs rules h in
+    rw (all_again consumer_data consumer_from consumer_fits consumer_again consumers fit.all_consumers, all_again gone_data gone_from gone_fits gone_again gone fit.all_gone, all_again job_data job_from job_fits job_again jobs fit.all_jobs, all_again rule_data rule_from rule_fits rule_again rules fit.all_rules) refl
 
 -- ---- refusals
 
@@ -318,6 +269,7 @@ answer_goes (answer.May privileges) = refl
 answer_goes (answer.Attributes assignments) = refl
 answer_goes (answer.History history) = refl
 answer_goes (answer.Log entries last place) = refl
+answer_goes (answer.Admin consumers gone jobs rules) = refl
 
 number_again : (n : ℕ) (id : Option ℕ) → reply_from (reply_data (reply.Number n id)) ≡ Some (reply.Number n id)
 unfolding reply_from reply_data has accepted_from number_in optional_number_in
@@ -394,10 +346,8 @@ value_plain (value.Moment moment) h = refl
 
 assign_plain : (a : AssignShown) → assign_fits a ≡ true → is_plain (assign_data a) ≡ true
 assign_plain a h =
-    let both = and_parts (ltb a.id 4294967296) (list_all value_fits a.values) h in
-    let below = ltb-true a.id 4294967296 both.0 in
-    let wide : ltb a.id 18446744073709551616 ≡ true = lt-ltb _ _ (omega arith) in
-    rw (wide, all_plain value_data value_fits value_plain a.values both.1) refl
+    let both = and_parts (is_u32 a.id) (list_all value_fits a.values) h in
+    rw (wide a.id both.0, all_plain value_data value_fits value_plain a.values both.1) refl
 
 value_flat : (v : AttrValue) → depth (value_data v) ≤ 0
 value_flat (value.Int n) = lit≤ tt
@@ -422,6 +372,9 @@ answer_plain (answer.Log entries last place) h =
     let both = and_parts (list_all entry_fits entries) (is_u64 last && is_u64 place) h in
     let numbers = and_parts (is_u64 last) (is_u64 place) both.1 in
     rw (all_plain entry_data entry_fits entry_plain entries both.0, numbers.0, numbers.1) refl
+answer_plain (answer.Admin consumers gone jobs rules) h =
+    let fit = lists_fit consumers gone jobs rules h in
+    rw (all_plain consumer_data consumer_fits consumer_plain consumers fit.all_consumers, all_plain gone_data gone_fits (λ g _. gone_plain g) gone fit.all_gone, all_plain job_data job_fits job_plain jobs fit.all_jobs, all_plain rule_data rule_fits rule_plain rules fit.all_rules) refl
 
 answer_flat : (a : Answer) → depth (answer_data a) ≤ 127
 unfolding answer_data
@@ -435,6 +388,7 @@ answer_flat (answer.May privileges) = omega (arith, strings_flat (names_of privi
 answer_flat (answer.Attributes assignments) = omega (arith, all_flat 2 assign_data assign_flat assignments)
 answer_flat (answer.History history) = omega (arith, all_flat 1 span_data span_flat history)
 answer_flat (answer.Log entries last place) = omega (arith, all_flat 1 entry_data (λ e. lit≤ tt) entries)
+answer_flat (answer.Admin consumers gone jobs rules) = omega (arith, all_flat 1 consumer_data (λ c. lit≤ tt) consumers, all_flat 1 gone_data (λ g. lit≤ tt) gone, all_flat 1 job_data (λ j. lit≤ tt) jobs, all_flat 1 rule_data rule_flat rules)
 
 refusal_plain : (r : Refusal) → refusal_fits r ≡ true → is_plain (refusal_data r) ≡ true
 unfolding refusal_data refused

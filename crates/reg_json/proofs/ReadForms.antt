@@ -6,7 +6,7 @@ use Rattle.std.proofs.lemmas.Bool.{and_from, and_parts, le-leb}
 use Rattle.std.proofs.lemmas.Str.{is_utf8-from_IsUtf8}
 use Rattle.serde_json.specs.Data.{Data}
 use Rattle.serde_json.specs.Find.{get, as_object}
-use Rattle.reg_base.specs.Names.{is_extension, is_name, is_person, name_of}
+use Rattle.reg_base.specs.Names.{is_extension, is_name, is_person, is_source, name_of}
 use Rattle.reg_base.specs.Entities.{entity_of}
 use Rattle.reg_base.specs.MomentText.{moment_of}
 use Rattle.reg_base.specs.declared.entity.Entity.TheVariants.{Person, Group}
@@ -26,7 +26,7 @@ use Rattle.reg_terms.specs.declared.request.Request.{Request}
 use Rattle.reg_json.specs.declared.fields.Carrier.{Carrier}
 use Rattle.reg_json.specs.declared.fields.Carrier.TheVariants.{Line, Body}
 use Rattle.reg_json.specs.Steps.{◌>>=◌}
-use Rattle.reg_json.specs.Fields.{text_at, text_or_empty, optional_text_at, known_keys, no_other, display_at, set_op_at, inherit_kind_at, scope_at, privilege_at, whole_number, is_within, number_at, name_from, folder_from, extension_from, object_from, entity_from, moment_from}
+use Rattle.reg_json.specs.Fields.{text_at, text_or_empty, optional_text_at, known_keys, no_other, display_at, set_op_at, inherit_kind_at, scope_at, privilege_at, whole_number, is_within, number_at, name_from, folder_from, extension_from, source_from, object_from, entity_from, moment_from}
 use Rattle.reg_json.specs.Attributes.{owners_named, owners_at, flag_at, def_kind_at, value_of, value_from, value_at, are_owners, owners_among}
 use Rattle.reg_json.specs.Taking.{texts_in}
 use Rattle.reg_json.specs.Ops.{form_at, all_stand, all_forms, fields_in, asked_in}
@@ -87,6 +87,10 @@ extension_form : (field text : List ℕ) → Keeps (λ extension. is_extension e
 unfolding extension_from
 extension_form field text = tested (is_extension text) (λ extension. is_extension extension ≡ true) text (BadName field) (λ e. e)
 
+source_form : (field text : List ℕ) → Keeps (λ source. is_source source ≡ true) (source_from field text)
+unfolding source_from
+source_form field text = tested (is_source text) (λ source. is_source source ≡ true) text (BadName field) (λ e. e)
+
 object_form : (field text : List ℕ) → Keeps (λ object. is_object_text object ≡ true) (object_from field text)
 unfolding object_from
 object_form field text = tested (is_object_text text) (λ object. is_object_text object ≡ true) text (BadName field) (λ e. e)
@@ -145,6 +149,7 @@ form_kept : (k : FieldKind) (key : List ℕ) (d : Data) → Keeps (IsForm k) (fo
 form_kept kind.Name key d = pass_text key d (λ text. step (name_form key text) (λ v e. last (record { is_kind = refl; fits = e })))
 form_kept kind.Folder key d = pass_text key d (λ text. step (folder_form key text) (λ v e. last (record { is_kind = refl; fits = e })))
 form_kept kind.Extension key d = pass_text key d (λ text. step (extension_form key text) (λ v e. last (record { is_kind = refl; fits = e })))
+form_kept kind.Source key d = pass_text key d (λ text. step (source_form key text) (λ v e. last (record { is_kind = refl; fits = e })))
 form_kept kind.Display key d = step (display_form key d) (λ v e. last (record { is_kind = refl; fits = e }))
 form_kept kind.Entity key d = pass_text key d (λ text. step (entity_form key text) (λ v e. last (record { is_kind = refl; fits = e })))
 form_kept kind.Object key d = pass_text key d (λ text. step (object_form key text) (λ v e. last (record { is_kind = refl; fits = e })))

@@ -4,7 +4,7 @@ use Rattle.std.specs.List.{list_any}
 use Rattle.std.specs.Str.{bytes_eq}
 use Rattle.serde_json.specs.Data.{Data, Members, no_members, member}
 use Rattle.serde_json.specs.Find.{get, as_str, as_number, as_u64}
-use Rattle.reg_base.specs.Names.{is_extension, name_of}
+use Rattle.reg_base.specs.Names.{is_extension, is_source, name_of}
 use Rattle.reg_base.specs.Entities.{entity_of}
 use Rattle.reg_base.specs.MomentText.{moment_of}
 use Rattle.reg_base.specs.declared.entity.Entity.{Entity}
@@ -142,6 +142,10 @@ folder_from field text = if is_folder_text text then Ok text else Err (BadName f
 -- the extension that a field's text is
 unfoldable pub extension_from : List ℕ → List ℕ → Result (List ℕ) Refusal
 extension_from field text = if is_extension text then Ok text else Err (BadName field)
+
+-- the source of persons that a field's text is
+unfoldable pub source_from : List ℕ → List ℕ → Result (List ℕ) Refusal
+source_from field text = if is_source text then Ok text else Err (BadName field)
 
 -- the object that a field's text names
 unfoldable pub object_from : List ℕ → List ℕ → Result (List ℕ) Refusal

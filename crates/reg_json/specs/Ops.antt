@@ -14,7 +14,7 @@ use Rattle.reg_terms.specs.Table.{row_of, made}
 use Rattle.reg_json.specs.declared.fields.Carrier.{Carrier}
 use Rattle.reg_json.specs.Steps.{◌>>=◌}
 use Rattle.reg_json.specs.Attributes.{owners_at, flag_at, def_kind_at, value_at}
-use Rattle.reg_json.specs.Fields.{known_keys, no_other, text_at, optional_text_at, display_at, set_op_at, inherit_kind_at, scope_at, privilege_at, number_at, name_from, folder_from, extension_from, entity_from, object_from, moment_from}
+use Rattle.reg_json.specs.Fields.{known_keys, no_other, text_at, optional_text_at, display_at, set_op_at, inherit_kind_at, scope_at, privilege_at, number_at, name_from, folder_from, extension_from, source_from, entity_from, object_from, moment_from}
 
 -- ---- by the kinds of fields
 
@@ -27,6 +27,9 @@ stands_at kind.Folder key d = do
   text ← text_at key d
   Ok true
 stands_at kind.Extension key d = do
+  text ← text_at key d
+  Ok true
+stands_at kind.Source key d = do
   text ← text_at key d
   Ok true
 stands_at kind.Display key d = do
@@ -83,6 +86,10 @@ form_at kind.Extension key d = do
   text ← text_at key d
   extension ← extension_from key text
   Ok (field.Extension extension)
+form_at kind.Source key d = do
+  text ← text_at key d
+  source ← source_from key text
+  Ok (field.Source source)
 form_at kind.Display key d = do
   text ← display_at key d
   Ok (field.Display text)

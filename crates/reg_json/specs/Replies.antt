@@ -22,6 +22,7 @@ use Rattle.reg_terms.specs.declared.changes_shown.SpanShown.{SpanShown}
 use Rattle.reg_terms.specs.declared.changes_shown.EntryShown.{EntryShown}
 use Rattle.reg_terms.specs.declared.reply.Reply.{Reply}
 use Rattle.reg_terms.specs.declared.reply.Reply.TheVariants as reply
+use Rattle.reg_json.specs.AdminReplies.{consumer_items, gone_items, job_items, rule_items}
 use Rattle.reg_json.specs.Flat.{moment_data}
 use Rattle.reg_json.specs.Refusals.{refusal_data}
 
@@ -105,6 +106,7 @@ answer_data (answer.May privileges) = object (member (codes "ok") (boolean true)
 answer_data (answer.Attributes assignments) = object (member (codes "assignments") (array (assign_items assignments)) (member (codes "ok") (boolean true) no_members))
 answer_data (answer.History history) = object (member (codes "history") (array (span_items history)) (member (codes "ok") (boolean true) no_members))
 answer_data (answer.Log entries last place) = object (member (codes "entries") (array (entry_items entries)) (member (codes "last") (number (unsigned last)) (member (codes "ok") (boolean true) (member (codes "place") (number (unsigned place)) no_members))))
+answer_data (answer.Admin consumers gone jobs rules) = object (member (codes "consumers") (array (consumer_items consumers)) (member (codes "gone") (array (gone_items gone)) (member (codes "jobs") (array (job_items jobs)) (member (codes "ok") (boolean true) (member (codes "rules") (array (rule_items rules)) no_members)))))
 
 -- an accepted command's number as JSON data, with the id of what it made where there is one
 abbrev pub accepted_data : ℕ → Option ℕ → Data

@@ -13,6 +13,13 @@ use Rattle.reg_terms.specs.EntryWords.{kind_worded}
 use Rattle.reg_terms.specs.declared.entry_kinds.EntryKind.{EntryKind}
 use Rattle.reg_terms.specs.declared.kinds.AttrValue.{AttrValue}
 use Rattle.reg_terms.specs.declared.kinds.AttrValue.TheVariants as value
+use Rattle.reg_terms.specs.declared.admin_shown.ConsumerShown.{ConsumerShown}
+use Rattle.reg_terms.specs.declared.admin_shown.FormShown.{FormShown}
+use Rattle.reg_terms.specs.declared.admin_shown.FormShown.TheVariants as form
+use Rattle.reg_terms.specs.declared.admin_shown.GoneShown.{GoneShown}
+use Rattle.reg_terms.specs.declared.admin_shown.JobShown.{JobShown}
+use Rattle.reg_terms.specs.declared.admin_shown.RuleShown.{RuleShown}
+use Rattle.reg_terms.specs.declared.kinds.Scope.{Scope}
 use Rattle.reg_terms.specs.declared.kinds.SetOp.{SetOp}
 use Rattle.reg_terms.specs.declared.shown.AssignShown.{AssignShown}
 use Rattle.reg_terms.specs.declared.shown.FactorsShown.{FactorsShown}
@@ -26,7 +33,7 @@ use Rattle.reg_terms.specs.declared.refusal.Refusal.{Refusal}
 use Rattle.reg_terms.specs.declared.refusal.Refusal.TheVariants as refusal
 use Rattle.reg_terms.specs.declared.reply.Reply.{Reply}
 use Rattle.reg_terms.specs.declared.reply.Reply.TheVariants as reply
-use Rattle.reg_json.specs.Fields.{whole_number, composite_kind}
+use Rattle.reg_json.specs.Fields.{whole_number, composite_kind, scope}
 
 -- ---- what stands under a key
 
@@ -48,7 +55,13 @@ name_in key d = do
 unfoldable pub number_in : List ℕ → Data → Option ℕ
 number_in key d = option_and_then whole_number (get key d)
 
--- and one that may be left out
+-- one of 32 bits
+unfoldable pub small_number_in : List ℕ → Data → Option ℕ
+small_number_in key d = do
+  number ← number_in key d
+  if nat_lt number (2 ^ 32) then Some number else None
+
+-- and one of 64 bits that may be left out
 unfoldable pub optional_number_in : List ℕ → Data → Option (Option ℕ)
 optional_number_in key d = if has key d then option_map (λ n. Some n) (number_in key d) else Some None
 
@@ -123,11 +136,16 @@ privilege_from d = do
   word ← as_str d
   privilege_named word
 
+-- the privilege under a key
+unfoldable pub privilege_in : List ℕ → Data → Option Privilege
+privilege_in key d = do
+  found ← get key d
+  privilege_from found
+
 -- a grant
 unfoldable pub grant_from : Data → Option GrantShown
 grant_from d = do
-  found ← get (codes "privilege") d
-  privilege ← privilege_from found
+  privilege ← privilege_in (codes "privilege") d
   holder ← text_in (codes "holder") d
   Some (record { holder = holder; privilege = privilege })
 
@@ -161,20 +179,111 @@ unfoldable pub value_from : Data → Option AttrValue
 value_from d =
     if is_some (as_str d) then option_map (λ words. value.Text words) (as_str d) else option_map (λ n. value.Int n) (option_and_then as_i64 (as_number d))
 
--- the number of an assignment, of 32 bits
-unfoldable pub id_in : List ℕ → Data → Option ℕ
-id_in key d = do
-  number ← number_in key d
-  if nat_lt number (2 ^ 32) then Some number else None
-
 -- an assignment
 unfoldable pub assign_from : Data → Option AssignShown
 assign_from d = do
-  id ← id_in (codes "id") d
+  id ← small_number_in (codes "id") d
   attribute ← text_in (codes "attribute") d
   items ← items_in (codes "values") d
   values ← all_of value_from items
   Some (record { attribute = attribute; id = id; values = values })
+
+-- ---- what root is told
+
+-- a consumer of the change log
+unfoldable pub consumer_from : Data → Option ConsumerShown
+consumer_from d = do
+  place ← number_in (codes "place") d
+  consumer ← text_in (codes "consumer") d
+  Some (record { consumer = consumer; place = place })
+
+-- a group that is gone
+unfoldable pub gone_from : Data → Option GoneShown
+gone_from d = do
+  ended ← moment_in (codes "ended") d
+  group ← text_in (codes "group") d
+  Some (record { ended = ended; group = group })
+
+-- a loader job
+unfoldable pub job_from : Data → Option JobShown
+job_from d = do
+  max_percent ← number_in (codes "max_percent") d
+  min_size ← number_in (codes "min_size") d
+  job ← text_in (codes "job") d
+  source ← text_in (codes "source") d
+  target ← text_in (codes "target") d
+  Some (record { job = job; max_percent = max_percent; min_size = min_size; source = source; target = target })
+
+-- the scope under a key, by its word
+unfoldable pub scope_in : List ℕ → Data → Option Scope
+scope_in key d = do
+  word ← text_in key d
+  scope word
+
+-- what a rule does, form by form
+unfoldable pub remove_lost_from : Data → Option FormShown
+remove_lost_from d = do
+  check ← text_in (codes "check") d
+  owner ← text_in (codes "owner") d
+  Some (form.RemoveLost check owner)
+
+unfoldable pub end_lost_from : Data → Option FormShown
+end_lost_from d = do
+  days ← small_number_in (codes "days") d
+  check ← text_in (codes "check") d
+  owner ← text_in (codes "owner") d
+  Some (form.EndLost check owner days)
+
+unfoldable pub veto_from : Data → Option FormShown
+veto_from d = do
+  owner ← text_in (codes "owner") d
+  condition ← text_in (codes "condition") d
+  Some (form.Veto owner condition)
+
+unfoldable pub on_create_from : Data → Option FormShown
+on_create_from d = do
+  scope ← scope_in (codes "scope") d
+  privilege ← privilege_in (codes "privilege") d
+  folder ← text_in (codes "folder") d
+  holder ← text_in (codes "holder") d
+  Some (form.OnCreate folder scope privilege holder)
+
+-- what a rule does, by the word of its form
+unfoldable pub form_from : List ℕ → Data → Option FormShown
+form_from word d =
+    if bytes_eq word (codes "remove_lost") then remove_lost_from d else
+    (if bytes_eq word (codes "end_lost") then end_lost_from d else
+    (if bytes_eq word (codes "veto") then veto_from d else
+    (if bytes_eq word (codes "on_create") then on_create_from d else None)))
+
+-- a rule
+unfoldable pub rule_from : Data → Option RuleShown
+rule_from d = do
+  id ← small_number_in (codes "id") d
+  word ← text_in (codes "form") d
+  form ← form_from word d
+  Some (record { id = id; form = form })
+
+-- the consumers, the groups that are gone, the loader jobs and the rules
+unfoldable pub consumers_in : Data → Option (List ConsumerShown)
+consumers_in d = do
+  items ← items_in (codes "consumers") d
+  all_of consumer_from items
+
+unfoldable pub gone_in : Data → Option (List GoneShown)
+gone_in d = do
+  items ← items_in (codes "gone") d
+  all_of gone_from items
+
+unfoldable pub jobs_in : Data → Option (List JobShown)
+jobs_in d = do
+  items ← items_in (codes "jobs") d
+  all_of job_from items
+
+unfoldable pub rules_in : Data → Option (List RuleShown)
+rules_in d = do
+  items ← items_in (codes "rules") d
+  all_of rule_from items
 
 -- ---- answers
 
@@ -244,13 +353,23 @@ log_from d = do
   entries ← all_of entry_from items
   Some (answer.Log entries last place)
 
+-- what root is told
+unfoldable pub admin_from : Data → Option Answer
+admin_from d = do
+  consumers ← consumers_in d
+  gone ← gone_in d
+  jobs ← jobs_in d
+  rules ← rules_in d
+  Some (answer.Admin consumers gone jobs rules)
+
 -- an answer that lists what was asked of, by a key that no other has
 unfoldable pub list_from : Data → Option Answer
 list_from d =
     if has (codes "grants") d then grants_from d else
     (if has (codes "privileges") d then may_from d else
     (if has (codes "assignments") d then attributes_from d else
-    (if has (codes "history") d then history_from d else log_from d)))
+    (if has (codes "history") d then history_from d else
+    (if has (codes "consumers") d then admin_from d else log_from d))))
 
 -- an answer, by a key that none of those behind it has
 unfoldable pub answer_from : Data → Option Answer

@@ -4,6 +4,12 @@ use Rattle.std.specs.List.{list_all}
 use Rattle.std.specs.Str.{IsUtf8}
 use Rattle.reg_base.specs.Names.{is_name}
 use Rattle.reg_terms.specs.Forms.{is_i64, is_moment, is_optional_moment}
+use Rattle.reg_terms.specs.declared.admin_shown.ConsumerShown.{ConsumerShown}
+use Rattle.reg_terms.specs.declared.admin_shown.FormShown.{FormShown}
+use Rattle.reg_terms.specs.declared.admin_shown.FormShown.TheVariants as form
+use Rattle.reg_terms.specs.declared.admin_shown.GoneShown.{GoneShown}
+use Rattle.reg_terms.specs.declared.admin_shown.JobShown.{JobShown}
+use Rattle.reg_terms.specs.declared.admin_shown.RuleShown.{RuleShown}
 use Rattle.reg_terms.specs.declared.kinds.AttrValue.{AttrValue}
 use Rattle.reg_terms.specs.declared.kinds.AttrValue.TheVariants as value
 use Rattle.reg_terms.specs.declared.shown.AssignShown.{AssignShown}
@@ -44,9 +50,33 @@ abbrev pub value_fits : AttrValue → Bool
 value_fits (value.Int n) = is_i64 n
 value_fits _ = true
 
+-- a number of 32 bits
+abbrev pub is_u32 : ℕ → Bool
+is_u32 n = nat_lt n 4294967296
+
 -- the number of an assignment has 32 bits
 abbrev pub assign_fits : AssignShown → Bool
-assign_fits assign = nat_lt assign.id 4294967296 && list_all value_fits assign.values
+assign_fits assign = is_u32 assign.id && list_all value_fits assign.values
+
+-- the place of a consumer has 64 bits
+abbrev pub consumer_fits : ConsumerShown → Bool
+consumer_fits consumer = is_u64 consumer.place
+
+-- the moment at which a group went is at most the greatest
+abbrev pub gone_fits : GoneShown → Bool
+gone_fits gone = is_moment gone.ended
+
+-- the numbers of a loader job have 64 bits
+abbrev pub job_fits : JobShown → Bool
+job_fits job = is_u64 job.max_percent && is_u64 job.min_size
+
+-- and those of a rule 32
+abbrev pub form_fits : FormShown → Bool
+form_fits (form.EndLost check owner days) = is_u32 days
+form_fits _ = true
+
+abbrev pub rule_fits : RuleShown → Bool
+rule_fits rule = is_u32 rule.id && form_fits rule.form
 
 -- the names, moments and numbers of an answer have their forms
 abbrev pub answer_fits : Answer → Bool
@@ -55,6 +85,7 @@ answer_fits (answer.Rows composite rows) = list_all row_fits rows
 answer_fits (answer.Attributes assignments) = list_all assign_fits assignments
 answer_fits (answer.History history) = list_all span_fits history
 answer_fits (answer.Log entries last place) = list_all entry_fits entries && (is_u64 last && is_u64 place)
+answer_fits (answer.Admin consumers gone jobs rules) = list_all consumer_fits consumers && (list_all gone_fits gone && (list_all job_fits jobs && list_all rule_fits rules))
 answer_fits _ = true
 
 -- and those of a refusal

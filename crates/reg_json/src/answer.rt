@@ -9,12 +9,13 @@ ghost use Rattle.reg_terms.specs.declared.query.Answer.TheVariants as answer;
 
 use crate::flat::{Scalar, put_object};
 use crate::shown::{put_entries, put_factors, put_grants, put_privileges, put_rows, put_spans};
+use crate::shown_admin::{put_consumers, put_gones, put_jobs, put_rules};
 use crate::shown_attributes::put_assigns;
 use json::Writer;
 use reg_base::{Name, Text};
 use reg_terms::{
-    Answer, AssignsShown, EntriesShown, FactorsShown, GrantsShown, Privileges, RowsShown,
-    SpansShown, Texts,
+    Answer, AssignsShown, ConsumersShown, EntriesShown, FactorsShown, GonesShown, GrantsShown,
+    JobsShown, Privileges, RowsShown, RulesShown, SpansShown, Texts,
 };
 use std::alloc::AllocError;
 
@@ -195,6 +196,26 @@ fn put_log(
     out.end_object()
 }
 
+#[tactic(auto, unfolding(crate::specs::Replies::answer_data))]
+fn put_admin(
+    out: &mut Writer,
+    consumers: &ConsumersShown,
+    gone: &GonesShown,
+    jobs: &JobsShown,
+    rules: &RulesShown,
+) -> Result<(), AllocError>
+    ensures ok { OnOk result (out.new.tokens ≡ out.old.tokens ++ json_tokens (outline (answer_data (answer.Admin consumers.now gone.now jobs.now rules.now)))) }
+    ensures before { out.new.before ≡ out.old.before }
+{
+    out.begin_object()?;
+    put_consumers(out, consumers.list())?;
+    put_gones(out, gone.list())?;
+    put_jobs(out, jobs.list())?;
+    put_ok(out)?;
+    put_rules(out, rules.list())?;
+    out.end_object()
+}
+
 /// Writes what a query is answered. The only error is out of memory.
 pub fn put_answer(out: &mut Writer, answer: &Answer) -> Result<(), AllocError>
     ensures ok { OnOk result (out.new.tokens ≡ out.old.tokens ++ json_tokens (outline (answer_data answer.now))) }
@@ -220,5 +241,11 @@ pub fn put_answer(out: &mut Writer, answer: &Answer) -> Result<(), AllocError>
             last,
             place,
         } => put_log(out, entries, *last, *place),
+        Answer::Admin {
+            consumers,
+            gone,
+            jobs,
+            rules,
+        } => put_admin(out, consumers, gone, jobs, rules),
     }
 }

@@ -1,10 +1,10 @@
 // The forms of fields.
 ghost use Rattle.std.specs.Prelude.{◌≡◌, option_map};
 ghost use Rattle.reg_json.specs.Steps.{Gives};
-ghost use Rattle.reg_json.specs.Fields.{name_from, folder_from, extension_from, object_from, entity_from, moment_from};
+ghost use Rattle.reg_json.specs.Fields.{name_from, folder_from, extension_from, source_from, object_from, entity_from, moment_from};
 
 use crate::fault::{ReadFault, bad_moment, bad_name};
-use reg_base::{Entity, Moment, Name, Text, is_extension};
+use reg_base::{Entity, Moment, Name, Text, is_extension, is_source};
 use reg_terms::{is_folder_text, is_object_text};
 use std::alloc::Global;
 
@@ -40,6 +40,19 @@ pub fn extension_from(alloc: Global, field: &str, text: &str) -> Result<Text, Re
     if is_extension(text.as_bytes()) {
         let extension = Text::new(alloc, text)?;
         Ok(extension)
+    } else {
+        Err(bad_name(alloc, field))
+    }
+}
+
+/// The source of persons that a field's text is.
+#[tactic(auto, unfolding(crate::specs::Fields::source_from))]
+pub fn source_from(alloc: Global, field: &str, text: &str) -> Result<Text, ReadFault>
+    ensures { Gives (λ t. t) result (source_from field.now text.now) }
+{
+    if is_source(text.as_bytes()) {
+        let source = Text::new(alloc, text)?;
+        Ok(source)
     } else {
         Err(bad_name(alloc, field))
     }

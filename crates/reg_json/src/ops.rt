@@ -10,7 +10,9 @@ use crate::fields::{
     Carrier, display_at, inherit_kind_at, no_other, number_at, optional_text_at, privilege_at,
     scope_at, set_op_at, text_at,
 };
-use crate::forms::{entity_from, extension_from, folder_from, moment_from, name_from, object_from};
+use crate::forms::{
+    entity_from, extension_from, folder_from, moment_from, name_from, object_from, source_from,
+};
 use reg_base::Text;
 use reg_terms::{Field, FieldKind, Op, OpKind, made, row_of};
 use serde_json::Value;
@@ -24,6 +26,7 @@ fn stands_at(alloc: Global, value: &Value, key: &str, kind: FieldKind) -> Result
         FieldKind::Name
         | FieldKind::Folder
         | FieldKind::Extension
+        | FieldKind::Source
         | FieldKind::Entity
         | FieldKind::Object => match text_at(alloc, value, key) {
             Ok(_) => Ok(true),
@@ -94,6 +97,11 @@ fn form_at(alloc: Global, value: &Value, key: &str, kind: FieldKind) -> Result<F
             let text = text_at(alloc, value, key)?;
             let extension = extension_from(alloc, key, text)?;
             Ok(Field::Extension(extension))
+        }
+        FieldKind::Source => {
+            let text = text_at(alloc, value, key)?;
+            let source = source_from(alloc, key, text)?;
+            Ok(Field::Source(source))
         }
         FieldKind::Display => {
             let text = display_at(alloc, value, key)?;

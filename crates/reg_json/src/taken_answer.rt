@@ -2,8 +2,9 @@
 ghost use Rattle.std.specs.Prelude.{◌≡◌};
 ghost use Rattle.serde_json.specs.View.{view};
 ghost use Rattle.reg_json.specs.Takes.{Takes};
-ghost use Rattle.reg_json.specs.Taking.{group_from, listing_from, members_from, memberships_from, groups_from, grants_from, may_from, attributes_from, history_from, log_from, list_from, answer_from};
+ghost use Rattle.reg_json.specs.Taking.{group_from, listing_from, members_from, memberships_from, groups_from, grants_from, may_from, attributes_from, history_from, admin_from, log_from, list_from, answer_from};
 
+use crate::taken_admin::{consumers_in, gone_in, jobs_in, rules_in};
 use crate::taken_attributes::assigns_of;
 use crate::taken_shown::{
     entries_of, factors_or_null, grants_of, privileges_of, rows_of, spans_of,
@@ -101,6 +102,22 @@ fn history_from(alloc: Global, value: &Value) -> Result<Answer, TakeFault>
     Ok(Answer::History { history })
 }
 
+#[tactic(auto, unfolding(crate::specs::Taking::admin_from))]
+fn admin_from(alloc: Global, value: &Value) -> Result<Answer, TakeFault>
+    ensures { Takes (λ a. a) result (admin_from (view value.now)) }
+{
+    let consumers = consumers_in(alloc, value)?;
+    let gone = gone_in(alloc, value)?;
+    let jobs = jobs_in(alloc, value)?;
+    let rules = rules_in(alloc, value)?;
+    Ok(Answer::Admin {
+        consumers,
+        gone,
+        jobs,
+        rules,
+    })
+}
+
 #[tactic(auto, unfolding(crate::specs::Taking::log_from))]
 fn log_from(alloc: Global, value: &Value) -> Result<Answer, TakeFault>
     ensures { Takes (λ a. a) result (log_from (view value.now)) }
@@ -128,6 +145,8 @@ fn list_from(alloc: Global, value: &Value) -> Result<Answer, TakeFault>
         attributes_from(alloc, value)
     } else if has(value, "history") {
         history_from(alloc, value)
+    } else if has(value, "consumers") {
+        admin_from(alloc, value)
     } else {
         log_from(alloc, value)
     }

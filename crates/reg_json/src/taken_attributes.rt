@@ -2,9 +2,9 @@
 ghost use Rattle.std.specs.Prelude.{◌≡◌};
 ghost use Rattle.serde_json.specs.View.{view, items_view};
 ghost use Rattle.reg_json.specs.Takes.{Takes};
-ghost use Rattle.reg_json.specs.Taking.{all_of, value_from, id_in, assign_from};
+ghost use Rattle.reg_json.specs.Taking.{all_of, value_from, assign_from};
 
-use crate::taking::{TakeFault, items_in, number_in, text_in};
+use crate::taking::{TakeFault, items_in, small_number_in, text_in};
 use reg_base::{AssignId, Text};
 use reg_terms::{AssignShown, AssignsShown, AttrValue, AttrValues};
 use serde_json::Value;
@@ -36,28 +36,17 @@ fn values_of(alloc: Global, items: &[Value]) -> Result<AttrValues, TakeFault>
     Ok(values)
 }
 
-#[tactic(auto, unfolding(crate::specs::Taking::id_in))]
-fn id_in(value: &Value, key: &str) -> Result<AssignId, TakeFault>
-    ensures { Takes (λ id. id) result (id_in key.now (view value.now)) }
-{
-    let number = number_in(value, key)?;
-    match u32::try_from(number) {
-        Ok(number) => Ok(AssignId::new(number)),
-        Err(_) => Err(TakeFault::Unlike),
-    }
-}
-
 #[tactic(auto, unfolding(crate::specs::Taking::assign_from))]
 fn assign_from(alloc: Global, value: &Value) -> Result<AssignShown, TakeFault>
     ensures { Takes (λ a. a) result (assign_from (view value.now)) }
 {
-    let id = id_in(value, "id")?;
+    let id = small_number_in(value, "id")?;
     let attribute = text_in(alloc, value, "attribute")?;
     let items = items_in(value, "values")?;
     let values = values_of(alloc, items)?;
     Ok(AssignShown {
         attribute,
-        id,
+        id: AssignId::new(id),
         values,
     })
 }

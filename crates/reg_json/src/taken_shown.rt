@@ -2,7 +2,7 @@
 ghost use Rattle.std.specs.Prelude.{◌≡◌};
 ghost use Rattle.serde_json.specs.View.{view, items_view};
 ghost use Rattle.reg_json.specs.Takes.{Takes};
-ghost use Rattle.reg_json.specs.Taking.{all_of, row_from, kind_in, factors_from, factors_or_null, privilege_from, grant_from, span_from, entry_kind_in, entry_from};
+ghost use Rattle.reg_json.specs.Taking.{all_of, row_from, kind_in, factors_from, factors_or_null, privilege_from, privilege_in, grant_from, span_from, entry_kind_in, entry_from};
 
 use crate::fields::composite_kind;
 use crate::taking::{
@@ -104,12 +104,20 @@ pub fn privileges_of(alloc: Global, items: &[Value]) -> Result<Privileges, TakeF
     Ok(privileges)
 }
 
+/// The privilege under a key, by its name.
+#[tactic(auto, unfolding(crate::specs::Taking::privilege_in))]
+pub fn privilege_in(value: &Value, key: &str) -> Result<Privilege, TakeFault>
+    ensures { Takes (λ p. p) result (privilege_in key.now (view value.now)) }
+{
+    let found = value_in(value, key)?;
+    privilege_from(found)
+}
+
 #[tactic(auto, unfolding(crate::specs::Taking::grant_from))]
 fn grant_from(alloc: Global, value: &Value) -> Result<GrantShown, TakeFault>
     ensures { Takes (λ g. g) result (grant_from (view value.now)) }
 {
-    let found = value_in(value, "privilege")?;
-    let privilege = privilege_from(found)?;
+    let privilege = privilege_in(value, "privilege")?;
     let holder = text_in(alloc, value, "holder")?;
     Ok(GrantShown { holder, privilege })
 }

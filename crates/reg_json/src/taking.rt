@@ -3,7 +3,7 @@ ghost use Rattle.std.specs.Prelude.{◌≡◌};
 ghost use Rattle.serde_json.specs.Find.{get, as_str};
 ghost use Rattle.serde_json.specs.View.{view, items_view};
 ghost use Rattle.reg_json.specs.Takes.{Takes};
-ghost use Rattle.reg_json.specs.Taking.{has, text_in, name_in, number_in, optional_number_in, moment_in, moment_or_null, optional_moment_in, items_in, all_of, texts_in};
+ghost use Rattle.reg_json.specs.Taking.{has, text_in, name_in, number_in, small_number_in, optional_number_in, moment_in, moment_or_null, optional_moment_in, items_in, all_of, texts_in};
 
 use reg_base::{Moment, Name, Text};
 use reg_terms::Texts;
@@ -87,6 +87,18 @@ pub fn number_in(value: &Value, key: &str) -> Result<u64, TakeFault>
     match value.get(key).and_then(Value::as_u64) {
         Some(number) => Ok(number),
         None => Err(TakeFault::Unlike),
+    }
+}
+
+/// The whole number of 32 bits under a key.
+#[tactic(auto, unfolding(crate::specs::Taking::small_number_in))]
+pub fn small_number_in(value: &Value, key: &str) -> Result<u32, TakeFault>
+    ensures { Takes (λ n. n) result (small_number_in key.now (view value.now)) }
+{
+    let number = number_in(value, key)?;
+    match u32::try_from(number) {
+        Ok(number) => Ok(number),
+        Err(_) => Err(TakeFault::Unlike),
     }
 }
 

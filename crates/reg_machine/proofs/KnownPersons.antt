@@ -7,7 +7,7 @@ use Rattle.reg_base.specs.declared.entity.Entity.{Entity}
 use Rattle.reg_terms.specs.declared.command.Stamped.{Stamped}
 use Rattle.reg_terms.specs.declared.command.Command.{Command}
 use Rattle.reg_terms.specs.declared.event.Event.{Event}
-use Rattle.reg_terms.specs.declared.event.Event.TheVariants.{FolderMade, FolderRenamed, FolderMoved, FolderGone, GroupMade, GroupRenamed, GroupMoved, GroupGone, RowAdded, RowRemoved, RowRedated, Composed, Decomposed, GrantAdded, GrantRemoved, InheritAdded, InheritRemoved, DefinitionMade, DefinitionGone, AttributeMade, AttributeGone, AssignMade, AssignGone, ValueAdded, ValueRemoved, RuleMade, RuleGone, ConsumerAdded, ConsumerAcked, SubjectMade}
+use Rattle.reg_terms.specs.declared.event.Event.TheVariants.{FolderMade, FolderRenamed, FolderMoved, FolderGone, GroupMade, GroupRenamed, GroupMoved, GroupGone, RowAdded, RowRemoved, RowRedated, Composed, Decomposed, GrantAdded, GrantRemoved, InheritAdded, InheritRemoved, DefinitionMade, DefinitionGone, AttributeMade, AttributeGone, AssignMade, AssignGone, ValueAdded, ValueRemoved, RuleMade, RuleGone, JobMade, JobGone, ConsumerAdded, ConsumerAcked, SubjectMade}
 use Rattle.reg_terms.specs.declared.kinds.Member.{Member}
 use Rattle.reg_terms.specs.declared.kinds.Member.TheVariants.{Person, Group}
 use Rattle.reg_terms.specs.declared.kinds.SetOp.{SetOp}
@@ -155,6 +155,8 @@ stays (ValueAdded id v) f s h = h
 stays (ValueRemoved id v) f s h = h
 stays (RuleMade row) f s h = h
 stays (RuleGone id) f s h = h
+stays (JobMade row) f s h = h
+stays (JobGone id) f s h = h
 stays (ConsumerAdded row) f s h = h
 stays (ConsumerAcked name seq) f s h = h
 

@@ -4,7 +4,7 @@ use Rattle.std.proofs.lemmas.Bool.{cases_Bool}
 use Rattle.std.proofs.lemmas.Bool.Decides.{nat_tests}
 use Rattle.reg_terms.specs.Kinds.{same_object}
 use Rattle.reg_terms.specs.declared.event.Event.{Event}
-use Rattle.reg_terms.specs.declared.event.Event.TheVariants.{FolderMade, FolderRenamed, FolderMoved, FolderGone, GroupMade, GroupRenamed, GroupMoved, GroupGone, RowAdded, RowRemoved, RowRedated, Composed, Decomposed, GrantAdded, GrantRemoved, InheritAdded, InheritRemoved, DefinitionMade, DefinitionGone, AttributeMade, AttributeGone, AssignMade, AssignGone, ValueAdded, ValueRemoved, RuleMade, RuleGone, ConsumerAdded, ConsumerAcked, SubjectMade}
+use Rattle.reg_terms.specs.declared.event.Event.TheVariants.{FolderMade, FolderRenamed, FolderMoved, FolderGone, GroupMade, GroupRenamed, GroupMoved, GroupGone, RowAdded, RowRemoved, RowRedated, Composed, Decomposed, GrantAdded, GrantRemoved, InheritAdded, InheritRemoved, DefinitionMade, DefinitionGone, AttributeMade, AttributeGone, AssignMade, AssignGone, ValueAdded, ValueRemoved, RuleMade, RuleGone, JobMade, JobGone, ConsumerAdded, ConsumerAcked, SubjectMade}
 use Rattle.reg_terms.specs.declared.kinds.Object.{Object}
 use Rattle.reg_terms.specs.declared.kinds.Object.TheVariants.{Folder, Group, Def, Attr, Subject}
 use Rattle.reg_terms.specs.declared.rows.Made.{Made}
@@ -76,13 +76,13 @@ module _ (at : ℕ) (f g : Lists) (o x : Object) (life : Life) (h : IsLived at f
     by = h.by;
   }
 
--- neither a rule nor an assignment is an object
-no_object : (made : Made) (rules assigns : ℕ) (o : Object) → was_made (record made { rules = rules; assigns = assigns }) o ≡ was_made made o
-no_object made rules assigns (Folder d) = refl
-no_object made rules assigns (Group g) = refl
-no_object made rules assigns (Def a) = refl
-no_object made rules assigns (Attr a) = refl
-no_object made rules assigns (Subject s) = refl
+-- no rule, assignment or loader job is an object
+no_object : (made : Made) (rules assigns jobs : ℕ) (o : Object) → was_made (record made { rules = rules; assigns = assigns; jobs = jobs }) o ≡ was_made made o
+no_object made rules assigns jobs (Folder d) = refl
+no_object made rules assigns jobs (Group g) = refl
+no_object made rules assigns jobs (Def a) = refl
+no_object made rules assigns jobs (Attr a) = refl
+no_object made rules assigns jobs (Subject s) = refl
 
 over : (a at : ℕ) → lives_at at (Some (a, Some at)) ≡ false
 over a at = let no : nat_lt at at ≡ false = grind (arith, nat_tests) in rw no (never (nat_le a at))
@@ -221,12 +221,14 @@ event_lived at (DefinitionMade row) f o life s suits h = made_lived at f (happen
 event_lived at (DefinitionGone id) f o life s suits h = cut_lived at f (happened (DefinitionGone id) f) o (Def id) life h (definition_stands_no_more id f) (definition_is_there id f suits.0) refl
 event_lived at (AttributeMade row) f o life s suits h = made_lived at f (happened (AttributeMade row) f) o (Attr row.id) life h (attribute_stands row f) (above row.id f.made.attributes suits.0) (λ k n. attribute_less f row.id o suits.0 k) (itself row.id)
 event_lived at (AttributeGone id) f o life s suits h = cut_lived at f (happened (AttributeGone id) f) o (Attr id) life h (attribute_stands_no_more id f) (attribute_is_there id f suits.0) refl
-event_lived at (AssignMade row) f o life s suits h = (still_lived at f (happened (AssignMade row) f) o o life h (rest_still f (happened (AssignMade row) f) refl refl) (no_object f.made f.made.rules row.id o), λ v w. refl)
+event_lived at (AssignMade row) f o life s suits h = (still_lived at f (happened (AssignMade row) f) o o life h (rest_still f (happened (AssignMade row) f) refl refl) (no_object f.made f.made.rules row.id f.made.jobs o), λ v w. refl)
 event_lived at (AssignGone id) f o life s suits h = (still_lived at f (happened (AssignGone id) f) o o life h (rest_still f (happened (AssignGone id) f) refl refl) refl, λ v w. refl)
 event_lived at (ValueAdded id v) f o life s suits h = (still_lived at f (happened (ValueAdded id v) f) o o life h (rest_still f (happened (ValueAdded id v) f) refl refl) refl, λ v w. refl)
 event_lived at (ValueRemoved id v) f o life s suits h = (still_lived at f (happened (ValueRemoved id v) f) o o life h (rest_still f (happened (ValueRemoved id v) f) refl refl) refl, λ v w. refl)
-event_lived at (RuleMade row) f o life s suits h = (still_lived at f (happened (RuleMade row) f) o o life h (rest_still f (happened (RuleMade row) f) refl refl) (no_object f.made row.id f.made.assigns o), λ v w. refl)
+event_lived at (RuleMade row) f o life s suits h = (still_lived at f (happened (RuleMade row) f) o o life h (rest_still f (happened (RuleMade row) f) refl refl) (no_object f.made row.id f.made.assigns f.made.jobs o), λ v w. refl)
 event_lived at (RuleGone id) f o life s suits h = (still_lived at f (happened (RuleGone id) f) o o life h (rest_still f (happened (RuleGone id) f) refl refl) refl, λ v w. refl)
+event_lived at (JobMade row) f o life s suits h = (still_lived at f (happened (JobMade row) f) o o life h (rest_still f (happened (JobMade row) f) refl refl) (no_object f.made f.made.rules f.made.assigns row.id o), λ v w. refl)
+event_lived at (JobGone id) f o life s suits h = (still_lived at f (happened (JobGone id) f) o o life h (rest_still f (happened (JobGone id) f) refl refl) refl, λ v w. refl)
 event_lived at (ConsumerAdded row) f o life s suits h = (still_lived at f (happened (ConsumerAdded row) f) o o life h (rest_still f (happened (ConsumerAdded row) f) refl refl) refl, λ v w. refl)
 event_lived at (ConsumerAcked name seq) f o life s suits h = (still_lived at f (happened (ConsumerAcked name seq) f) o o life h (rest_still f (happened (ConsumerAcked name seq) f) refl refl) refl, λ v w. refl)
 
@@ -297,12 +299,14 @@ never_again (DefinitionMade row ∷ es) f o was suit = let one = definition_once
 never_again (DefinitionGone id ∷ es) f o was suit = never_again es (happened (DefinitionGone id) f) o was suit.1
 never_again (AttributeMade row ∷ es) f o was suit = let one = attribute_once f row.id o suit.0.0 was in rw one.0 (never_again es (happened (AttributeMade row) f) o one.1 suit.1)
 never_again (AttributeGone id ∷ es) f o was suit = never_again es (happened (AttributeGone id) f) o was suit.1
-never_again (AssignMade row ∷ es) f o was suit = never_again es (happened (AssignMade row) f) o (no_object f.made f.made.rules row.id o ∙ was) suit.1
+never_again (AssignMade row ∷ es) f o was suit = never_again es (happened (AssignMade row) f) o (no_object f.made f.made.rules row.id f.made.jobs o ∙ was) suit.1
 never_again (AssignGone id ∷ es) f o was suit = never_again es (happened (AssignGone id) f) o was suit.1
 never_again (ValueAdded id v ∷ es) f o was suit = never_again es (happened (ValueAdded id v) f) o was suit.1
 never_again (ValueRemoved id v ∷ es) f o was suit = never_again es (happened (ValueRemoved id v) f) o was suit.1
 never_again (RuleMade row ∷ es) f o was suit = never_again es (happened (RuleMade row) f) o was suit.1
 never_again (RuleGone id ∷ es) f o was suit = never_again es (happened (RuleGone id) f) o was suit.1
+never_again (JobMade row ∷ es) f o was suit = never_again es (happened (JobMade row) f) o (no_object f.made f.made.rules f.made.assigns row.id o ∙ was) suit.1
+never_again (JobGone id ∷ es) f o was suit = never_again es (happened (JobGone id) f) o was suit.1
 never_again (ConsumerAdded row ∷ es) f o was suit = never_again es (happened (ConsumerAdded row) f) o was suit.1
 never_again (ConsumerAcked name seq ∷ es) f o was suit = never_again es (happened (ConsumerAcked name seq) f) o was suit.1
 
@@ -377,6 +381,8 @@ in_turn at (ValueAdded id v) es f o life suits rest h = refl
 in_turn at (ValueRemoved id v) es f o life suits rest h = refl
 in_turn at (RuleMade row) es f o life suits rest h = refl
 in_turn at (RuleGone id) es f o life suits rest h = refl
+in_turn at (JobMade row) es f o life suits rest h = refl
+in_turn at (JobGone id) es f o life suits rest h = refl
 in_turn at (ConsumerAdded row) es f o life suits rest h = refl
 in_turn at (ConsumerAcked name seq) es f o life suits rest h = refl
 

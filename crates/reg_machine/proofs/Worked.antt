@@ -1,12 +1,15 @@
--- Worked examples computed: the most steps of a membership that begins, of one that ends below a complement, and of one that ends where two rules follow.
-use Rattle.std.proofs.Common.{◌≡◌, ℕ, [], ◌∷◌, None, refl}
+-- Worked examples computed: the most steps of a membership that begins, of one that ends below a complement, and of one that ends where two rules follow; and what refuses a loader job, and a target of one to be deleted.
+use Rattle.std.proofs.Common.{◌≡◌, ◌++◌, ℕ, [], ◌∷◌, Some, None, codes, refl}
 use Rattle.reg_terms.specs.declared.event.Event.TheVariants.{RowRemoved}
 use Rattle.reg_terms.specs.declared.kinds.Member.{Member}
 use Rattle.reg_terms.specs.declared.kinds.Member.TheVariants.{Person, Group}
+use Rattle.reg_terms.specs.declared.kinds.Object.TheVariants as object
 use Rattle.reg_terms.specs.declared.kinds.RuleForm.TheVariants.{RemoveLost}
 use Rattle.reg_terms.specs.declared.kinds.SetOp.TheVariants.{Complement}
+use Rattle.reg_terms.specs.declared.refusal.Refusal.TheVariants.{Full, InUse, Taken}
 use Rattle.reg_terms.specs.declared.rows.MemberRow.{MemberRow}
 use Rattle.reg_facts.specs.Lists.{Lists, start}
+use Rattle.reg_facts.specs.Naming.{placed, resolve}
 use Rattle.reg_graph.specs.Edges.{reaches}
 use Rattle.reg_effect.specs.declared.live.Change.TheVariants.{RowOn, RowOff}
 use Rattle.reg_effect.specs.Bound.{most_steps, most_steps_of}
@@ -14,9 +17,11 @@ use Rattle.reg_effect.specs.Deltas.{ended}
 use Rattle.reg_effect.specs.Edges.{edges}
 use Rattle.reg_effect.specs.Member.{member}
 use Rattle.reg_rules.specs.Settling.{settling}
+use Rattle.reg_machine.specs.Checks.{folder_delete_checks, group_delete_checks, job_list_checks, job_simple_checks}
 use Rattle.reg_machine.specs.Invariant.{Now}
 use Rattle.reg_machine.specs.Live.{live}
 use Rattle.reg_machine.specs.Recording.{carried_steps}
+use Rattle.reg_machine.specs.Refusals.{first_of}
 use Rattle.reg_machine.specs.Steps.{changes_of}
 
 -- an immediate membership since the moment 5
@@ -49,3 +54,31 @@ in_three = record start {
 pub one_leaves_and_two_rules_follow : carried_steps (record { clock = 7; facts = in_three }) (RowRemoved 1 (Person 1) ∷ []) ≡ 15
 unfolding row in_three most_steps most_steps_of changes_of settling ended member edges
 one_leaves_and_two_rules_follow = refl
+
+-- the loader job nightly (1) of the group staff (1), and weekly (2) of the groups in the folder app (1)
+pub loaded : Lists
+loaded = record start {
+  folders = start.folders ++ (record { id = 1; parent = Some 0; extension = codes "app"; display = [] }) ∷ [];
+  groups = (record { id = 1; folder = 0; extension = codes "staff"; display = [] }) ∷ [];
+  jobs =
+      (record { id = 1; name = codes "nightly"; target = object.Group 1; source = codes "isa"; min_size = 1; max_percent = 20 })
+      ∷ (record { id = 2; name = codes "weekly"; target = object.Folder 1; source = codes "isa"; min_size = 1; max_percent = 20 })
+      ∷ [];
+}
+
+pub group_is_a_target : first_of (group_delete_checks [] loaded (codes "staff")) ≡ Some (InUse (codes "job"))
+unfolding loaded resolve placed
+group_is_a_target = refl
+
+pub folder_is_a_target : first_of (folder_delete_checks [] loaded (codes "app")) ≡ Some (InUse (codes "job"))
+unfolding loaded resolve placed
+folder_is_a_target = refl
+
+pub job_is_taken : first_of (job_simple_checks [] loaded (codes "weekly") (codes "staff")) ≡ Some (Taken (codes "weekly"))
+unfolding loaded resolve placed
+job_is_taken = refl
+
+-- jobs that are gone count as those that stand
+pub jobs_ever_made_count : first_of (job_list_checks [] (record start { made = record start.made { jobs = 1000 } }) (codes "nightly") (codes ":")) ≡ Some (Full (codes "job") 1000)
+unfolding resolve placed
+jobs_ever_made_count = refl

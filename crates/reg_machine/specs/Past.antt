@@ -1,5 +1,5 @@
 -- The past that a history gives: its steps one after another, and by them who was a member when, the change log, and what is gone.
-use Rattle.std.specs.Prelude.{◌≡◌, ◌≤◌, ℕ, zero, suc, ◌*◌, List, [], ◌∷◌, ◌++◌, Bool, true, Option, None, Some, length, map, if◌then◌else◌}
+use Rattle.std.specs.Prelude.{◌≡◌, ◌≤◌, ℕ, zero, suc, ◌*◌, List, [], ◌∷◌, ◌++◌, Bool, true, Option, None, Some, length, map, filter_map, option_map, if◌then◌else◌}
 use Rattle.reg_base.specs.declared.entity.Entity.{Entity}
 use Rattle.reg_base.specs.declared.privilege.Privilege.{Privilege}
 use Rattle.reg_terms.specs.declared.command.Stamped.{Stamped}
@@ -7,7 +7,7 @@ use Rattle.reg_terms.specs.declared.command.Command.{Command}
 use Rattle.reg_terms.specs.Kinds.{as_group}
 use Rattle.reg_terms.specs.declared.kinds.Holder.{Holder}
 use Rattle.reg_terms.specs.declared.kinds.Object.{Object}
-use Rattle.reg_terms.specs.declared.kinds.Object.TheVariants.{Subject}
+use Rattle.reg_terms.specs.declared.kinds.Object.TheVariants.{Group, Subject}
 use Rattle.reg_facts.specs.Events.{events_of}
 use Rattle.reg_facts.specs.Lists as the_facts
 use Rattle.reg_facts.specs.Lists.{Lists}
@@ -17,6 +17,7 @@ use Rattle.reg_facts.specs.Sound.{has_subject, is_named}
 use Rattle.reg_effect.specs.Member.{member}
 use Rattle.std.specs.List.{AllByRecursion}
 use Rattle.std.specs.Option.{option_or}
+use Rattle.std.specs.Ordering.{nat_cmp}
 use Rattle.std.specs.Str.{bytes_eq}
 use Rattle.reg_audit.specs.Definitions.{definition_in}
 use Rattle.reg_audit.specs.Lines.{log_of}
@@ -27,6 +28,7 @@ use Rattle.reg_log.specs.declared.entries.Line.{Line}
 use Rattle.reg_pit.specs.Grants.{has_grant}
 use Rattle.reg_pit.specs.Spans.{spans_until}
 use Rattle.reg_priv.specs.Grants.{grants}
+use Rattle.reg_table.specs.Keyed.{in_order}
 use Rattle.reg_machine.specs.Dates.{date_actions, date_passed, due, ending, pair_gone, pass}
 use Rattle.reg_machine.specs.History.{acted, command_actions, facts, up_to}
 use Rattle.reg_machine.specs.Live.{live}
@@ -117,6 +119,19 @@ life history now o = life_of o (steps history now)
 -- the groups that are gone, in the order in which they went
 unfoldable pub gone : List Stamped → ℕ → List ℕ
 gone history now = gone_of (steps history now)
+
+-- the moment at which what has this life went, if it is gone
+abbrev pub end_of : Option (ℕ × Option ℕ) → Option ℕ
+end_of None = None
+end_of (Some span) = span.1
+
+-- a group with the moment at which it went, if it is gone
+abbrev pub group_end : List Stamped → ℕ → ℕ → Option (ℕ × ℕ)
+group_end history now g = option_map (λ at. (g, at)) (end_of (life history now (Group g)))
+
+-- the groups that are gone, by id, each with the moment at which it went
+unfoldable pub gone_by_id : List Stamped → ℕ → List (ℕ × ℕ)
+gone_by_id history now = filter_map (group_end history now) (in_order nat_cmp (gone history now))
 
 -- the name of what stands, or a subject's text
 abbrev pub present_name : Object → Lists → List ℕ

@@ -383,6 +383,9 @@ impl<K: Kept> Machine<K> {
                 holder,
             } => self.decide_rule_on_create(alloc, folder, *scope, *privilege, holder),
             Command::RuleDelete { id } => self.decide_rule_delete(alloc, *id),
+            Command::JobSimple { job, group, .. } => self.decide_job_simple(alloc, job, group),
+            Command::JobList { job, folder, .. } => self.decide_job_list(alloc, job, folder),
+            Command::JobDelete { job } => self.decide_job_delete(alloc, job),
             Command::ConsumerAdd { consumer } => self.decide_consumer_add(alloc, consumer),
             Command::ConsumerAck { consumer, seq } => {
                 self.decide_consumer_ack(alloc, consumer, *seq)
@@ -408,6 +411,7 @@ impl<K: Kept> Machine<K> {
         facts.law_grants();
         facts.law_owners();
         facts.law_new_group();
+        facts.law_job_delete();
         facts.events_of(alloc, self.clock(), by, command)
     }
 

@@ -15,6 +15,7 @@ ghost use Rattle.reg_facts.specs.Attributes.{assigns_on, attribute_row};
 ghost use Rattle.reg_facts.specs.Consumers.{consumer_place};
 ghost use Rattle.reg_facts.specs.Lists.{root};
 ghost use Rattle.reg_facts.specs.Sound.{has_subject, is_named};
+ghost use Rattle.reg_table.specs.Keyed.{in_order};
 ghost use Rattle.reg_log.specs.Places.{place_of};
 ghost use Rattle.reg_pit.specs.Members.{Lists};
 ghost use Rattle.reg_pit.specs.Spans.{ends_after};
@@ -24,7 +25,7 @@ ghost use Rattle.reg_audit.specs.Lives.{gone_name};
 ghost use Rattle.reg_machine.specs.History.{facts, now_facts};
 ghost use Rattle.reg_machine.specs.Invariant.{IsFrom};
 ghost use Rattle.reg_machine.specs.Standing.{lives_at, stands};
-ghost use Rattle.reg_machine.specs.Past.{all_spans, def_of, gone, gone_named, grant_spans, last_name, life, log, present_name, spans, steps, was_granted, was_member};
+ghost use Rattle.reg_machine.specs.Past.{all_spans, def_of, end_of, gone, gone_by_id, gone_named, grant_spans, group_end, last_name, life, log, present_name, spans, steps, was_granted, was_member};
 
 use crate::Machine;
 use reg_base::{AttrDefId, AttrId, GroupId, Moment, Privilege, Steps, SubjectId, Text};
@@ -34,6 +35,7 @@ use reg_log::{ChangeLog, Places};
 use reg_names::name_of;
 use reg_terms::{AssignRow, Holder, Object};
 use std::alloc::{AllocError, Global};
+use std::collections::BTreeSet;
 use std::sync::ledger::Ledger;
 
 /// Whether an object is the root folder.
@@ -106,6 +108,27 @@ fn lives_at(life: Option<(Moment, Option<Moment>)>, t: Moment) -> bool
         Some((made, gone)) => made <= t && ends_after(gone, t),
         None => false,
     }
+}
+
+/// The moment at which what has this life went, if it is gone.
+fn end_of(life: Option<(Moment, Option<Moment>)>) -> Option<Moment>
+    ensures { result ≡ end_of life }
+{
+    match life {
+        Some((_, end)) => end,
+        None => None,
+    }
+}
+
+/// The groups of a list by id.
+fn in_order(alloc: Global, groups: &[GroupId]) -> Result<BTreeSet<GroupId>, AllocError>
+    ensures { IfOk result (λ ordered. ordered.keys ≡ in_order nat_cmp groups.now) }
+{
+    let mut ordered = BTreeSet::new(alloc);
+    for group in groups {
+        ordered.insert(*group)?;
+    }
+    Ok(ordered)
 }
 
 impl<K: Kept> Machine<K> {
@@ -307,6 +330,30 @@ impl<K: Kept> Machine<K> {
         ensures { result.now ≡ gone self.now.history self.now.clock }
     {
         self.recorded.audit().gone()
+    }
+
+    /// A group with the moment at which it went, if it is gone. Takes no memory.
+    fn group_end(&self, group: GroupId) -> Option<(GroupId, Moment)>
+        ensures { result ≡ group_end self.now.history self.now.clock group }
+    {
+        let at = end_of(self.life(Object::Group(group)))?;
+        Some((group, at))
+    }
+
+    /// The groups that are gone, by id, each with the moment at which it went. Costs what is gone.
+    /// The only error is out of memory.
+    #[tactic(auto, unfolding(crate::specs::Past::gone_by_id))]
+    pub fn gone_by_id(&self, alloc: Global) -> Result<Vec<(GroupId, Moment)>, AllocError>
+        ensures { IfOk result (λ rows. rows.items ≡ gone_by_id self.now.history self.now.clock) }
+    {
+        let groups = in_order(alloc, self.gone())?;
+        let mut rows = Vec::new(alloc);
+        for group in groups.iter() {
+            if let Some(row) = self.group_end(*group) {
+                rows.push(row)?;
+            }
+        }
+        Ok(rows)
     }
 
     /// The group that went last of those that are gone and had this name last. Takes no memory.

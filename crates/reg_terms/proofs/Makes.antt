@@ -9,8 +9,8 @@ use Rattle.reg_terms.specs.declared.kinds.Value.{Value as GivenValue}
 use Rattle.reg_terms.specs.declared.kinds.Scope.{Scope}
 use Rattle.reg_terms.specs.declared.kinds.SetOp.{SetOp}
 use Rattle.reg_terms.specs.declared.command.Command.{Command}
-use Rattle.reg_terms.specs.declared.command.Command.TheVariants.{FolderAdd, FolderRename, FolderMove, FolderDelete, SubjectAdd, GroupAdd, GroupRename, GroupMove, GroupDelete, MemberAdd, MemberRemove, MemberWindow, CompositeSet, CompositeClear, GrantAdd, GrantRemove, InheritAdd, InheritRemove, AttrdefAdd, AttrdefDelete, AttrAdd, AttrDelete, AssignAdd, AssignRemove, ValueAdd, ValueRemove, RuleRemoveLost, RuleEndLost, RuleVeto, RuleOnCreate, RuleDelete, ConsumerAdd, ConsumerAck}
-use Rattle.reg_terms.specs.declared.query.Query.TheVariants.{GroupGet, FolderList, Members, Rows, Groups, Grants, May, Attributes, History, Log}
+use Rattle.reg_terms.specs.declared.command.Command.TheVariants.{FolderAdd, FolderRename, FolderMove, FolderDelete, SubjectAdd, GroupAdd, GroupRename, GroupMove, GroupDelete, MemberAdd, MemberRemove, MemberWindow, CompositeSet, CompositeClear, GrantAdd, GrantRemove, InheritAdd, InheritRemove, AttrdefAdd, AttrdefDelete, AttrAdd, AttrDelete, AssignAdd, AssignRemove, ValueAdd, ValueRemove, RuleRemoveLost, RuleEndLost, RuleVeto, RuleOnCreate, RuleDelete, JobSimple, JobList, JobDelete, ConsumerAdd, ConsumerAck}
+use Rattle.reg_terms.specs.declared.query.Query.TheVariants.{GroupGet, FolderList, Members, Rows, Groups, Grants, May, Attributes, History, Log, Admin}
 use Rattle.reg_terms.specs.declared.request.Op.TheVariants as asked
 use Rattle.reg_terms.specs.declared.table.CommandKind.{CommandKind}
 use Rattle.reg_terms.specs.declared.table.CommandKind.TheVariants as command
@@ -32,6 +32,7 @@ abbrev Value : FieldKind → Type 0
 Value kind.Name = List ℕ
 Value kind.Folder = List ℕ
 Value kind.Extension = List ℕ
+Value kind.Source = List ℕ
 Value kind.Display = List ℕ
 Value kind.Entity = Entity
 Value kind.Object = List ℕ
@@ -51,6 +52,7 @@ abbrev as_field : (k : FieldKind) → Value k → Field
 as_field kind.Name v = field.Name v
 as_field kind.Folder v = field.Folder v
 as_field kind.Extension v = field.Extension v
+as_field kind.Source v = field.Source v
 as_field kind.Display v = field.Display v
 as_field kind.Entity v = field.Entity v
 as_field kind.Object v = field.Object v
@@ -80,6 +82,7 @@ field_value : (f : Field) → (v : Value (field_kind f)) × (as_field (field_kin
 field_value (field.Name v) = (v, refl)
 field_value (field.Folder v) = (v, refl)
 field_value (field.Extension v) = (v, refl)
+field_value (field.Source v) = (v, refl)
 field_value (field.Display v) = (v, refl)
 field_value (field.Entity v) = (v, refl)
 field_value (field.Object v) = (v, refl)
@@ -147,6 +150,9 @@ makes command.RuleEndLost v = record { command = RuleEndLost _ _ _; made_so = re
 makes command.RuleVeto v = record { command = RuleVeto _ _; made_so = refl; is_kind = refl; has_these = refl }
 makes command.RuleOnCreate v = record { command = RuleOnCreate _ _ _ _; made_so = refl; is_kind = refl; has_these = refl }
 makes command.RuleDelete v = record { command = RuleDelete _; made_so = refl; is_kind = refl; has_these = refl }
+makes command.JobSimple v = record { command = JobSimple _ _ _ _ _; made_so = refl; is_kind = refl; has_these = refl }
+makes command.JobList v = record { command = JobList _ _ _ _ _; made_so = refl; is_kind = refl; has_these = refl }
+makes command.JobDelete v = record { command = JobDelete _; made_so = refl; is_kind = refl; has_these = refl }
 makes command.ConsumerAdd v = record { command = ConsumerAdd _; made_so = refl; is_kind = refl; has_these = refl }
 makes command.ConsumerAck v = record { command = ConsumerAck _ _; made_so = refl; is_kind = refl; has_these = refl }
 
@@ -162,6 +168,7 @@ query_makes query.May v = record { op = asked.Query (May _ _ _); made_so = refl;
 query_makes query.Attributes v = record { op = asked.Query (Attributes _ _); made_so = refl; is_kind = refl; has_these = refl }
 query_makes query.History v = record { op = asked.Query (History _); made_so = refl; is_kind = refl; has_these = refl }
 query_makes query.Log v = record { op = asked.Query (Log _ _); made_so = refl; is_kind = refl; has_these = refl }
+query_makes query.Admin v = record { op = asked.Query Admin; made_so = refl; is_kind = refl; has_these = refl }
 
 pub command_apart : (c : Command) → IsApart c
 unfolding next_as
@@ -196,6 +203,9 @@ command_apart (RuleEndLost a b c) = record { few = lit≤ tt; kinds = refl; agai
 command_apart (RuleVeto a b) = record { few = lit≤ tt; kinds = refl; again = refl; coded_so = refl }
 command_apart (RuleOnCreate a b c d) = record { few = lit≤ tt; kinds = refl; again = refl; coded_so = refl }
 command_apart (RuleDelete a) = record { few = lit≤ tt; kinds = refl; again = refl; coded_so = refl }
+command_apart (JobSimple a b c d e) = record { few = lit≤ tt; kinds = refl; again = refl; coded_so = refl }
+command_apart (JobList a b c d e) = record { few = lit≤ tt; kinds = refl; again = refl; coded_so = refl }
+command_apart (JobDelete a) = record { few = lit≤ tt; kinds = refl; again = refl; coded_so = refl }
 command_apart (ConsumerAdd a) = record { few = lit≤ tt; kinds = refl; again = refl; coded_so = refl }
 command_apart (ConsumerAck a b) = record { few = lit≤ tt; kinds = refl; again = refl; coded_so = refl }
 

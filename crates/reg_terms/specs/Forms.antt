@@ -2,7 +2,7 @@
 use Rattle.std.specs.Prelude.{ℕ, ◌==◌, ◌&&◌, ◌||◌, ◌^◌, ℤ, pos, negsuc, List, Bool, true, Option, None, Some, length, codes, nat_le, nat_lt, is_some, if◌then◌else◌}
 use Rattle.std.specs.List.{list_all, list_any}
 use Rattle.std.specs.Str.{bytes_eq, is_utf8}
-use Rattle.reg_base.specs.Names.{is_extension, is_name, is_person}
+use Rattle.reg_base.specs.Names.{is_extension, is_name, is_person, is_source}
 use Rattle.reg_base.specs.Entities.{entity_of}
 use Rattle.reg_base.specs.declared.entity.Entity.{Entity}
 use Rattle.reg_base.specs.declared.entity.Entity.TheVariants as entity
@@ -65,6 +65,7 @@ abbrev pub is_field : Field → Bool
 is_field (field.Name text) = is_name text
 is_field (field.Folder text) = is_folder_text text
 is_field (field.Extension text) = is_extension text
+is_field (field.Source text) = is_source text
 is_field (field.Display text) = is_display text
 is_field (field.Entity entity) = is_entity entity
 is_field (field.Object text) = is_object_text text

@@ -26,6 +26,7 @@ abbrev pub field_kind : Field → FieldKind
 field_kind (field.Name v) = kind.Name
 field_kind (field.Folder v) = kind.Folder
 field_kind (field.Extension v) = kind.Extension
+field_kind (field.Source v) = kind.Source
 field_kind (field.Display v) = kind.Display
 field_kind (field.Entity v) = kind.Entity
 field_kind (field.Object v) = kind.Object
@@ -54,6 +55,11 @@ as_folder _ = None
 abbrev pub as_extension : Field → Option (List ℕ)
 as_extension (field.Extension v) = Some v
 as_extension _ = None
+
+-- the source of persons, if the field is one
+abbrev pub as_source : Field → Option (List ℕ)
+as_source (field.Source v) = Some v
+as_source _ = None
 
 -- the display text, if the field is one
 abbrev pub as_display : Field → Option (List ℕ)
@@ -126,6 +132,7 @@ seen reference.Nothing = []
 seen (reference.Name v) = field.Name v.now ∷ []
 seen (reference.Folder v) = field.Folder v.now ∷ []
 seen (reference.Extension v) = field.Extension v.now ∷ []
+seen (reference.Source v) = field.Source v.now ∷ []
 seen (reference.Display v) = field.Display v.now ∷ []
 seen (reference.Entity v) = field.Entity v.now ∷ []
 seen (reference.Object v) = field.Object v.now ∷ []
@@ -167,6 +174,10 @@ folder_in fields = next_as as_folder fields
 -- an extension from the front
 abbrev pub extension_in : List Field → Option (List ℕ × List Field)
 extension_in fields = next_as as_extension fields
+
+-- a source of persons from the front
+abbrev pub source_in : List Field → Option (List ℕ × List Field)
+source_in fields = next_as as_source fields
 
 -- a display text from the front
 abbrev pub display_in : List Field → Option (List ℕ × List Field)

@@ -2,9 +2,9 @@
 use Rattle.std.specs.Prelude.{◌≡◌, ◌≤◌, ℕ, List, [], ◌∷◌, ◌==◌, if◌then◌else◌, Option, Some, None, option_map, codes, map, length}
 use Rattle.std.specs.Str.{bytes_eq}
 use Rattle.reg_terms.specs.declared.command.Command.{Command}
-use Rattle.reg_terms.specs.declared.command.Command.TheVariants.{FolderAdd, FolderRename, FolderMove, FolderDelete, SubjectAdd, GroupAdd, GroupRename, GroupMove, GroupDelete, MemberAdd, MemberRemove, MemberWindow, CompositeSet, CompositeClear, GrantAdd, GrantRemove, InheritAdd, InheritRemove, AttrdefAdd, AttrdefDelete, AttrAdd, AttrDelete, AssignAdd, AssignRemove, ValueAdd, ValueRemove, RuleRemoveLost, RuleEndLost, RuleVeto, RuleOnCreate, RuleDelete, ConsumerAdd, ConsumerAck}
+use Rattle.reg_terms.specs.declared.command.Command.TheVariants.{FolderAdd, FolderRename, FolderMove, FolderDelete, SubjectAdd, GroupAdd, GroupRename, GroupMove, GroupDelete, MemberAdd, MemberRemove, MemberWindow, CompositeSet, CompositeClear, GrantAdd, GrantRemove, InheritAdd, InheritRemove, AttrdefAdd, AttrdefDelete, AttrAdd, AttrDelete, AssignAdd, AssignRemove, ValueAdd, ValueRemove, RuleRemoveLost, RuleEndLost, RuleVeto, RuleOnCreate, RuleDelete, JobSimple, JobList, JobDelete, ConsumerAdd, ConsumerAck}
 use Rattle.reg_terms.specs.declared.query.Query.{Query}
-use Rattle.reg_terms.specs.declared.query.Query.TheVariants.{GroupGet, FolderList, Members, Rows, Groups, Grants, May, Attributes, History, Log}
+use Rattle.reg_terms.specs.declared.query.Query.TheVariants.{GroupGet, FolderList, Members, Rows, Groups, Grants, May, Attributes, History, Log, Admin}
 use Rattle.reg_terms.specs.declared.request.Op.{Op}
 use Rattle.reg_terms.specs.declared.request.Op.TheVariants as asked
 use Rattle.reg_terms.specs.declared.table.CommandKind.{CommandKind}
@@ -17,7 +17,7 @@ use Rattle.reg_terms.specs.declared.field.FieldKind.{FieldKind}
 use Rattle.reg_terms.specs.declared.field.FieldKind.TheVariants as kind
 use Rattle.reg_terms.specs.declared.field.Field.{Field}
 use Rattle.reg_terms.specs.declared.field.Field.TheVariants as field
-use Rattle.reg_terms.specs.Parts.{◌>>=◌, field_kind, name_in, folder_in, extension_in, display_in, entity_in, object_in, moment_in, set_op_in, inherit_kind_in, scope_in, privilege_in, owners_in, flag_in, def_kind_in, value_in, number_in, whole}
+use Rattle.reg_terms.specs.Parts.{◌>>=◌, field_kind, name_in, folder_in, extension_in, source_in, display_in, entity_in, object_in, moment_in, set_op_in, inherit_kind_in, scope_in, privilege_in, owners_in, flag_in, def_kind_in, value_in, number_in, whole}
 
 -- ---- the table
 
@@ -64,6 +64,9 @@ command_row command.RuleEndLost = record { code = 28; op = record { word = codes
 command_row command.RuleVeto = record { code = 29; op = record { word = codes "rule.veto"; fields = (codes "owner", kind.Name) ∷ (codes "condition", kind.Name) ∷ [] } }
 command_row command.RuleOnCreate = record { code = 30; op = record { word = codes "rule.on_create"; fields = (codes "folder", kind.Folder) ∷ (codes "scope", kind.Scope) ∷ (codes "privilege", kind.Privilege) ∷ (codes "holder", kind.Entity) ∷ [] } }
 command_row command.RuleDelete = record { code = 31; op = record { word = codes "rule.delete"; fields = (codes "id", kind.Number 0 18446744073709551615) ∷ [] } }
+command_row command.JobSimple = record { code = 32; op = record { word = codes "job.simple"; fields = (codes "job", kind.Extension) ∷ (codes "group", kind.Name) ∷ (codes "source", kind.Source) ∷ (codes "min_size", kind.Number 0 4294967295) ∷ (codes "max_percent", kind.Number 0 100) ∷ [] } }
+command_row command.JobList = record { code = 33; op = record { word = codes "job.list"; fields = (codes "job", kind.Extension) ∷ (codes "folder", kind.Folder) ∷ (codes "source", kind.Source) ∷ (codes "min_size", kind.Number 0 4294967295) ∷ (codes "max_percent", kind.Number 0 100) ∷ [] } }
+command_row command.JobDelete = record { code = 34; op = record { word = codes "job.delete"; fields = (codes "job", kind.Extension) ∷ [] } }
 command_row command.ConsumerAdd = record { code = 36; op = record { word = codes "consumer.add"; fields = (codes "consumer", kind.Extension) ∷ [] } }
 command_row command.ConsumerAck = record { code = 37; op = record { word = codes "consumer.ack"; fields = (codes "consumer", kind.Extension) ∷ (codes "seq", kind.Number 0 18446744073709551615) ∷ [] } }
 
@@ -79,6 +82,7 @@ query_row query.May = record { word = codes "may"; fields = (codes "object", kin
 query_row query.Attributes = record { word = codes "attributes"; fields = (codes "object", kind.Object) ∷ (codes "at", kind.OptionalMoment) ∷ [] }
 query_row query.History = record { word = codes "history"; fields = (codes "group", kind.Name) ∷ [] }
 query_row query.Log = record { word = codes "log"; fields = (codes "consumer", kind.Extension) ∷ (codes "max", kind.Number 1 1000) ∷ [] }
+query_row query.Admin = record { word = codes "admin"; fields = [] }
 
 -- the row of an op
 abbrev pub row_of : OpKind → Row
@@ -87,11 +91,11 @@ row_of (op.Query k) = query_row k
 
 -- every command
 abbrev pub commands : List CommandKind
-commands = command.FolderAdd ∷ command.FolderRename ∷ command.FolderMove ∷ command.FolderDelete ∷ command.SubjectAdd ∷ command.GroupAdd ∷ command.GroupRename ∷ command.GroupMove ∷ command.GroupDelete ∷ command.MemberAdd ∷ command.MemberRemove ∷ command.MemberWindow ∷ command.CompositeSet ∷ command.CompositeClear ∷ command.GrantAdd ∷ command.GrantRemove ∷ command.InheritAdd ∷ command.InheritRemove ∷ command.AttrdefAdd ∷ command.AttrdefDelete ∷ command.AttrAdd ∷ command.AttrDelete ∷ command.AssignAdd ∷ command.AssignRemove ∷ command.ValueAdd ∷ command.ValueRemove ∷ command.RuleRemoveLost ∷ command.RuleEndLost ∷ command.RuleVeto ∷ command.RuleOnCreate ∷ command.RuleDelete ∷ command.ConsumerAdd ∷ command.ConsumerAck ∷ []
+commands = command.FolderAdd ∷ command.FolderRename ∷ command.FolderMove ∷ command.FolderDelete ∷ command.SubjectAdd ∷ command.GroupAdd ∷ command.GroupRename ∷ command.GroupMove ∷ command.GroupDelete ∷ command.MemberAdd ∷ command.MemberRemove ∷ command.MemberWindow ∷ command.CompositeSet ∷ command.CompositeClear ∷ command.GrantAdd ∷ command.GrantRemove ∷ command.InheritAdd ∷ command.InheritRemove ∷ command.AttrdefAdd ∷ command.AttrdefDelete ∷ command.AttrAdd ∷ command.AttrDelete ∷ command.AssignAdd ∷ command.AssignRemove ∷ command.ValueAdd ∷ command.ValueRemove ∷ command.RuleRemoveLost ∷ command.RuleEndLost ∷ command.RuleVeto ∷ command.RuleOnCreate ∷ command.RuleDelete ∷ command.JobSimple ∷ command.JobList ∷ command.JobDelete ∷ command.ConsumerAdd ∷ command.ConsumerAck ∷ []
 
 -- every query
 abbrev pub queries : List QueryKind
-queries = query.GroupGet ∷ query.FolderList ∷ query.Members ∷ query.Rows ∷ query.Groups ∷ query.Grants ∷ query.May ∷ query.Attributes ∷ query.History ∷ query.Log ∷ []
+queries = query.GroupGet ∷ query.FolderList ∷ query.Members ∷ query.Rows ∷ query.Groups ∷ query.Grants ∷ query.May ∷ query.Attributes ∷ query.History ∷ query.Log ∷ query.Admin ∷ []
 
 -- the kinds of a row's fields
 abbrev pub field_kinds : Row → List FieldKind
@@ -154,6 +158,9 @@ apart (RuleEndLost check owner days) = (command.RuleEndLost, field.Name check �
 apart (RuleVeto owner condition) = (command.RuleVeto, field.Name owner ∷ field.Name condition ∷ [])
 apart (RuleOnCreate folder scope privilege holder) = (command.RuleOnCreate, field.Folder folder ∷ field.Scope scope ∷ field.Privilege privilege ∷ field.Entity holder ∷ [])
 apart (RuleDelete id) = (command.RuleDelete, field.Number id 0 18446744073709551615 ∷ [])
+apart (JobSimple job group source min_size max_percent) = (command.JobSimple, field.Extension job ∷ field.Name group ∷ field.Source source ∷ field.Number min_size 0 4294967295 ∷ field.Number max_percent 0 100 ∷ [])
+apart (JobList job folder source min_size max_percent) = (command.JobList, field.Extension job ∷ field.Folder folder ∷ field.Source source ∷ field.Number min_size 0 4294967295 ∷ field.Number max_percent 0 100 ∷ [])
+apart (JobDelete job) = (command.JobDelete, field.Extension job ∷ [])
 apart (ConsumerAdd consumer) = (command.ConsumerAdd, field.Extension consumer ∷ [])
 apart (ConsumerAck consumer seq) = (command.ConsumerAck, field.Extension consumer ∷ field.Number seq 0 18446744073709551615 ∷ [])
 
@@ -169,6 +176,7 @@ query_apart (May object entity at) = (query.May, field.Object object ∷ field.E
 query_apart (Attributes object at) = (query.Attributes, field.Object object ∷ field.OptionalMoment at ∷ [])
 query_apart (History group) = (query.History, field.Name group ∷ [])
 query_apart (Log consumer max) = (query.Log, field.Extension consumer ∷ field.Number max 1 1000 ∷ [])
+query_apart Admin = (query.Admin, [])
 
 -- which command it is
 abbrev pub kind_of : Command → CommandKind
@@ -339,6 +347,23 @@ made_command command.RuleOnCreate fields = do
 made_command command.RuleDelete fields = do
   id ← number_in fields
   whole (RuleDelete id.0) id.1
+made_command command.JobSimple fields = do
+  job ← extension_in fields
+  group ← name_in job.1
+  source ← source_in group.1
+  min_size ← number_in source.1
+  max_percent ← number_in min_size.1
+  whole (JobSimple job.0 group.0 source.0 min_size.0 max_percent.0) max_percent.1
+made_command command.JobList fields = do
+  job ← extension_in fields
+  folder ← folder_in job.1
+  source ← source_in folder.1
+  min_size ← number_in source.1
+  max_percent ← number_in min_size.1
+  whole (JobList job.0 folder.0 source.0 min_size.0 max_percent.0) max_percent.1
+made_command command.JobDelete fields = do
+  job ← extension_in fields
+  whole (JobDelete job.0) job.1
 made_command command.ConsumerAdd fields = do
   consumer ← extension_in fields
   whole (ConsumerAdd consumer.0) consumer.1
@@ -386,6 +411,7 @@ made_query query.Log fields = do
   consumer ← extension_in fields
   max ← number_in consumer.1
   whole (Log consumer.0 max.0) max.1
+made_query query.Admin fields = whole Admin fields
 
 -- the op that fields make
 abbrev pub made : OpKind → List Field → Option Op

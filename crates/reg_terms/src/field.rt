@@ -1,6 +1,6 @@
 // A field of a command or a query, and the kinds of fields.
 ghost use Rattle.std.specs.Prelude.{◌≡◌};
-ghost use Rattle.reg_terms.specs.Parts.{as_name, as_folder, as_extension, as_display, as_entity, as_object, as_moment, as_set_op, as_inherit_kind, as_scope, as_privilege, as_owners, as_flag, as_def_kind, as_value, as_number};
+ghost use Rattle.reg_terms.specs.Parts.{as_name, as_folder, as_extension, as_source, as_display, as_entity, as_object, as_moment, as_set_op, as_inherit_kind, as_scope, as_privilege, as_owners, as_flag, as_def_kind, as_value, as_number};
 
 use crate::{DefKind, InheritKind, Owners, Scope, SetOp, Value};
 use reg_base::{Entity, Moment, Name, Privilege, Text};
@@ -15,6 +15,8 @@ pub enum FieldKind {
     Folder,
     /// The last part of a name.
     Extension,
+    /// Where persons come from: the part of a person's text before the slash.
+    Source,
     /// What is shown beside a name; it may be left out, and is then empty.
     Display,
     /// A person, a group, or one of the registry's own entities.
@@ -49,6 +51,7 @@ pub enum Field {
     Name(Name),
     Folder(Text),
     Extension(Text),
+    Source(Text),
     Display(Text),
     Entity(Entity),
     Object(Text),
@@ -92,6 +95,16 @@ impl Field {
     {
         match self {
             Field::Extension(extension) => Some(extension),
+            _ => None,
+        }
+    }
+
+    /// The source of persons, if it is one.
+    pub fn source(self) -> Option<Text>
+        ensures { result ≡ as_source self }
+    {
+        match self {
+            Field::Source(source) => Some(source),
             _ => None,
         }
     }

@@ -8,7 +8,7 @@ ghost use Rattle.reg_terms.specs.Parts.{seen, seen_all};
 use crate::limits::MAX_DISPLAY;
 use crate::parts::{FieldRef, fields_of};
 use crate::{Command, Owners, Value};
-use reg_base::{Entity, Moment, Text, is_extension, is_name, is_person};
+use reg_base::{Entity, Moment, Text, is_extension, is_name, is_person, is_source};
 
 /// Whether the text is the name of a folder, or `:` for the root.
 pub fn is_folder_text(text: &[u8]) -> bool
@@ -118,6 +118,7 @@ fn is_field(field: &FieldRef<'_>) -> bool
         FieldRef::Name(name) => is_name(name.bytes()),
         FieldRef::Folder(text) => is_folder_text(text.bytes()),
         FieldRef::Extension(text) => is_extension(text.bytes()),
+        FieldRef::Source(text) => is_source(text.bytes()),
         FieldRef::Display(text) => is_display(text),
         FieldRef::Entity(entity) => is_entity(entity),
         FieldRef::Object(text) => is_object_text(text.bytes()),

@@ -33,6 +33,9 @@ pub const MAX_VALUES: usize = 500_000;
 /// Rules that may ever be made.
 pub const MAX_RULES: u32 = 10_000;
 
+/// Loader jobs that may ever be made.
+pub const MAX_JOBS: u32 = 1_000;
+
 /// Consumers of the change log that may ever be made.
 pub const MAX_CONSUMERS: usize = 100;
 

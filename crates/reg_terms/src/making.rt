@@ -1,6 +1,6 @@
 // Commands and queries made of fields.
 ghost use Rattle.std.specs.Prelude.{◌≡◌};
-ghost use Rattle.reg_terms.specs.Parts.{Took, name_in, folder_in, extension_in, display_in, entity_in, object_in, moment_in, set_op_in, inherit_kind_in, scope_in, privilege_in, owners_in, flag_in, def_kind_in, value_in, number_in, whole};
+ghost use Rattle.reg_terms.specs.Parts.{Took, name_in, folder_in, extension_in, source_in, display_in, entity_in, object_in, moment_in, set_op_in, inherit_kind_in, scope_in, privilege_in, owners_in, flag_in, def_kind_in, value_in, number_in, whole};
 ghost use Rattle.reg_terms.specs.Table.{made_command, made_query, made};
 ghost use Rattle.reg_terms.specs.declared.table.CommandKind.TheVariants as command;
 ghost use Rattle.reg_terms.specs.declared.table.QueryKind.TheVariants as query;
@@ -30,6 +30,13 @@ fn extension(fields: &mut VecDeque<Field>) -> Option<Text>
     ensures { Took result fields.new.items (extension_in fields.old.items) }
 {
     fields.pop_front()?.extension()
+}
+
+#[tactic(auto, unfolding(crate::specs::Parts::next_as))]
+fn source(fields: &mut VecDeque<Field>) -> Option<Text>
+    ensures { Took result fields.new.items (source_in fields.old.items) }
+{
+    fields.pop_front()?.source()
 }
 
 #[tactic(auto, unfolding(crate::specs::Parts::next_as))]
@@ -467,6 +474,41 @@ fn rule_delete(mut fields: VecDeque<Field>) -> Option<Command>
     whole(command, fields)
 }
 
+fn job_simple(mut fields: VecDeque<Field>) -> Option<Command>
+    ensures { result ≡ made_command command.JobSimple fields.items }
+{
+    let command = Command::JobSimple {
+        job: extension(&mut fields)?,
+        group: name(&mut fields)?,
+        source: source(&mut fields)?,
+        min_size: number(&mut fields)?,
+        max_percent: number(&mut fields)?,
+    };
+    whole(command, fields)
+}
+
+fn job_list(mut fields: VecDeque<Field>) -> Option<Command>
+    ensures { result ≡ made_command command.JobList fields.items }
+{
+    let command = Command::JobList {
+        job: extension(&mut fields)?,
+        folder: folder(&mut fields)?,
+        source: source(&mut fields)?,
+        min_size: number(&mut fields)?,
+        max_percent: number(&mut fields)?,
+    };
+    whole(command, fields)
+}
+
+fn job_delete(mut fields: VecDeque<Field>) -> Option<Command>
+    ensures { result ≡ made_command command.JobDelete fields.items }
+{
+    let command = Command::JobDelete {
+        job: extension(&mut fields)?,
+    };
+    whole(command, fields)
+}
+
 fn consumer_add(mut fields: VecDeque<Field>) -> Option<Command>
     ensures { result ≡ made_command command.ConsumerAdd fields.items }
 {
@@ -583,6 +625,12 @@ fn log(mut fields: VecDeque<Field>) -> Option<Query>
     whole(query, fields)
 }
 
+fn admin(fields: VecDeque<Field>) -> Option<Query>
+    ensures { result ≡ made_query query.Admin fields.items }
+{
+    whole(Query::Admin, fields)
+}
+
 /// The command that these fields make, if they do.
 pub fn made_command(kind: CommandKind, fields: VecDeque<Field>) -> Option<Command>
     ensures { result ≡ made_command kind fields.items }
@@ -619,6 +667,9 @@ pub fn made_command(kind: CommandKind, fields: VecDeque<Field>) -> Option<Comman
         CommandKind::RuleVeto => rule_veto(fields),
         CommandKind::RuleOnCreate => rule_on_create(fields),
         CommandKind::RuleDelete => rule_delete(fields),
+        CommandKind::JobSimple => job_simple(fields),
+        CommandKind::JobList => job_list(fields),
+        CommandKind::JobDelete => job_delete(fields),
         CommandKind::ConsumerAdd => consumer_add(fields),
         CommandKind::ConsumerAck => consumer_ack(fields),
     }
@@ -638,6 +689,7 @@ fn made_query(kind: QueryKind, fields: VecDeque<Field>) -> Option<Query>
         QueryKind::Attributes => attributes(fields),
         QueryKind::History => history(fields),
         QueryKind::Log => log(fields),
+        QueryKind::Admin => admin(fields),
     }
 }
 

@@ -1,6 +1,7 @@
 // Queries and their answers.
 use crate::{
-    AssignsShown, EntriesShown, FactorsShown, GrantsShown, Privileges, RowsShown, SpansShown, Texts,
+    AssignsShown, ConsumersShown, EntriesShown, FactorsShown, GonesShown, GrantsShown, JobsShown,
+    Privileges, RowsShown, RulesShown, SpansShown, Texts,
 };
 use reg_base::{Entity, Moment, Name, Text};
 
@@ -55,6 +56,8 @@ pub enum Query {
         consumer: Text,
         max: u64,
     },
+    /// What only administrators see: consumers, groups that are gone, loader jobs and rules.
+    Admin,
 }
 
 /// What a query is answered.
@@ -106,5 +109,13 @@ pub enum Answer {
         entries: EntriesShown,
         last: u64,
         place: u64,
+    },
+    /// The consumers in the order in which they were made; the groups that are gone, the jobs and the
+    /// rules by id.
+    Admin {
+        consumers: ConsumersShown,
+        gone: GonesShown,
+        jobs: JobsShown,
+        rules: RulesShown,
     },
 }

@@ -38,6 +38,9 @@ pub enum CommandKind {
     RuleVeto,
     RuleOnCreate,
     RuleDelete,
+    JobSimple,
+    JobList,
+    JobDelete,
     ConsumerAdd,
     ConsumerAck,
 }
@@ -55,6 +58,7 @@ pub enum QueryKind {
     Attributes,
     History,
     Log,
+    Admin,
 }
 
 /// Which command or query.
@@ -79,7 +83,7 @@ pub struct CommandRow {
 }
 
 /// Every command.
-const COMMANDS: [CommandKind; 33] = [
+const COMMANDS: [CommandKind; 36] = [
     CommandKind::FolderAdd,
     CommandKind::FolderRename,
     CommandKind::FolderMove,
@@ -111,12 +115,15 @@ const COMMANDS: [CommandKind; 33] = [
     CommandKind::RuleVeto,
     CommandKind::RuleOnCreate,
     CommandKind::RuleDelete,
+    CommandKind::JobSimple,
+    CommandKind::JobList,
+    CommandKind::JobDelete,
     CommandKind::ConsumerAdd,
     CommandKind::ConsumerAck,
 ];
 
 /// Every query.
-const QUERIES: [QueryKind; 10] = [
+const QUERIES: [QueryKind; 11] = [
     QueryKind::GroupGet,
     QueryKind::FolderList,
     QueryKind::Members,
@@ -127,6 +134,7 @@ const QUERIES: [QueryKind; 10] = [
     QueryKind::Attributes,
     QueryKind::History,
     QueryKind::Log,
+    QueryKind::Admin,
 ];
 
 /// An op's row by its word and fields.
@@ -409,6 +417,53 @@ pub fn command_row(kind: CommandKind) -> CommandRow
                 },
             )],
         ),
+        CommandKind::JobSimple => command(
+            32,
+            "job.simple",
+            &[
+                ("job", FieldKind::Extension),
+                ("group", FieldKind::Name),
+                ("source", FieldKind::Source),
+                (
+                    "min_size",
+                    FieldKind::Number {
+                        least: 0,
+                        most: 4_294_967_295,
+                    },
+                ),
+                (
+                    "max_percent",
+                    FieldKind::Number {
+                        least: 0,
+                        most: 100,
+                    },
+                ),
+            ],
+        ),
+        CommandKind::JobList => command(
+            33,
+            "job.list",
+            &[
+                ("job", FieldKind::Extension),
+                ("folder", FieldKind::Folder),
+                ("source", FieldKind::Source),
+                (
+                    "min_size",
+                    FieldKind::Number {
+                        least: 0,
+                        most: 4_294_967_295,
+                    },
+                ),
+                (
+                    "max_percent",
+                    FieldKind::Number {
+                        least: 0,
+                        most: 100,
+                    },
+                ),
+            ],
+        ),
+        CommandKind::JobDelete => command(34, "job.delete", &[("job", FieldKind::Extension)]),
         CommandKind::ConsumerAdd => command(
             36,
             "consumer.add",
@@ -491,6 +546,7 @@ pub fn query_row(kind: QueryKind) -> Row
                 ),
             ],
         ),
+        QueryKind::Admin => op("admin", &[]),
     }
 }
 

@@ -9,6 +9,7 @@ pub mod Agreeing
 pub mod Gone
 pub mod PastGroups
 pub mod Logged
+pub mod RootTold
 pub mod Ordered
 pub mod Homes
 pub mod Listed

@@ -6,6 +6,7 @@ use Rattle.reg_terms.specs.declared.refusal.Refusal.{Refusal}
 use Rattle.reg_terms.specs.declared.refusal.Refusal.TheVariants.{NotFound}
 use Rattle.reg_terms.specs.declared.rows.ConsumerRow.{ConsumerRow}
 use Rattle.reg_terms.specs.declared.changes_shown.EntryShown.{EntryShown}
+use Rattle.reg_terms.specs.declared.admin_shown.ConsumerShown.{ConsumerShown}
 use Rattle.reg_terms.specs.declared.query.Answer.{Answer}
 use Rattle.reg_terms.specs.declared.query.Answer.TheVariants as answer
 use Rattle.reg_log.specs.declared.entries.Line.{Line}
@@ -18,7 +19,8 @@ use Rattle.reg_priv.specs.May.{is_root}
 use Rattle.reg_view.specs.Answers.{entries_told, log_of}
 use Rattle.reg_view.specs.Past.{Past, entry_shown, log_shown}
 use Rattle.reg_view.specs.Show.{◌>>=◌, found_or, named, shown_log}
-use Rattle.reg_view.specs.View.{ConsumerSeen, consumer_seen, for_root, seen_by}
+use Rattle.reg_view.specs.Texts.{consumer_shown}
+use Rattle.reg_view.specs.View.{for_root, seen_by}
 
 -- ---- a part of the log
 
@@ -72,11 +74,11 @@ told_is past place max =
 -- ---- the consumer
 
 module _ (past : Past) (consumer : List ℕ) (max : ℕ) where
-  abbrev shows : List EntryShown → ConsumerSeen → Result Answer Refusal
+  abbrev shows : List EntryShown → ConsumerShown → Result Answer Refusal
   shows log c = Ok (answer.Log (take max (drop c.place log)) (length log) c.place)
 
   place_told : (rows : List ConsumerRow) → (found_or (consumer_place consumer rows) (NotFound consumer) >>= (λ place. Ok (entries_told past place max)))
-      ≡ (found_or (named (λ (c : ConsumerSeen). c.name) (map consumer_seen rows) consumer) (NotFound consumer) >>= shows (log_shown past))
+      ≡ (found_or (named (λ (c : ConsumerShown). c.consumer) (map consumer_shown rows) consumer) (NotFound consumer) >>= shows (log_shown past))
   place_told [] = refl
   place_told (row ∷ rows) = elim (cases_Bool (bytes_eq row.name consumer)) [
     | inl t ↦ rw t (ap (λ a. Ok a) (told_is past row.place max))
@@ -84,7 +86,7 @@ module _ (past : Past) (consumer : List ℕ) (max : ℕ) where
   ]
 
   root_told : (root : Bool) (rows : List ConsumerRow) → (found_or (if root then consumer_place consumer rows else None) (NotFound consumer) >>= (λ place. Ok (entries_told past place max)))
-      ≡ (found_or (named (λ (c : ConsumerSeen). c.name) (for_root root (map consumer_seen rows)) consumer) (NotFound consumer) >>= shows (for_root root (log_shown past)))
+      ≡ (found_or (named (λ (c : ConsumerShown). c.consumer) (for_root root (map consumer_shown rows)) consumer) (NotFound consumer) >>= shows (for_root root (log_shown past)))
   root_told true rows = place_told rows
   root_told false rows = refl
 

@@ -69,6 +69,7 @@ not_seen past L f now c by name (query.May text e at) asks h gone = absurd asks
 not_seen past L f now c by name (query.Attributes text at) asks h gone = absurd asks
 not_seen past L f now c by name (query.History group) asks h gone = rw asks (past_goes past L f c name (λ id. Ok (answer.History (history_of past id f.subjects))) h (rw asks at gone))
 not_seen past L f now c by name (query.Log consumer max) asks h gone = absurd asks
+not_seen past L f now c by name query.Admin asks h gone = absurd asks
 
 -- for who stands
 gone_for : (past : Past) (L : Live) (f : Lists) (c : Who) (by : List ℕ) (q : Query) → caller_of by f ≡ Some c → IsOfNoneGone past L f by q → NoneGone past L f c q

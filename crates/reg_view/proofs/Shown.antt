@@ -26,6 +26,7 @@ use Rattle.reg_view.proofs.Grouped.{groups_agree}
 use Rattle.reg_view.proofs.FolderLists.{listing_agrees}
 use Rattle.reg_view.proofs.Logged.{log_agrees}
 use Rattle.reg_view.proofs.PastGroups.{history_agree, members_agree}
+use Rattle.reg_view.proofs.RootTold.{admin_agrees}
 use Rattle.reg_view.proofs.Powers.{caller_stands, grants_agree, may_agrees}
 
 module _ (sorted : (texts : List (List ℕ)) → IsStrictlySortedBy (slice_cmp nat_cmp) (by_bytes texts)) (same : (text : List ℕ) (texts : List (List ℕ)) → is_among text (by_bytes texts) ≡ is_among text texts)
@@ -41,6 +42,7 @@ module _ (sorted : (texts : List (List ℕ)) → IsStrictlySortedBy (slice_cmp n
   answers_agree c (query.Attributes object at) standing = attributes_agree past L f sound are c now by is_facts at object
   answers_agree c (query.History group) standing = history_agree past now L f sound are c now by group
   answers_agree c (query.Log consumer max) standing = log_agrees past L f c now now by consumer max
+  answers_agree c query.Admin standing = admin_agrees past L f c now now by
 
   -- a caller that stands
   pub caller_shown : (c : Who) (q : Query) → caller_of by f ≡ Some c → answer_of past L f now by c q ≡ show (view_of past L f now (asked_at now q) by) q

@@ -11,6 +11,7 @@ use Rattle.reg_base.specs.declared.privilege.Privilege.{Privilege}
 use Rattle.reg_base.specs.declared.privilege.Privilege.TheVariants as privilege
 use Rattle.reg_terms.specs.declared.refusal.Refusal.{Refusal}
 use Rattle.reg_terms.specs.declared.refusal.Refusal.TheVariants.{NoCaller, NotFound, Future, WrongKind}
+use Rattle.reg_terms.specs.declared.admin_shown.ConsumerShown.{ConsumerShown}
 use Rattle.reg_terms.specs.declared.query.Query.{Query}
 use Rattle.reg_terms.specs.declared.query.Query.TheVariants as query
 use Rattle.reg_terms.specs.declared.query.Answer.{Answer}
@@ -20,7 +21,7 @@ use Rattle.reg_view.specs.Show as shown
 use Rattle.reg_view.specs.Show.{◌>>=◌, found_or, denied, named, Kind, Meant, AFolder, AGroup, ADefinition, AnAttribute, Named, ASubject, Internal}
 use Rattle.reg_view.specs.Telling.{entity_names, object_names, names_of, is_definition, TellsOf, IfRefused}
 use Rattle.reg_view.specs.Past.{GroupPast}
-use Rattle.reg_view.specs.View.{View, AttributeSeen, Administered, ConsumerSeen, GroupGone, GroupRead, GroupSeen, OwnerRead, Powers}
+use Rattle.reg_view.specs.View.{View, AttributeSeen, Administered, GroupGone, GroupRead, GroupSeen, OwnerRead, Powers}
 use Rattle.reg_view.proofs.Same.{bytes_same, bytes_self}
 
 -- what is found has this, or the refusal tells nothing else
@@ -118,7 +119,7 @@ module _ (v : View) where
   history_says group = next (λ (g : GroupPast). ⊤) (TellsOf v (group ∷ [])) (shown.past_of v group) (λ g. answered (answer.History g.history)) (past_says group (shown.group_named v group)) (λ g h. tt)
 
   log_says : (consumer : List ℕ) (max : ℕ) → IfRefused (TellsOf v (consumer ∷ [])) (shown.shown_log v consumer max)
-  log_says consumer max = next (λ (c : ConsumerSeen). ⊤) (TellsOf v (consumer ∷ [])) (found_or (named (λ (c : ConsumerSeen). c.name) v.consumers consumer) (NotFound consumer)) _ (found_says (TellsOf v (consumer ∷ [])) (named (λ (c : ConsumerSeen). c.name) v.consumers consumer) (NotFound consumer) (first consumer [])) (λ c h. tt)
+  log_says consumer max = next (λ (c : ConsumerShown). ⊤) (TellsOf v (consumer ∷ [])) (found_or (named (λ (c : ConsumerShown). c.consumer) v.consumers consumer) (NotFound consumer)) _ (found_says (TellsOf v (consumer ∷ [])) (named (λ (c : ConsumerShown). c.consumer) v.consumers consumer) (NotFound consumer) (first consumer [])) (λ c h. tt)
 
   listing_says : (folder : List ℕ) → IfRefused (TellsOf v (folder ∷ [])) (shown.shown_listing v folder)
   listing_says folder = next (λ (d : List ℕ). ⊤) (TellsOf v (folder ∷ [])) (found_or (shown.folder_named v folder) (NotFound folder)) _ (found_says (TellsOf v (folder ∷ [])) (shown.folder_named v folder) (NotFound folder) (first folder [])) (λ g h. tt)
@@ -307,6 +308,7 @@ module _ (v : View) where
   shown_says (query.Attributes object at) = attributes_say object at
   shown_says (query.History group) = history_says group
   shown_says (query.Log consumer max) = log_says consumer max
+  shown_says query.Admin = root_says [] v.is_root (answered (answer.Admin v.consumers v.gone_by_id v.jobs v.rules)) tt
 
   standing_says : (b : Bool) (q : Query) → IfRefused (TellsOf v (names_of q)) (if b then shown.shown v q else Err NoCaller)
   standing_says true q = shown_says q

@@ -1,4 +1,4 @@
--- Worked examples computed: a group with VIEW alone, one without, a privilege that a complement holds, a move out of a scope, the past of a group that is gone, grants of the past, and attributes.
+-- Worked examples computed: a group with VIEW alone, one without, a privilege that a complement holds, a move out of a scope, the past of a group that is gone, what root is told, grants of the past, and attributes.
 use Rattle.std.proofs.Common.{◌≡◌, ◌==◌, ◌&&◌, ℕ, Bool, true, false, Option, List, [], ◌∷◌, Result, Ok, Err, Some, None, codes, refl}
 use Rattle.std.specs.Prelude.{if◌then◌else◌, nat_le, nat_lt}
 use Rattle.reg_base.specs.Entities.{entity_of}
@@ -41,7 +41,7 @@ after (c ∷ cs) f = after cs (edit 0 entity.System c f)
 
 -- a past in which all was as it is
 abbrev nothing_past : Lists → Past
-nothing_past f = record { facts = λ t. f; was = λ t g s. member (live_of 0 f.rows f.composites) g s; spans = λ g s. []; lines = []; gone = []; last_name = λ o. []; def_of = λ a. None }
+nothing_past f = record { facts = λ t. f; was = λ t g s. member (live_of 0 f.rows f.composites) g s; spans = λ g s. []; lines = []; gone = []; gone_by_id = []; last_name = λ o. []; def_of = λ a. None }
 
 -- what a caller is answered
 abbrev asks : Lists → List ℕ → Query → Result Answer Refusal
@@ -119,6 +119,7 @@ with_past = record {
   spans = was_when;
   lines = (record { at = 5; kind = kinds.RowAdd; object = Some (object.Group 1); entity = Some (holder.Person 1); number = 0 }) ∷ (record { at = 9; kind = kinds.GroupDelete; object = Some (object.Group 1); entity = None; number = 0 }) ∷ [];
   gone = (1, codes "g") ∷ [];
+  gone_by_id = (1, 9) ∷ [];
   last_name = names_last;
   def_of = λ a. None;
 }
@@ -162,6 +163,14 @@ pub log_for_others : asks_then (codes "uni/ann") None (query.Log (codes "c1") 1)
 unfolding after_g without_g events_of entity_of resolve placed lies_in path extensions name_of rows_of member extension_of folder_of
 log_for_others = refl
 
+pub admin_of_root : asks_then root None query.Admin ≡ Ok (answer.Admin ((record { consumer = codes "c1"; place = 0 }) ∷ []) ((record { ended = 9; group = codes "g" }) ∷ []) [] [])
+unfolding after_g without_g events_of entity_of resolve placed lies_in path extensions name_of rows_of member extension_of folder_of
+admin_of_root = refl
+
+pub admin_for_others : asks_then (codes "uni/ann") None query.Admin ≡ Err (Denied (codes ":") (codes "ROOT"))
+unfolding after_g without_g events_of entity_of resolve placed lies_in path extensions name_of rows_of member extension_of folder_of
+admin_for_others = refl
+
 -- bob was the admin of g until 6, and from then on ann is
 pub by_bob : Lists
 by_bob = after (
@@ -173,7 +182,7 @@ pub by_ann : Lists
 by_ann = after (GrantRemove (codes "g") privilege.Admin (entity.Person (codes "uni/bob")) ∷ GrantAdd (codes "g") privilege.Admin (entity.Person (codes "uni/ann")) ∷ []) by_bob
 
 abbrev grants_past : Past
-grants_past = record { facts = λ t. if nat_lt t 6 then by_bob else by_ann; was = λ t g s. false; spans = λ g s. []; lines = []; gone = []; last_name = λ o. []; def_of = λ a. None }
+grants_past = record { facts = λ t. if nat_lt t 6 then by_bob else by_ann; was = λ t g s. false; spans = λ g s. []; lines = []; gone = []; gone_by_id = []; last_name = λ o. []; def_of = λ a. None }
 
 -- what a caller is answered at 10
 abbrev asks_of_grants : List ℕ → Option ℕ → Query → Result Answer Refusal
@@ -217,7 +226,7 @@ pub no_risk : Lists
 no_risk = after (AssignRemove (codes "risk") (codes "g") 1 ∷ AttrDelete (codes "risk") ∷ AttrdefDelete (codes "level") ∷ []) told_level
 
 abbrev risk_past : Lists → Past
-risk_past f = record { facts = λ t. if nat_lt t 6 then told_level else f; was = λ t g s. false; spans = λ g s. []; lines = []; gone = []; last_name = λ o. codes "risk"; def_of = λ a. Some 1 }
+risk_past f = record { facts = λ t. if nat_lt t 6 then told_level else f; was = λ t g s. false; spans = λ g s. []; lines = []; gone = []; gone_by_id = []; last_name = λ o. codes "risk"; def_of = λ a. Some 1 }
 
 -- what a caller is answered at 10, where these are the facts from 6 on
 abbrev asks_of_risk : Lists → List ℕ → Option ℕ → Query → Result Answer Refusal

@@ -36,7 +36,7 @@ use Rattle.reg_priv.specs.Holders.{holders}
 use Rattle.reg_priv.specs.May.{is_root, may, privileges_of, visible, who_of}
 use Rattle.reg_view.specs.Past.{Past, entry_shown, gone_id, history_of, span_shown}
 use Rattle.reg_view.specs.Show.{◌>>=◌, denied, found_or, in_time, root_denied, is_caller, is_entity_text}
-use Rattle.reg_view.specs.Texts.{row_shown, composite_shown, grant_shown, definition_name, member_text}
+use Rattle.reg_view.specs.Texts.{row_shown, composite_shown, consumer_shown, grant_shown, gone_shown, definition_name, job_shown, member_text, rule_shown}
 use Rattle.reg_view.specs.View.{assigns_shown, is_admin, is_readable, owned, powers_at}
 
 -- ---- groups and folders
@@ -314,6 +314,16 @@ log_of p L f c consumer max = do
   place ← found_or (place_seen L f c consumer) (NotFound consumer)
   Ok (entries_told p place max)
 
+-- ---- what root is told
+
+-- the consumers, the groups that are gone, the loader jobs and the rules
+abbrev pub admin_told : Past → Lists → Answer
+admin_told p f = answer.Admin (map consumer_shown f.consumers) (map (gone_shown p) p.gone_by_id) (map (job_shown f) f.jobs) (map (rule_shown p f) f.rules)
+
+-- and root alone is told of them
+abbrev pub admin_of : Past → Live → Lists → Who → Result Answer Refusal
+admin_of p L f c = if is_root L f c then Ok (admin_told p f) else Err root_denied
+
 -- ---- queries
 
 -- what is answered now to a caller of this text that stands
@@ -328,3 +338,4 @@ answer_of p L f now by c (query.May object entity at) = may_of p L f now by c ob
 answer_of p L f now by c (query.Attributes object at) = attributes_of p L f now c object at
 answer_of p L f now by c (query.History group) = history_told p L f c group
 answer_of p L f now by c (query.Log consumer max) = log_of p L f c consumer max
+answer_of p L f now by c query.Admin = admin_of p L f c

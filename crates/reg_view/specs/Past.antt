@@ -21,13 +21,14 @@ use Rattle.reg_machine.specs.Past as machine
 
 -- ---- what is told
 
--- the facts at a moment, who was a member then (of a group, a person), when a person was a member of a group, what was changed, the groups that went in the order in which they did, each with the name that it had then, the name that an object has or had last, and the definition of which an attribute was made
+-- the facts at a moment, who was a member then (of a group, a person), when a person was a member of a group, what was changed, the groups that went in the order in which they did, each with the name that it had then, the same groups by id, each with the moment at which it went, the name that an object has or had last, and the definition of which an attribute was made
 pub record Past : Type 0 where
   pub facts : ℕ → Lists
   pub was : ℕ → ℕ → ℕ → Bool
   pub spans : ℕ → ℕ → List (ℕ × Option ℕ)
   pub lines : List Line
   pub gone : List (ℕ × List ℕ)
+  pub gone_by_id : List (ℕ × ℕ)
   pub last_name : Object → List ℕ
   pub def_of : ℕ → Option ℕ
 
@@ -39,6 +40,7 @@ past history now = record {
   spans = machine.spans history now;
   lines = machine.log history now;
   gone = machine.gone_names history now;
+  gone_by_id = machine.gone_by_id history now;
   last_name = machine.last_name history now;
   def_of = machine.def_of history now;
 }

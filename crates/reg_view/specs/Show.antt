@@ -10,6 +10,7 @@ use Rattle.reg_base.specs.declared.privilege.Privilege.TheVariants as privilege
 use Rattle.reg_terms.specs.Privileges.{line_of}
 use Rattle.reg_terms.specs.declared.refusal.Refusal.{Refusal}
 use Rattle.reg_terms.specs.declared.refusal.Refusal.TheVariants.{NoCaller, NotFound, Denied, Future, WrongKind}
+use Rattle.reg_terms.specs.declared.admin_shown.ConsumerShown.{ConsumerShown}
 use Rattle.reg_terms.specs.declared.query.Query.{Query}
 use Rattle.reg_terms.specs.declared.query.Query.TheVariants as query
 use Rattle.reg_terms.specs.declared.query.Answer.{Answer}
@@ -17,7 +18,7 @@ use Rattle.reg_terms.specs.declared.query.Answer.TheVariants as answer
 use Rattle.reg_facts.specs.Children.{by_bytes, is_among}
 use Rattle.reg_facts.specs.Naming.{home_of}
 use Rattle.reg_view.specs.Past.{GroupPast, last_where}
-use Rattle.reg_view.specs.View.{View, AttributeSeen, ConsumerSeen, GroupGone, GroupSeen, GroupRead, Administered, OwnerRead, Powers}
+use Rattle.reg_view.specs.View.{View, AttributeSeen, GroupGone, GroupSeen, GroupRead, Administered, OwnerRead, Powers}
 
 -- ---- finding
 
@@ -323,8 +324,14 @@ shown_attributes v object at = do
 -- the entries after the place of a consumer, at most some; the number of the last; the place
 abbrev pub shown_log : View → List ℕ → ℕ → Result Answer Refusal
 shown_log v consumer max = do
-  c ← found_or (named (λ (c : ConsumerSeen). c.name) v.consumers consumer) (NotFound consumer)
+  c ← found_or (named (λ (c : ConsumerShown). c.consumer) v.consumers consumer) (NotFound consumer)
   Ok (answer.Log (take max (drop c.place v.log)) (length v.log) c.place)
+
+-- ---- what root is told
+
+-- the consumers, the groups that are gone, the loader jobs and the rules
+abbrev pub shown_admin : View → Result Answer Refusal
+shown_admin v = as_root v (Ok (answer.Admin v.consumers v.gone_by_id v.jobs v.rules))
 
 -- ---- queries
 
@@ -340,6 +347,7 @@ shown v (query.May object entity at) = shown_may v object entity at
 shown v (query.Attributes object at) = shown_attributes v object at
 shown v (query.History group) = shown_history v group
 shown v (query.Log consumer max) = shown_log v consumer max
+shown v query.Admin = shown_admin v
 
 -- what is answered to a query
 abbrev pub show : View → Query → Result Answer Refusal

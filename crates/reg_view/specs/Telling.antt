@@ -35,6 +35,7 @@ names_of (query.May object e at) = object_names object ++ entity_names e
 names_of (query.Attributes object at) = object_names object
 names_of (query.History group) = group ∷ []
 names_of (query.Log consumer max) = consumer ∷ []
+names_of query.Admin = []
 
 -- an attribute that the caller sees is of this definition
 abbrev pub is_definition : View → List ℕ → Bool

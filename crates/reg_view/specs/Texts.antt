@@ -1,4 +1,4 @@
--- What is shown of rows, factors, holders and assignments: by texts.
+-- What is shown of rows, factors, holders, assignments, groups that are gone, loader jobs and rules: by texts.
 use Rattle.std.specs.Prelude.{ℕ, ◌==◌, ◌++◌, List, [], Option, None, Some, option_map, codes, if◌then◌else◌}
 use Rattle.std.specs.List.{find}
 use Rattle.reg_facts.specs.Lists.{Lists}
@@ -10,10 +10,21 @@ use Rattle.reg_terms.specs.declared.kinds.Member.TheVariants.{Person, Group}
 use Rattle.reg_terms.specs.declared.kinds.Holder.{Holder}
 use Rattle.reg_terms.specs.declared.kinds.Holder.TheVariants as holder
 use Rattle.reg_terms.specs.declared.kinds.Object.TheVariants as object
+use Rattle.reg_terms.specs.declared.kinds.RuleForm.{RuleForm}
+use Rattle.reg_terms.specs.declared.kinds.RuleForm.TheVariants as rule
+use Rattle.reg_terms.specs.declared.rows.ConsumerRow.{ConsumerRow}
+use Rattle.reg_terms.specs.declared.rows.JobRow.{JobRow}
+use Rattle.reg_terms.specs.declared.rows.RuleRow.{RuleRow}
 use Rattle.reg_terms.specs.declared.rows.MemberRow.{MemberRow}
 use Rattle.reg_terms.specs.declared.rows.CompositeRow.{CompositeRow}
 use Rattle.reg_terms.specs.declared.rows.AttributeRow.{AttributeRow}
 use Rattle.reg_terms.specs.declared.rows.AssignRow.{AssignRow}
+use Rattle.reg_terms.specs.declared.admin_shown.ConsumerShown.{ConsumerShown}
+use Rattle.reg_terms.specs.declared.admin_shown.FormShown.{FormShown}
+use Rattle.reg_terms.specs.declared.admin_shown.FormShown.TheVariants as form
+use Rattle.reg_terms.specs.declared.admin_shown.GoneShown.{GoneShown}
+use Rattle.reg_terms.specs.declared.admin_shown.JobShown.{JobShown}
+use Rattle.reg_terms.specs.declared.admin_shown.RuleShown.{RuleShown}
 use Rattle.reg_terms.specs.declared.shown.AssignShown.{AssignShown}
 use Rattle.reg_terms.specs.declared.shown.FactorsShown.{FactorsShown}
 use Rattle.reg_terms.specs.declared.shown.GrantShown.{GrantShown}
@@ -63,3 +74,28 @@ definition_name f row = name_of (object.Def row.definition) f
 -- an assignment as it is shown: by the name that its attribute has or had last
 abbrev pub assign_shown : Past → AssignRow → AssignShown
 assign_shown p row = record { attribute = p.last_name (object.Attr row.attribute); id = row.id; values = row.values }
+
+-- ---- what root is told
+
+-- a consumer of the log, and the number of the last entry that it has acknowledged
+abbrev pub consumer_shown : ConsumerRow → ConsumerShown
+consumer_shown row = record { consumer = row.name; place = row.place }
+
+-- a group that is gone, and the moment at which it went: by the name that it had last
+abbrev pub gone_shown : Past → ℕ × ℕ → GoneShown
+gone_shown p g = record { ended = g.1; group = p.last_name (object.Group g.0) }
+
+-- a loader job: by the present name of its group or folder
+abbrev pub job_shown : Lists → JobRow → JobShown
+job_shown f row = record { job = row.name; max_percent = row.max_percent; min_size = row.min_size; source = row.source; target = name_of row.target f }
+
+-- what a rule does: by the present names of its groups and its folder, and the text of its holder
+abbrev pub form_shown : Past → Lists → RuleForm → FormShown
+form_shown p f (rule.RemoveLost check owner) = form.RemoveLost (name_of (object.Group check) f) (name_of (object.Group owner) f)
+form_shown p f (rule.EndLost check owner days) = form.EndLost (name_of (object.Group check) f) (name_of (object.Group owner) f) days
+form_shown p f (rule.Veto owner condition) = form.Veto (name_of (object.Group owner) f) (name_of (object.Group condition) f)
+form_shown p f (rule.OnCreate folder scope privilege whom) = form.OnCreate (name_of (object.Folder folder) f) scope privilege (holder_text p f whom)
+
+-- a rule
+abbrev pub rule_shown : Past → Lists → RuleRow → RuleShown
+rule_shown p f row = record { id = row.id; form = form_shown p f row.form }

@@ -33,6 +33,7 @@ AsksOf name (query.May text e at) = ⊥
 AsksOf name (query.Attributes text at) = ⊥
 AsksOf name (query.History group) = group ≡ name
 AsksOf name (query.Log consumer max) = ⊥
+AsksOf name query.Admin = ⊥
 
 -- no group has this name, or the caller hasn't VIEW on it
 abbrev pub IsHidden : Live → Lists → Who → Option ℕ → Type 0

@@ -16,7 +16,10 @@ use Rattle.reg_terms.specs.declared.shown.FactorsShown.{FactorsShown}
 use Rattle.reg_terms.specs.declared.shown.GrantShown.{GrantShown}
 use Rattle.reg_terms.specs.declared.shown.RowShown.{RowShown}
 use Rattle.reg_terms.specs.declared.changes_shown.EntryShown.{EntryShown}
-use Rattle.reg_terms.specs.declared.rows.ConsumerRow.{ConsumerRow}
+use Rattle.reg_terms.specs.declared.admin_shown.ConsumerShown.{ConsumerShown}
+use Rattle.reg_terms.specs.declared.admin_shown.GoneShown.{GoneShown}
+use Rattle.reg_terms.specs.declared.admin_shown.JobShown.{JobShown}
+use Rattle.reg_terms.specs.declared.admin_shown.RuleShown.{RuleShown}
 use Rattle.reg_facts.specs.Attributes.{assigns_on}
 use Rattle.reg_facts.specs.Lists.{Lists}
 use Rattle.reg_facts.specs.Naming.{name_of}
@@ -28,7 +31,7 @@ use Rattle.reg_priv.specs.Holders.{holders}
 use Rattle.reg_priv.specs.May.{is_root, may, visible, who_of}
 use Rattle.reg_view.specs.Past.{Past, GroupPast, group_past, log_shown}
 use Rattle.reg_view.specs.Powers.{powers_then}
-use Rattle.reg_view.specs.Texts.{row_shown, composite_shown, grant_shown, assign_shown, definition_name}
+use Rattle.reg_view.specs.Texts.{row_shown, composite_shown, grant_shown, assign_shown, consumer_shown, definition_name, gone_shown, job_shown, rule_shown}
 
 -- ---- the record
 
@@ -54,11 +57,6 @@ pub record GroupGone : Type 0 where
   pub name : List ℕ
   pub past : GroupPast
 
--- a consumer of the log, and the number of the last entry that it has acknowledged
-pub record ConsumerSeen : Type 0 where
-  pub name : List ℕ
-  pub place : ℕ
-
 -- privileges, under the name or text of what has them
 pub record Powers : Type 0 where
   pub name : List ℕ
@@ -76,7 +74,7 @@ pub record OwnerRead : Type 0 where
   pub name : List ℕ
   pub assignments : List AssignShown
 
--- what a caller may see; the owners are folders and groups, and the attributes of persons are told to all; consumers, the log and the groups that are gone are root's alone. A subject has no grants and no privileges are on it, so it is among the objects of neither list of privileges
+-- what a caller may see; the owners are folders and groups, and the attributes of persons are told to all; consumers, the log, the groups that are gone, loader jobs and rules are root's alone. A subject has no grants and no privileges are on it, so it is among the objects of neither list of privileges
 pub record View : Type 0 where
   pub now : ℕ
   pub caller : List ℕ
@@ -92,13 +90,16 @@ pub record View : Type 0 where
   pub own : List Powers
   pub owners : List OwnerRead
   pub persons : List OwnerRead
-  pub consumers : List ConsumerSeen
+  pub consumers : List ConsumerShown
   pub log : List EntryShown
   pub gone : List GroupGone
+  pub gone_by_id : List GoneShown
+  pub jobs : List JobShown
+  pub rules : List RuleShown
 
 -- who doesn't stand sees nothing
 abbrev pub blank : ℕ → List ℕ → View
-blank now by = record { now = now; caller = by; stands = false; is_root = false; folders = []; subjects = []; groups = []; definitions = []; attributes = []; readable = []; administered = []; own = []; owners = []; persons = []; consumers = []; log = []; gone = [] }
+blank now by = record { now = now; caller = by; stands = false; is_root = false; folders = []; subjects = []; groups = []; definitions = []; attributes = []; readable = []; administered = []; own = []; owners = []; persons = []; consumers = []; log = []; gone = []; gone_by_id = []; jobs = []; rules = [] }
 
 -- ---- what it holds
 
@@ -154,10 +155,6 @@ group_read p f at row = record {
 -- a group that is gone: its past at a moment
 abbrev pub group_gone : Past → Lists → ℕ → ℕ × List ℕ → GroupGone
 group_gone p f at g = record { name = g.1; past = group_past p f at g.0 }
-
--- a consumer
-abbrev pub consumer_seen : ConsumerRow → ConsumerSeen
-consumer_seen row = record { name = row.name; place = row.place }
 
 -- what root alone sees
 abbrev pub for_root : {A : Type 0} → Bool → List A → List A
@@ -229,9 +226,12 @@ seen_by p L f now at by c = record {
   own = shown_where (λ (o : Object). o) (visible L f c) (own_powers p f at c) (objects f);
   owners = shown_where (λ (o : Object). o) (reads_owner L f c) (owner_read p L f c at) (objects f);
   persons = map (person_read p L f c at) f.subjects;
-  consumers = for_root (is_root L f c) (map consumer_seen f.consumers);
+  consumers = for_root (is_root L f c) (map consumer_shown f.consumers);
   log = for_root (is_root L f c) (log_shown p);
   gone = for_root (is_root L f c) (map (group_gone p f at) p.gone);
+  gone_by_id = for_root (is_root L f c) (map (gone_shown p) p.gone_by_id);
+  jobs = for_root (is_root L f c) (map (job_shown f) f.jobs);
+  rules = for_root (is_root L f c) (map (rule_shown p f) f.rules);
 }
 
 -- who has this text as a caller, if someone who stands has it

@@ -34,7 +34,7 @@ pub fn is_admin<K: Kept>(facts: &Facts, kept: &K, who: &Who, object: &Object) ->
 }
 
 /// Root is wanted.
-fn root_denied(alloc: Global) -> Result<Refusal, AllocError>
+pub fn root_denied(alloc: Global) -> Result<Refusal, AllocError>
     ensures { IfOk result (λ r. r ≡ root_denied) }
 {
     let object = Text::new(alloc, ":")?;

@@ -9,6 +9,7 @@ ghost use Rattle.reg_view.specs.Show.{show};
 ghost use Rattle.reg_view.specs.Unseen.{AsksOf, IsOfNoneGone, IsUnseen};
 ghost use Rattle.reg_view.specs.View.{caller_of, view_of};
 
+use crate::admin::admin_of;
 use crate::administering::grants_of;
 use crate::allowing::may_of;
 use crate::attributes::attributes_of;
@@ -63,6 +64,7 @@ fn answer_of<K: Kept>(
         }
         Query::History { group } => history_told(alloc, machine, facts, kept, who, group),
         Query::Log { consumer, max } => log_of(alloc, machine, facts, kept, who, consumer, *max),
+        Query::Admin => admin_of(alloc, machine, facts, kept, who),
     }
 }
 

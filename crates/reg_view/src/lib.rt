@@ -1,6 +1,7 @@
 //! Requests and replies, and what a query is answered.
 #![tactic(auto)]
 
+mod admin;
 mod administering;
 mod allowing;
 mod answering;

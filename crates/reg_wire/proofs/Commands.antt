@@ -3,7 +3,7 @@ use Rattle.std.proofs.Common.{◌≡◌, ℕ, Bool, true, eqb, leb, List, [], �
 use Rattle.std.specs.List.{list_all, flat_map}
 use Rattle.std.proofs.lemmas.Bool.{and_parts, and_from, eqb-true, leb-true}
 use Rattle.std.proofs.lemmas.Option.{same_Some}
-use Rattle.reg_base.specs.Names.{is_extension, is_name}
+use Rattle.reg_base.specs.Names.{is_extension, is_name, is_source}
 use Rattle.reg_base.specs.declared.entity.Entity.{Entity}
 use Rattle.reg_base.specs.declared.privilege.Privilege.{Privilege}
 use Rattle.reg_terms.specs.declared.kinds.DefKind.{DefKind}
@@ -24,8 +24,8 @@ use Rattle.reg_terms.specs.Parts.{◌>>=◌, field_kind}
 use Rattle.reg_terms.specs.Table.{command_row, field_kinds, commands, coded, kind_of, fields_of, code_of, made_command, IsMadeCommand, IsApart}
 use Rattle.reg_wire.specs.Fields.{field_bytes}
 use Rattle.reg_wire.specs.Payload.{fields_bytes, command_bytes}
-use Rattle.reg_wire.specs.Reading.{byte_at, name_at, folder_at, extension_at, display_at, entity_at, object_at, optional_moment_at, ranged_at, set_op_at, inherit_kind_at, scope_at, privilege_at, owners_at, flag_at, def_kind_at, value_at, stands, field_at, fields_at, command_at, command_of}
-use Rattle.reg_wire.proofs.Texts.{name_short, folder_short, extension_short, display_short}
+use Rattle.reg_wire.specs.Reading.{byte_at, name_at, folder_at, extension_at, source_at, display_at, entity_at, object_at, optional_moment_at, ranged_at, set_op_at, inherit_kind_at, scope_at, privilege_at, owners_at, flag_at, def_kind_at, value_at, stands, field_at, fields_at, command_at, command_of}
+use Rattle.reg_wire.proofs.Texts.{name_short, folder_short, extension_short, source_short, display_short}
 use Rattle.reg_wire.proofs.Exact.{IsExact, bind_some, tested_exact, optional_exact, set_op_exact, ranged_takes, ranged_again}
 use Rattle.reg_wire.proofs.Entities.{chosen, entity_exact}
 use Rattle.reg_wire.proofs.Objects.{object_short}
@@ -51,6 +51,9 @@ folder_exact = tested_exact is_folder_text (λ text h. omega (arith, folder_shor
 extension_exact : IsExact (λ (v : List ℕ). field_bytes (field.Extension v)) (λ (v : List ℕ). is_field (field.Extension v)) extension_at
 extension_exact = tested_exact is_extension (λ text h. omega (arith, extension_short text h))
 
+source_exact : IsExact (λ (v : List ℕ). field_bytes (field.Source v)) (λ (v : List ℕ). is_field (field.Source v)) source_at
+source_exact = tested_exact is_source (λ text h. omega (arith, source_short text h))
+
 display_exact : IsExact (λ (v : List ℕ). field_bytes (field.Display v)) (λ (v : List ℕ). is_field (field.Display v)) display_at
 display_exact = tested_exact is_display (λ text h. omega (arith, display_short text h))
 
@@ -73,6 +76,7 @@ field_takes : (k : FieldKind) (bytes : List ℕ) (x : Field × List ℕ) → fie
 field_takes kind.Name bytes x e = taken kind.Name (λ (v : List ℕ). field.Name v) name_at (λ v. refl) name_exact bytes x e
 field_takes kind.Folder bytes x e = taken kind.Folder (λ (v : List ℕ). field.Folder v) folder_at (λ v. refl) folder_exact bytes x e
 field_takes kind.Extension bytes x e = taken kind.Extension (λ (v : List ℕ). field.Extension v) extension_at (λ v. refl) extension_exact bytes x e
+field_takes kind.Source bytes x e = taken kind.Source (λ (v : List ℕ). field.Source v) source_at (λ v. refl) source_exact bytes x e
 field_takes kind.Display bytes x e = taken kind.Display (λ (v : List ℕ). field.Display v) display_at (λ v. refl) display_exact bytes x e
 field_takes kind.Entity bytes x e = taken kind.Entity (λ (v : Entity). field.Entity v) entity_at (λ v. refl) entity_exact bytes x e
 field_takes kind.Object bytes x e = taken kind.Object (λ (v : List ℕ). field.Object v) object_at (λ v. refl) object_exact bytes x e
@@ -100,6 +104,7 @@ field_again : (f : Field) (rest : List ℕ) → is_field f ≡ true → is_wide 
 field_again (field.Name v) rest h wide = rw (name_exact.again v rest h) refl
 field_again (field.Folder v) rest h wide = rw (folder_exact.again v rest h) refl
 field_again (field.Extension v) rest h wide = rw (extension_exact.again v rest h) refl
+field_again (field.Source v) rest h wide = rw (source_exact.again v rest h) refl
 field_again (field.Display v) rest h wide = rw (display_exact.again v rest h) refl
 field_again (field.Entity v) rest h wide = rw (entity_exact.again v rest h) refl
 field_again (field.Object v) rest h wide = rw (object_exact.again v rest h) refl

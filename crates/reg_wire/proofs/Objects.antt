@@ -1,17 +1,16 @@
 -- The text of an object is short, and UTF-8.
-use Rattle.std.proofs.Common.{◌≡◌, ℕ, ◌≤◌, true, ltb, codes, List, [], ◌∷◌, length, Option, Some, None, is_some, eqb, refl, subst, inl, inr, arith}
+use Rattle.std.proofs.Common.{◌≡◌, ℕ, ◌≤◌, true, ltb, codes, List, length, Option, Some, None, is_some, eqb, refl, subst, inl, inr, arith}
 use Rattle.std.specs.List.{list_all, list_any}
-use Rattle.std.specs.Str.{IsAscii, IsUtf8}
-use Rattle.std.proofs.lemmas.Bool.{and_parts, ltb-true, false≢true}
-use Rattle.std.proofs.lemmas.Str.{IsUtf8-append, IsUtf8-from_ascii}
-use Rattle.std.proofs.lemmas.Str.Ascii.{IsAscii-nil, IsAscii-cons}
+use Rattle.std.specs.Str.{IsUtf8}
+use Rattle.std.proofs.lemmas.Bool.{ltb-true, false≢true}
+use Rattle.std.proofs.lemmas.Str.{IsUtf8-append}
 use Rattle.reg_base.specs.Entities.{entity_of}
 use Rattle.reg_base.specs.declared.entity.Entity.{Entity}
 use Rattle.reg_base.specs.declared.entity.Entity.TheVariants.{Person, Group, System, Everyone}
 use Rattle.reg_base.proofs.Persons.{name_utf8, person_utf8}
 use Rattle.reg_terms.specs.Forms.{is_entity, is_folder_text, is_object_text}
 use Rattle.reg_wire.specs.Fields.{entity_text}
-use Rattle.reg_wire.proofs.Texts.{folder_short, folder_utf8}
+use Rattle.reg_wire.proofs.Texts.{bytes_utf8, folder_short, folder_utf8}
 use Rattle.reg_wire.proofs.Entities.{chosen, entity_takes, entity_short}
 
 -- what stands, where something does
@@ -19,12 +18,8 @@ there : {A : Type 0} (o : Option A) → is_some o ≡ true → (x : A) × (o ≡
 there (Some x) h = (x, refl)
 there None h = absurd (false≢true h)
 
-ascii : (text : List ℕ) → list_all (λ b. ltb b 128) text ≡ true → IsAscii text
-ascii [] h = IsAscii-nil
-ascii (b ∷ text) h = let both = and_parts _ _ h in IsAscii-cons b text (ltb-true b 128 both.0) (ascii text both.1)
-
 utf8 : (text : List ℕ) → list_all (λ b. ltb b 128) text ≡ true → IsUtf8 text
-utf8 text h = IsUtf8-from_ascii text (ascii text h)
+utf8 = bytes_utf8 (λ b. ltb b 128) (λ b h. ltb-true b 128 h)
 
 entity_utf8 : (entity : Entity) → is_entity entity ≡ true → IsUtf8 (entity_text entity)
 entity_utf8 (Person text) h = person_utf8 text h

@@ -23,7 +23,7 @@ use Rattle.reg_terms.specs.Table.{fields_of, code_of}
 use Rattle.reg_wire.specs.Fields.{entity_text, moment_bytes, field_bytes}
 use Rattle.reg_wire.specs.Reading.{moment_at, entity_at, command_of}
 use Rattle.reg_wire.specs.Payload.{fields_bytes, command_bytes, IsWritable, payload, stamped_at, stamped_of}
-use Rattle.reg_wire.proofs.Texts.{name_short, folder_short, extension_short, display_short}
+use Rattle.reg_wire.proofs.Texts.{name_short, folder_short, extension_short, source_short, display_short}
 use Rattle.reg_wire.proofs.Exact.{bind_some, moment_exact}
 use Rattle.reg_wire.proofs.Entities.{entity_short, entity_bytes, entity_exact}
 use Rattle.reg_wire.proofs.Objects.{object_short}
@@ -123,6 +123,7 @@ field_short : (f : Field) → is_field f ≡ true → length (field_bytes f) ≤
 field_short (field.Name text) h = omega (arith, name_short text h)
 field_short (field.Folder text) h = omega (arith, folder_short text h)
 field_short (field.Extension text) h = omega (arith, extension_short text h)
+field_short (field.Source text) h = omega (arith, source_short text h)
 field_short (field.Display text) h = omega (arith, display_short text h)
 field_short (field.Entity entity) h = omega (arith, entity_short entity h)
 field_short (field.Object text) h = omega (arith, object_short text h)

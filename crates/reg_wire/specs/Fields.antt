@@ -95,6 +95,7 @@ abbrev pub field_bytes : Field → List ℕ
 field_bytes (field.Name text) = text_bytes text
 field_bytes (field.Folder text) = text_bytes text
 field_bytes (field.Extension text) = text_bytes text
+field_bytes (field.Source text) = text_bytes text
 field_bytes (field.Display text) = text_bytes text
 field_bytes (field.Entity entity) = text_bytes (entity_text entity)
 field_bytes (field.Object text) = text_bytes text

@@ -2,7 +2,7 @@
 use Rattle.std.specs.Prelude.{ℕ, ℤ, zero, suc, ◌/◌, ◌%◌, ◌==◌, List, [], ◌∷◌, Bool, true, false, ◌&&◌, nat_le, nat_lt, if◌then◌else◌, length, take, drop, Option, Some, None}
 use Rattle.std.specs.List.{list_all}
 use Rattle.std.specs.Int.{Width, w16, w64, byte_len, cast_signed, from_le_bytes}
-use Rattle.reg_base.specs.Names.{is_extension, is_name}
+use Rattle.reg_base.specs.Names.{is_extension, is_name, is_source}
 use Rattle.reg_base.specs.Entities.{entity_of}
 use Rattle.reg_base.specs.declared.entity.Entity.{Entity}
 use Rattle.reg_base.specs.declared.privilege.Privilege.{Privilege}
@@ -66,6 +66,10 @@ folder_at bytes = tested_at is_folder_text bytes
 -- an extension
 abbrev pub extension_at : List ℕ → Option (List ℕ × List ℕ)
 extension_at bytes = tested_at is_extension bytes
+
+-- a source of persons
+abbrev pub source_at : List ℕ → Option (List ℕ × List ℕ)
+source_at bytes = tested_at is_source bytes
 
 -- a display text
 abbrev pub display_at : List ℕ → Option (List ℕ × List ℕ)
@@ -193,6 +197,7 @@ abbrev pub field_at : FieldKind → List ℕ → Option (Field × List ℕ)
 field_at kind.Name bytes = stands (λ v. field.Name v) (name_at bytes)
 field_at kind.Folder bytes = stands (λ v. field.Folder v) (folder_at bytes)
 field_at kind.Extension bytes = stands (λ v. field.Extension v) (extension_at bytes)
+field_at kind.Source bytes = stands (λ v. field.Source v) (source_at bytes)
 field_at kind.Display bytes = stands (λ v. field.Display v) (display_at bytes)
 field_at kind.Entity bytes = stands (λ v. field.Entity v) (entity_at bytes)
 field_at kind.Object bytes = stands (λ v. field.Object v) (object_at bytes)

@@ -169,7 +169,7 @@ fn put_value(out: &mut Vec<u8>, value: &Value) -> Result<(), AllocError>
     }
 }
 
-#[tactic(auto, using(crate::proofs::Texts::name_short, crate::proofs::Texts::folder_short, crate::proofs::Texts::extension_short, crate::proofs::Texts::display_short, crate::proofs::Objects::object_short))]
+#[tactic(auto, using(crate::proofs::Texts::name_short, crate::proofs::Texts::folder_short, crate::proofs::Texts::extension_short, crate::proofs::Texts::source_short, crate::proofs::Texts::display_short, crate::proofs::Objects::object_short))]
 fn put_field(out: &mut Vec<u8>, field: &FieldRef<'_>) -> Result<(), AllocError>
     requires { list_all is_field (seen field.now) ≡ true }
     ensures { OnOk result (out.new.items ≡ out.old.items ++ flat_map field_bytes (seen field.now)) }
@@ -177,10 +177,10 @@ fn put_field(out: &mut Vec<u8>, field: &FieldRef<'_>) -> Result<(), AllocError>
     match field {
         FieldRef::Nothing => Ok(()),
         FieldRef::Name(name) => put_text(out, name.bytes()),
-        FieldRef::Folder(text) | FieldRef::Extension(text) | FieldRef::Display(text) => put_text(
-            out,
-            text.bytes(),
-        ),
+        FieldRef::Folder(text)
+        | FieldRef::Extension(text)
+        | FieldRef::Source(text)
+        | FieldRef::Display(text) => put_text(out, text.bytes()),
         FieldRef::Entity(entity) => put_entity(out, entity),
         FieldRef::Object(text) => put_text(out, text.bytes()),
         FieldRef::OptionalMoment(moment) => put_optional_moment(out, *moment),

@@ -2,10 +2,10 @@
 ghost use Rattle.std.specs.Prelude.{◌≡◌};
 ghost use Rattle.std.specs.Int.{w16, w64};
 ghost use Rattle.reg_wire.specs.Steps.{Gives};
-ghost use Rattle.reg_wire.specs.Reading.{byte_at, number_at, text_at, name_at, folder_at, extension_at, display_at, entity_at, moment_at, ranged_at, object_at, optional_moment_at, set_op_at, inherit_kind_at, scope_at, privilege_at, owners_of, owners_at, flag_at, def_kind_at, int_at, value_at};
+ghost use Rattle.reg_wire.specs.Reading.{byte_at, number_at, text_at, name_at, folder_at, extension_at, source_at, display_at, entity_at, moment_at, ranged_at, object_at, optional_moment_at, set_op_at, inherit_kind_at, scope_at, privilege_at, owners_of, owners_at, flag_at, def_kind_at, int_at, value_at};
 
 use crate::fault::ReadFault;
-use reg_base::{Entity, Moment, Name, Privilege, Text, is_extension};
+use reg_base::{Entity, Moment, Name, Privilege, Text, is_extension, is_source};
 use reg_terms::{
     DefKind, InheritKind, MAX_DISPLAY, Owners, Scope, SetOp, Value, is_folder_text, is_object_text,
     privilege_coded,
@@ -136,6 +136,22 @@ pub fn extension_at(alloc: Global, bytes: &[u8]) -> Result<(Text, &[u8]), ReadFa
     match Text::of(alloc, text)? {
         Some(extension) => Ok((extension, rest)),
         // no extension comes here, since its bytes are ASCII
+        None => Err(ReadFault::Malformed),
+    }
+}
+
+/// A source of persons.
+#[tactic(auto, using(crate::proofs::Texts::source_utf8), unfolding(crate::specs::Reading::tested_at))]
+pub fn source_at(alloc: Global, bytes: &[u8]) -> Result<(Text, &[u8]), ReadFault>
+    ensures { Gives (λ x. (x.0, x.1.now)) result (source_at bytes.now) }
+{
+    let (text, rest) = text_at(bytes)?;
+    if !is_source(text) {
+        return Err(ReadFault::Malformed);
+    }
+    match Text::of(alloc, text)? {
+        Some(source) => Ok((source, rest)),
+        // no source comes here, since its bytes are ASCII
         None => Err(ReadFault::Malformed),
     }
 }

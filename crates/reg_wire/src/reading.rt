@@ -7,7 +7,7 @@ use crate::fault::ReadFault;
 use crate::fields::{
     byte_at, def_kind_at, display_at, entity_at, extension_at, flag_at, folder_at, inherit_kind_at,
     name_at, object_at, optional_moment_at, owners_at, privilege_at, ranged_at, scope_at,
-    set_op_at, value_at,
+    set_op_at, source_at, value_at,
 };
 use reg_terms::{Command, CommandKind, Field, FieldKind, command_coded, command_row, made_command};
 use std::alloc::Global;
@@ -27,6 +27,10 @@ fn field_at(alloc: Global, kind: FieldKind, bytes: &[u8]) -> Result<(Field, &[u8
         },
         FieldKind::Extension => match extension_at(alloc, bytes) {
             Ok((extension, rest)) => Ok((Field::Extension(extension), rest)),
+            Err(fault) => Err(fault),
+        },
+        FieldKind::Source => match source_at(alloc, bytes) {
+            Ok((source, rest)) => Ok((Field::Source(source), rest)),
             Err(fault) => Err(fault),
         },
         FieldKind::Display => match display_at(alloc, bytes) {

@@ -1,10 +1,6 @@
-use Rattle.std.proofs.Common.{◌≡◌, ◌++◌, List, append_assoc}
-use Rattle.json.specs.Token.{Token}
 use Rattle.reg_json.specs.Replies.{answer_data}
+use Rattle.reg_json.proofs.Printing.{joined}
 use Rattle.reg_json.proofs.answer.put_log.Goals as goal
-
-joined : (o a b c d e f g : List Token) → ((((((o ++ a) ++ b) ++ c) ++ d) ++ e) ++ f) ++ g ≡ o ++ (a ++ (b ++ (c ++ (d ++ (e ++ (f ++ g))))))
-joined o a b c d e f g = simp append_assoc
 
 -- the tokens one behind the other
 pub returns-clause-ok : goal.returns-clause-ok

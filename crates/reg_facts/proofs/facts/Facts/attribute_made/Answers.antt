@@ -1,17 +1,21 @@
 use Rattle.std.proofs.Common.{◌≡◌}
 use Rattle.reg_terms.specs.declared.event.Event.TheVariants.{AttributeMade}
 use Rattle.reg_facts.specs.Events.{happened}
+use Rattle.reg_facts.proofs.Happening.{on_both, on_finished}
 use Rattle.reg_facts.proofs.Indexing.{attribute_made_indexed}
 use Rattle.reg_facts.proofs.AttributeIds.{next_attribute}
 use Rattle.reg_facts.proofs.facts.Facts.attribute_made.Goals as goal
 
 -- the next id is behind the others
-pub with_attribute-requires : goal.with_attribute-requires
-with_attribute-requires c = next_attribute c.facts.inside.tables c.args.row c.facts.invariant.sound (rw c.facts.view_is c.requires.0)
+pub push_attribute-requires : goal.push_attribute-requires
+push_attribute-requires c = next_attribute c.self.inside.tables c.args.row c.self.invariant.sound (rw c.self.view_is c.requires.0)
 
 -- the maps find what the lists hold, the new object too
-pub invariant_of-facts : goal.invariant_of-facts
-invariant_of-facts c =
-    let is : c.in_ok-facts-inside.field-0 ≡ happened (AttributeMade c.args.row) c.args.self = rw c.facts.view_is at c.in_ok-facts-inside.ensures in
-    rw is (attribute_made_indexed c.facts.inside.subject_index c.facts.inside.children c.put.new.self c.args.row c.args.self
-    (rw c.facts.view_is at c.facts.invariant) c.requires (λ x y. rw (← c.number.ensures, ← c.as_str.ensures) (c.in_ok-put.ensures x y)))
+pub finished-requires : goal.finished-requires
+finished-requires c = on_both c.put-put.result c.push_attribute.result c.both-done.result c.both-done.ensures c.put-put.ensures c.push_attribute.ensures (λ put done.
+    let is : c.push_attribute.new.self ≡ happened (AttributeMade c.args.row) c.args.self = rw c.self.view_is at done in
+    rw is (attribute_made_indexed c.self.inside.subject_index c.self.inside.children c.put-put.new.self c.args.row c.args.self
+    (rw c.self.view_is at c.self.invariant) c.requires (λ x y. rw (← c.number.ensures, ← c.as_str.ensures) (put x y))))
+
+pub returns : goal.returns
+returns c = on_finished c.both-done.result c.finished.result c.push_attribute.new.self (happened (AttributeMade c.args.row) c.args.self) c.finished.ensures.made c.finished.ensures.facts (on_both c.put-put.result c.push_attribute.result c.both-done.result c.both-done.ensures c.put-put.ensures (rw c.self.view_is at c.push_attribute.ensures) (λ put done. done))

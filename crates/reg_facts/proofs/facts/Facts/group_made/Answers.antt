@@ -1,12 +1,16 @@
 use Rattle.std.proofs.Common.{◌≡◌}
 use Rattle.reg_terms.specs.declared.event.Event.TheVariants.{GroupMade}
 use Rattle.reg_facts.specs.Events.{happened}
+use Rattle.reg_facts.proofs.Happening.{on_both, on_finished}
 use Rattle.reg_facts.proofs.Indexing.{group_made_indexed}
 use Rattle.reg_facts.proofs.facts.Facts.group_made.Goals as goal
 
 -- the maps find what the lists hold, the new object too
-pub invariant_of-facts : goal.invariant_of-facts
-invariant_of-facts c =
-    let is : c.push_group.new.self ≡ happened (GroupMade c.args.row) c.args.self = rw c.facts.view_is at c.in_ok-push_group.ensures in
-    rw is (group_made_indexed c.facts.inside.subject_index c.facts.inside.children c.put.new.self c.args.row c.args.self
-    (rw c.facts.view_is at c.facts.invariant) c.requires (λ x y. rw (← c.number.ensures, ← c.as_str.ensures) (c.in_ok-put.ensures x y)))
+pub finished-requires : goal.finished-requires
+finished-requires c = on_both c.put-put.result c.push_group.result c.both-done.result c.both-done.ensures c.put-put.ensures c.push_group.ensures (λ put done.
+    let is : c.push_group.new.self ≡ happened (GroupMade c.args.row) c.args.self = rw c.self.view_is at done in
+    rw is (group_made_indexed c.self.inside.subject_index c.self.inside.children c.put-put.new.self c.args.row c.args.self
+    (rw c.self.view_is at c.self.invariant) c.requires (λ x y. rw (← c.number.ensures, ← c.as_str.ensures) (put x y))))
+
+pub returns : goal.returns
+returns c = on_finished c.both-done.result c.finished.result c.push_group.new.self (happened (GroupMade c.args.row) c.args.self) c.finished.ensures.made c.finished.ensures.facts (on_both c.put-put.result c.push_group.result c.both-done.result c.both-done.ensures c.put-put.ensures (rw c.self.view_is at c.push_group.ensures) (λ put done. done))

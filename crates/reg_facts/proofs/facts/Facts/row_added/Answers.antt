@@ -1,10 +1,14 @@
-use Rattle.std.proofs.Common.{◌≡◌, rules}
+use Rattle.std.proofs.Common.{◌≡◌}
 use Rattle.reg_terms.specs.declared.event.Event.TheVariants.{RowAdded}
 use Rattle.reg_facts.specs.Events.{happened}
+use Rattle.reg_facts.proofs.Happening.{on_ok, on_finished}
 use Rattle.reg_facts.proofs.Indexing.{row_added_indexed}
 use Rattle.reg_facts.proofs.facts.Facts.row_added.Goals as goal
 
-pub invariant_of-facts : goal.invariant_of-facts
-invariant_of-facts c =
-    let is : c.in_ok-facts-inside.field-0 ≡ happened (RowAdded c.args.row) c.args.self = search rules in
-    rw is (row_added_indexed c.facts.inside.subject_index c.facts.inside.children c.args.row c.args.self (rw c.facts.view_is at c.facts.invariant) c.requires)
+pub finished-requires : goal.finished-requires
+finished-requires c = on_ok c.push_row-done.result c.push_row-done.ensures (λ done.
+    let is : c.push_row-done.new.self ≡ happened (RowAdded c.args.row) c.args.self = rw c.self.view_is at done in
+    rw is (row_added_indexed c.self.inside.subject_index c.self.inside.children c.args.row c.args.self (rw c.self.view_is at c.self.invariant) c.requires))
+
+pub returns : goal.returns
+returns c = on_finished c.push_row-done.result c.finished.result c.push_row-done.new.self (happened (RowAdded c.args.row) c.args.self) c.finished.ensures.made c.finished.ensures.facts (rw c.self.view_is at c.push_row-done.ensures)

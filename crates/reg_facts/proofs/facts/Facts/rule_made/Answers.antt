@@ -1,15 +1,19 @@
-use Rattle.std.proofs.Common.{◌≡◌, rules}
+use Rattle.std.proofs.Common.{◌≡◌}
 use Rattle.reg_terms.specs.declared.event.Event.TheVariants.{RuleMade}
 use Rattle.reg_facts.specs.Events.{happened}
+use Rattle.reg_facts.proofs.Happening.{on_ok, on_finished}
 use Rattle.reg_facts.proofs.Indexing.{rule_made_indexed}
 use Rattle.reg_facts.proofs.RulesInOrder.{next_ascends}
 use Rattle.reg_facts.proofs.facts.Facts.rule_made.Goals as goal
 
 -- the next id is behind the others
-pub with_rule-requires : goal.with_rule-requires
-with_rule-requires c = next_ascends c.facts.inside.tables c.args.row c.facts.invariant.ruled (rw c.facts.view_is c.requires.0)
+pub push_rule-done-requires : goal.push_rule-done-requires
+push_rule-done-requires c = next_ascends c.self.inside.tables c.args.row c.self.invariant.ruled (rw c.self.view_is c.requires.0)
 
-pub invariant_of-facts : goal.invariant_of-facts
-invariant_of-facts c =
-    let is : c.in_ok-facts-inside.field-0 ≡ happened (RuleMade c.args.row) c.args.self = search rules in
-    rw is (rule_made_indexed c.facts.inside.subject_index c.facts.inside.children c.args.row c.args.self (rw c.facts.view_is at c.facts.invariant) c.requires)
+pub finished-requires : goal.finished-requires
+finished-requires c = on_ok c.push_rule-done.result c.push_rule-done.ensures (λ done.
+    let is : c.push_rule-done.new.self ≡ happened (RuleMade c.args.row) c.args.self = rw c.self.view_is at done in
+    rw is (rule_made_indexed c.self.inside.subject_index c.self.inside.children c.args.row c.args.self (rw c.self.view_is at c.self.invariant) c.requires))
+
+pub returns : goal.returns
+returns c = on_finished c.push_rule-done.result c.finished.result c.push_rule-done.new.self (happened (RuleMade c.args.row) c.args.self) c.finished.ensures.made c.finished.ensures.facts (rw c.self.view_is at c.push_rule-done.ensures)

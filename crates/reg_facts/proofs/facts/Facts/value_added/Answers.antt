@@ -1,13 +1,17 @@
-use Rattle.std.proofs.Common.{◌≡◌, rules}
+use Rattle.std.proofs.Common.{◌≡◌}
 use Rattle.reg_terms.specs.declared.event.Event.TheVariants.{ValueAdded}
 use Rattle.reg_facts.specs.Events.{happened}
+use Rattle.reg_facts.proofs.Happening.{on_ok, on_finished}
 use Rattle.reg_facts.proofs.Indexing.{value_added_indexed}
 use Rattle.reg_facts.proofs.facts.Facts.value_added.Goals as goal
 
-pub with_value-requires : goal.with_value-requires
-with_value-requires c = rw c.facts.view_is c.requires.1
+pub push_value-done-requires : goal.push_value-done-requires
+push_value-done-requires c = rw c.self.view_is c.requires.1
 
-pub invariant_of-facts : goal.invariant_of-facts
-invariant_of-facts c =
-    let is : c.in_ok-facts-inside.field-0 ≡ happened (ValueAdded c.args.id c.args.value) c.args.self = search rules in
-    rw is (value_added_indexed c.facts.inside.subject_index c.facts.inside.children c.args.id c.args.value c.args.self (rw c.facts.view_is at c.facts.invariant) c.requires)
+pub finished-requires : goal.finished-requires
+finished-requires c = on_ok c.push_value-done.result c.push_value-done.ensures (λ done.
+    let is : c.push_value-done.new.self ≡ happened (ValueAdded c.args.id c.args.value) c.args.self = rw c.self.view_is at done in
+    rw is (value_added_indexed c.self.inside.subject_index c.self.inside.children c.args.id c.args.value c.args.self (rw c.self.view_is at c.self.invariant) c.requires))
+
+pub returns : goal.returns
+returns c = on_finished c.push_value-done.result c.finished.result c.push_value-done.new.self (happened (ValueAdded c.args.id c.args.value) c.args.self) c.finished.ensures.made c.finished.ensures.facts (rw c.self.view_is at c.push_value-done.ensures)

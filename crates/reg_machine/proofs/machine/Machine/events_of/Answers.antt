@@ -13,6 +13,7 @@ events_of-requires g c =
       attributes = rw c.facts-facts.ensures at c.law_owners.ensures.attributes;
       owners = rw c.facts-facts.ensures at c.law_owners.ensures.owners;
       new_groups = rw c.facts-facts.ensures at c.law_new_group.ensures;
+      jobs_go = rw c.facts-facts.ensures at c.law_job_delete.ensures;
     } in
     rw (c.facts-facts.ensures, c.clock.ensures) (can_edit c.args.self.now.history c.args.self.now.clock c.args.by.now c.args.command.now laws c.requires.allowed c.requires.form)
 
@@ -27,5 +28,6 @@ returns-clause-hold g c =
       attributes = rw c.facts-facts.ensures at c.law_owners.ensures.attributes;
       owners = rw c.facts-facts.ensures at c.law_owners.ensures.owners;
       new_groups = rw c.facts-facts.ensures at c.law_new_group.ensures;
+      jobs_go = rw c.facts-facts.ensures at c.law_job_delete.ensures;
     } in
     all_hold c.args.self.now.history c.args.self.now.clock c.args.by.now c.args.command.now laws c.requires.allowed c.requires.form

@@ -1,0 +1,8 @@
+use Rattle.std.proofs.Common.{◌≡◌, ◌++◌, drop, map}
+use Rattle.reg_view.specs.Past.{past_at}
+use Rattle.reg_view.specs.Texts.{gone_shown}
+use Rattle.reg_view.proofs.admin.groups_shown.Given as goal
+
+-- those so far, and those that are left
+abbrev pub invariant-loop-row : goal.invariant-loop-row
+invariant-loop-row g l = l.shown ++ map (gone_shown (past_at l.machine)) (drop l.row-index l.rows) ≡ map (gone_shown (past_at l.machine)) l.rows
