@@ -48,7 +48,7 @@ class Measured:
             self.peak = 0
             while process.poll() is None:
                 self.peak = max(self.peak, peak_of(process))
-                time.sleep(0.02)
+                time.sleep(0.002)
         self.status = process.returncode
         self.seconds = time.time() - before
         used = resource.getrusage(resource.RUSAGE_CHILDREN)

@@ -36,6 +36,14 @@ def compact(value):
     return json.dumps(value, sort_keys=True, separators=(",", ":"), ensure_ascii=False).encode() + b"\n"
 
 
+def body_of(operation):
+    """The type of an operation's body, and what is said of it; None where it has no body."""
+    if "requestBody" not in operation:
+        return None
+    ((kind, media),) = operation["requestBody"]["content"].items()
+    return kind, media
+
+
 class Example:
     """An example of an operation: what is sent, and what has to come back."""
 
@@ -54,8 +62,10 @@ class Example:
             elif parameter["in"] == "header":
                 caller = value
         body = None
-        if "requestBody" in operation:
-            body = json.dumps(operation["requestBody"]["content"]["application/json"]["examples"][name]["value"]).encode()
+        if body_of(operation):
+            kind, media = body_of(operation)
+            value = media["examples"][name]["value"]
+            body = (json.dumps(value) if kind == "application/json" else value).encode()
         if query:
             target += "?" + urllib.parse.urlencode(query)
         self.sent = message(method.upper(), target, caller, body)
@@ -63,8 +73,8 @@ class Example:
 
 def named(operation):
     """The names of an operation's examples, in the order in which they stand."""
-    if "requestBody" in operation:
-        return list(operation["requestBody"]["content"]["application/json"]["examples"])
+    if body_of(operation):
+        return list(body_of(operation)[1]["examples"])
     names = []
     for response in operation["responses"].values():
         for media in response.get("content", {}).values():

@@ -8,7 +8,7 @@ import sys
 import jsonschema
 import yaml
 
-from http_examples import at, read
+from http_examples import at, body_of, read
 
 OPENAPI = "/usr/share/openapi-specification/schemas/v3.0/schema.json"
 
@@ -28,8 +28,8 @@ def examples(document):
     for path, methods in document["paths"].items():
         for method, operation in methods.items():
             contents = [(parameter["name"], at(document, parameter)) for parameter in operation["parameters"] if "name" in parameter]
-            if "requestBody" in operation:
-                contents.append(("body", operation["requestBody"]["content"]["application/json"]))
+            if body_of(operation):
+                contents.append(("body", body_of(operation)[1]))
             for status, response in operation["responses"].items():
                 contents += [(status, media) for media in at(document, response).get("content", {}).values()]
             for where, content in contents:

@@ -1,28 +1,11 @@
 -- What a message asks, by its path, its method and its caller, and whether it closes its connection.
-use Rattle.std.specs.Prelude.{ℕ, List, Bool, true, false, not, ◌||◌, Option, Some, None, codes, bytes_eq, if◌then◌else◌}
+use Rattle.std.specs.Prelude.{ℕ, List, Bool, not, ◌||◌, Option, Some, None, codes, bytes_eq, if◌then◌else◌}
 use Rattle.std.specs.Str.{is_utf8}
 use Rattle.reg_http.specs.Routes.{path_of, route_of, method_of}
 use Rattle.reg_http.specs.declared.call.Call.{Call}
 use Rattle.reg_http.specs.declared.route.Route.{Route}
-use Rattle.reg_http.specs.declared.route.Route.TheVariants as route
 use Rattle.reg_calls.specs.declared.asked.Asked.{Asked}
 use Rattle.reg_calls.specs.declared.asked.Asked.TheVariants.{NoRoute, NoMethod, NoCaller, Routed}
-
--- what the route stands for is there
-abbrev pub is_built : Route → Bool
-is_built route.Requests = true
-is_built route.Load = false
-is_built route.Group = true
-is_built route.Members = true
-is_built route.Rows = true
-is_built route.History = true
-is_built route.Folder = true
-is_built route.Groups = true
-is_built route.Grants = true
-is_built route.Privileges = true
-is_built route.Attributes = true
-is_built route.Log = true
-is_built route.Admin = true
 
 -- a message of a route: its method is looked at first, and then whether one caller is named
 abbrev pub with_caller : Route → Option (List ℕ) → Asked
@@ -35,7 +18,7 @@ asked_at r call = if bytes_eq call.method (method_of r) then with_caller r call.
 -- a message whose path has this route, if it has one
 abbrev pub asked_by : Option Route → Call → Asked
 asked_by None call = NoRoute
-asked_by (Some r) call = if is_built r then asked_at r call else NoRoute
+asked_by (Some r) call = asked_at r call
 
 -- the route of a target; a path that isn't UTF-8 has none
 unfoldable pub route_in : List ℕ → Option Route

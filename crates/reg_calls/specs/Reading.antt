@@ -1,5 +1,5 @@
 -- What a message of a route asks of the service, or why it is refused in reading.
-use Rattle.std.specs.Prelude.{ℕ, List, Result, Ok, Err, if◌then◌else◌}
+use Rattle.std.specs.Prelude.{ℕ, List, Result, Ok, Err, codes, if◌then◌else◌}
 use Rattle.std.specs.Str.{is_utf8}
 use Rattle.reg_terms.specs.declared.refusal.Refusal.{Refusal}
 use Rattle.reg_terms.specs.declared.refusal.Refusal.TheVariants.{BadRequest}
@@ -12,6 +12,7 @@ use Rattle.reg_http.specs.declared.call.Call.{Call}
 use Rattle.reg_http.specs.declared.parameters.Parameters.{Parameters}
 use Rattle.reg_http.specs.declared.route.Route.{Route}
 use Rattle.reg_http.specs.declared.route.Route.TheVariants as route
+use Rattle.reg_json.specs.Fields.{extension_from}
 use Rattle.reg_json.specs.Reading.{body_reading_of}
 use Rattle.reg_json.specs.Steps.{◌>>=◌}
 use Rattle.reg_calls.specs.Queries.{query_by}
@@ -35,9 +36,16 @@ query_request by r parameters = do
   q ← query_by r parameters
   Ok (record { by = by; op = op.Query q })
 
+-- the run of a job over the table that a body is, whatever its bytes
+abbrev pub load_request : List ℕ → List ℕ → Parameters → Result Request Refusal
+load_request by body parameters = do
+  job ← extension_from (codes "job") parameters.path
+  Ok (record { by = by; op = op.Load job body })
+
 -- what a caller asks by a body, or by what the target tells
 abbrev pub asked_with : Route → List ℕ → List ℕ → Parameters → Result Request Refusal
 asked_with route.Requests by body parameters = body_reading_of by body
+asked_with route.Load by body parameters = load_request by body parameters
 asked_with r by body parameters = query_request by r parameters
 
 -- what a message of a route and a caller asks: first what the target tells is read

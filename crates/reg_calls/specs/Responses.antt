@@ -1,7 +1,7 @@
 -- The response to a message.
 use Rattle.std.specs.Prelude.{ℕ, List, [], ◌∷◌, ◌++◌, Bool, true, Option, Some, None}
 use Rattle.reg_terms.specs.declared.refusal.Refusal.{Refusal}
-use Rattle.reg_terms.specs.declared.refusal.Refusal.TheVariants.{BadRequest, BadName, BadMoment, BadWindow, WrongKind, WrongValue, NoCaller, Denied, NotFound, NoSuch, TooLong, NoRoute, NoMethod, NoLength, Coding, HeadTooLong, NoCallerHeader, BadHead}
+use Rattle.reg_terms.specs.declared.refusal.Refusal.TheVariants.{BadRequest, BadName, BadMoment, BadWindow, WrongKind, BadTable, WrongValue, NoCaller, Denied, NotFound, NoSuch, TooLong, NoRoute, NoMethod, NoLength, Coding, HeadTooLong, NoCallerHeader, BadHead}
 use Rattle.reg_terms.specs.declared.reply.Reply.{Reply}
 use Rattle.reg_terms.specs.declared.reply.Reply.TheVariants as reply
 use Rattle.reg_http.specs.Responses.{response}
@@ -17,6 +17,7 @@ refusal_status (BadName field) = 400
 refusal_status (BadMoment field) = 400
 refusal_status BadWindow = 400
 refusal_status (WrongKind field) = 400
+refusal_status (BadTable row) = 400
 refusal_status WrongValue = 400
 refusal_status NoCallerHeader = 400
 refusal_status BadHead = 400
@@ -35,6 +36,7 @@ refusal_status _ = 409
 -- the status of a reply
 abbrev pub status_of : Reply → ℕ
 status_of (reply.Number n id) = 200
+status_of (reply.Loaded n counts) = 200
 status_of (reply.Answer a) = 200
 status_of (reply.Refused r) = refusal_status r
 status_of reply.NoMemory = 503

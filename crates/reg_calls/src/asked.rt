@@ -1,7 +1,7 @@
 // What a message asks, by its path, its method and its caller.
 ghost use Rattle.std.specs.Prelude.{◌≡◌, List, ℕ};
 ghost use Rattle.reg_http.specs.declared.call.Call.{Call};
-ghost use Rattle.reg_calls.specs.Asked.{asked_of, asked_at, route_in, closes_by, is_built, is_known};
+ghost use Rattle.reg_calls.specs.Asked.{asked_of, asked_at, route_in, closes_by, is_known};
 
 use reg_http::{Call, Route, Routes};
 
@@ -16,27 +16,6 @@ pub enum Asked {
     NoCaller,
     /// What the route stands for.
     Routed(Route),
-}
-
-/// Whether what the route stands for is there.
-fn is_built(route: &Route) -> bool
-    ensures { result ≡ is_built route.now }
-{
-    match route {
-        Route::Requests
-        | Route::Group
-        | Route::Members
-        | Route::Rows
-        | Route::History
-        | Route::Folder
-        | Route::Groups
-        | Route::Grants
-        | Route::Privileges
-        | Route::Attributes
-        | Route::Log
-        | Route::Admin => true,
-        Route::Load => false,
-    }
 }
 
 /// What a message of this route asks.
@@ -65,11 +44,7 @@ pub fn asked_of(routes: &Routes, call: &Call) -> Asked
     ensures { result ≡ asked_of call.now }
 {
     match route_in(routes, call.target.bytes()) {
-        Some(route) => if is_built(&route) {
-            asked_at(route, call)
-        } else {
-            Asked::NoRoute
-        },
+        Some(route) => asked_at(route, call),
         None => Asked::NoRoute,
     }
 }

@@ -67,7 +67,7 @@ fn entity_from(alloc: Global, field: &str, text: &[u8]) -> Result<Entity, Unread
 
 /// The extension that a field's text is.
 #[tactic(auto, unfolding(reg_json::specs::Fields::extension_from))]
-fn extension_from(alloc: Global, field: &str, text: &Text) -> Result<Text, Unread>
+pub(crate) fn extension_from(alloc: Global, field: &str, text: &Text) -> Result<Text, Unread>
     ensures read { Gives result (extension_from field.now text.now) }
     ensures form { IfOk result (λ extension. is_extension extension ≡ true) }
 {

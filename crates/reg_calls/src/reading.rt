@@ -4,9 +4,9 @@ ghost use Rattle.reg_json.specs.Forms.{IsFormed};
 ghost use Rattle.reg_http.specs.declared.route.Route.TheVariants as route;
 ghost use Rattle.reg_calls.specs.Unread.{Gives};
 ghost use Rattle.reg_json.specs.Reading.{body_reading_of};
-ghost use Rattle.reg_calls.specs.Reading.{told_by, parameters_of, query_request, asked_with, reading_of};
+ghost use Rattle.reg_calls.specs.Reading.{told_by, parameters_of, query_request, load_request, asked_with, reading_of};
 
-use crate::queries::query_by;
+use crate::queries::{extension_from, query_by};
 use crate::unread::Unread;
 use reg_base::{Bytes, Text};
 use reg_http::{Call, Parameters, Route, read_parameters};
@@ -66,6 +66,25 @@ fn query_request(
     })
 }
 
+/// The run of a job over the table that a body is.
+fn load_request(
+    alloc: Global,
+    by: &[u8],
+    body: &[u8],
+    parameters: &Parameters,
+) -> Result<Request, Unread>
+    ensures read { Gives result (load_request by.now body.now parameters.now) }
+    ensures form { IfOk result IsFormed }
+{
+    let job = extension_from(alloc, "job", &parameters.path)?;
+    let by = Bytes::of(alloc, by)?;
+    let table = Bytes::of(alloc, body)?;
+    Ok(Request {
+        by,
+        op: Op::Load { job, table },
+    })
+}
+
 /// What is asked by a body, or by what a target tells.
 fn asked_with(
     alloc: Global,
@@ -79,6 +98,7 @@ fn asked_with(
 {
     match route {
         Route::Requests => body_request(alloc, by, body),
+        Route::Load => load_request(alloc, by, body, parameters),
         _ => query_request(alloc, by, route, parameters),
     }
 }

@@ -21,6 +21,7 @@ fn refusal_status(refusal: &Refusal) -> u16
         | Refusal::BadMoment { .. }
         | Refusal::BadWindow
         | Refusal::WrongKind { .. }
+        | Refusal::BadTable { .. }
         | Refusal::WrongValue
         | Refusal::NoCallerHeader
         | Refusal::BadHead => 400,
@@ -41,7 +42,7 @@ fn status_of(reply: &Reply) -> u16
     ensures status { IsStatus result }
 {
     match reply {
-        Reply::Number { .. } | Reply::Answer(_) => 200,
+        Reply::Number { .. } | Reply::Loaded { .. } | Reply::Answer(_) => 200,
         Reply::Refused(refusal) => refusal_status(refusal),
         Reply::NoMemory => 503,
         Reply::KeepFault => 500,

@@ -6,7 +6,7 @@ use Rattle.reg_base.specs.declared.entity.Entity.{Entity}
 use Rattle.reg_base.specs.declared.entity.Entity.TheVariants as entity
 use Rattle.reg_base.specs.declared.privilege.Privilege.TheVariants as privilege
 use Rattle.reg_terms.specs.declared.command.Command.{Command}
-use Rattle.reg_terms.specs.declared.command.Command.TheVariants.{FolderAdd, FolderRename, FolderMove, GroupAdd, GroupRename, SubjectAdd, MemberAdd, MemberRemove, GrantAdd, GrantRemove, InheritAdd, RuleVeto, RuleDelete, ConsumerAdd, ConsumerAck, JobSimple, JobList, JobDelete, AttrdefAdd, AttrAdd, AttrDelete, AssignAdd, ValueAdd}
+use Rattle.reg_terms.specs.declared.command.Command.TheVariants.{FolderAdd, FolderRename, FolderMove, GroupAdd, GroupRename, SubjectAdd, MemberAdd, MemberRemove, GrantAdd, GrantRemove, InheritAdd, RuleVeto, RuleDelete, ConsumerAdd, ConsumerAck, JobSimple, JobList, JobDelete, Load, AttrdefAdd, AttrAdd, AttrDelete, AssignAdd, ValueAdd}
 use Rattle.reg_terms.specs.declared.kinds.DefKind.TheVariants as values
 use Rattle.reg_terms.specs.declared.kinds.InheritKind.TheVariants as kind
 use Rattle.reg_terms.specs.declared.kinds.Owners.{Owners}
@@ -168,6 +168,15 @@ job_is_hidden = refl
 pub root_finds_job : refused (live_of 0 loaded.rows loaded.composites) loaded entity.System (JobDelete (codes "nightly")) ≡ None
 unfolding loaded folders bob ann events_of object_of resolve placed lies_in member extension_of folder_of
 root_finds_job = refl
+
+-- and used by root alone
+pub load_is_hidden : of_bob loaded (Load (codes "nightly") [] [] []) ≡ Some (NotFound (codes "nightly"))
+unfolding loaded folders bob ann events_of object_of resolve placed lies_in member extension_of folder_of
+load_is_hidden = refl
+
+pub root_finds_job_to_load : refused (live_of 0 loaded.rows loaded.composites) loaded entity.System (Load (codes "nightly") [] [] []) ≡ None
+unfolding loaded folders bob ann events_of object_of resolve placed lies_in member extension_of folder_of
+root_finds_job_to_load = refl
 
 pub root_finds_no_other_job : refused (live_of 0 loaded.rows loaded.composites) loaded entity.System (JobDelete (codes "none")) ≡ Some (NotFound (codes "none"))
 unfolding loaded folders bob ann events_of object_of resolve placed lies_in member extension_of folder_of

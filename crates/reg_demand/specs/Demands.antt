@@ -7,7 +7,7 @@ use Rattle.reg_base.specs.declared.entity.Entity.TheVariants as entity
 use Rattle.reg_base.specs.declared.privilege.Privilege.{Privilege}
 use Rattle.reg_base.specs.declared.privilege.Privilege.TheVariants.{Admin, Update, Read, Optin, Optout, GroupAttrRead, GroupAttrUpdate, StemAdmin, Create, StemAttrRead, StemAttrUpdate, AttrAdmin, AttrUpdate}
 use Rattle.reg_terms.specs.declared.command.Command.{Command}
-use Rattle.reg_terms.specs.declared.command.Command.TheVariants.{FolderAdd, FolderRename, FolderMove, FolderDelete, SubjectAdd, GroupAdd, GroupRename, GroupMove, GroupDelete, MemberAdd, MemberRemove, MemberWindow, CompositeSet, CompositeClear, GrantAdd, GrantRemove, InheritAdd, InheritRemove, AttrdefAdd, AttrdefDelete, AttrAdd, AttrDelete, AssignAdd, AssignRemove, ValueAdd, ValueRemove, RuleRemoveLost, RuleEndLost, RuleVeto, RuleOnCreate, RuleDelete, JobSimple, JobList, JobDelete, ConsumerAdd, ConsumerAck}
+use Rattle.reg_terms.specs.declared.command.Command.TheVariants.{FolderAdd, FolderRename, FolderMove, FolderDelete, SubjectAdd, GroupAdd, GroupRename, GroupMove, GroupDelete, MemberAdd, MemberRemove, MemberWindow, CompositeSet, CompositeClear, GrantAdd, GrantRemove, InheritAdd, InheritRemove, AttrdefAdd, AttrdefDelete, AttrAdd, AttrDelete, AssignAdd, AssignRemove, ValueAdd, ValueRemove, RuleRemoveLost, RuleEndLost, RuleVeto, RuleOnCreate, RuleDelete, JobSimple, JobList, JobDelete, Load, ConsumerAdd, ConsumerAck}
 use Rattle.reg_terms.specs.declared.kinds.Object.{Object}
 use Rattle.reg_terms.specs.declared.kinds.Object.TheVariants as object
 use Rattle.reg_facts.specs.Attributes.{definition_id, attribute_id}
@@ -149,5 +149,6 @@ demands by (RuleDelete id) f = Root ∷ []
 demands by (JobSimple job group source min_size max_percent) f = Root ∷ []
 demands by (JobList job folder source min_size max_percent) f = Root ∷ []
 demands by (JobDelete job) f = Root ∷ []
+demands by (Load job created removed added) f = Root ∷ []
 demands by (ConsumerAdd consumer) f = Root ∷ []
 demands by (ConsumerAck consumer seq) f = Root ∷ []

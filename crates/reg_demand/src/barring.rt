@@ -9,7 +9,7 @@ use crate::folders::{folder_delete, folder_move, folder_rename, new_object};
 use crate::grants::{grant_add, grant_remove};
 use crate::groups::{group_delete, group_move, group_rename};
 use crate::inherits::{inherit_add, inherit_remove};
-use crate::jobs::{job_delete, job_list, job_simple};
+use crate::jobs::{job_list, job_simple, of_job};
 use crate::memberships::{member_add, member_remove, member_window};
 use crate::rules::{rule_of_groups, rule_on_create};
 use crate::subjects::demand_root;
@@ -138,7 +138,8 @@ pub fn barred<K: Kept>(
         Command::RuleDelete { .. } => demand_root(alloc, facts, kept, who),
         Command::JobSimple { group, .. } => job_simple(alloc, facts, kept, who, group),
         Command::JobList { folder, .. } => job_list(alloc, facts, kept, who, folder),
-        Command::JobDelete { job } => job_delete(alloc, facts, kept, who, job),
+        Command::JobDelete { job } => of_job(alloc, facts, kept, who, job),
+        Command::Load { job, .. } => of_job(alloc, facts, kept, who, job),
         Command::ConsumerAdd { .. } => demand_root(alloc, facts, kept, who),
         Command::ConsumerAck { consumer, seq } => {
             consumer_ack(alloc, facts, kept, by, who, consumer, *seq)

@@ -44,8 +44,8 @@ pub fn job_list<K: Kept>(
     demand_root(alloc, facts, kept, who)
 }
 
-/// The caller is root, who alone sees jobs, and the job stands.
-pub fn job_delete<K: Kept>(
+/// A command about a job that is named: the caller is root, who alone sees jobs, and the job stands.
+pub fn of_job<K: Kept>(
     alloc: Global,
     facts: &Facts,
     kept: &K,

@@ -1,12 +1,13 @@
 -- What happens to the facts, event by event, and the events that a command makes.
-use Rattle.std.specs.Prelude.{ℕ, ◌+◌, ◌==◌, Bool, List, [], ◌∷◌, ◌++◌, not, Option, None, Some, map, filter, if◌then◌else◌}
+use Rattle.std.specs.Prelude.{ℕ, ◌+◌, ◌==◌, Bool, true, false, List, [], ◌∷◌, ◌++◌, not, Option, None, Some, map, filter, if◌then◌else◌}
 use Rattle.reg_base.specs.NameParts.{extension_of}
 use Rattle.reg_base.specs.declared.entity.Entity.{Entity}
 use Rattle.reg_terms.specs.declared.command.Command.{Command}
-use Rattle.reg_terms.specs.declared.command.Command.TheVariants.{FolderAdd, FolderRename, FolderMove, FolderDelete, SubjectAdd, GroupAdd, GroupRename, GroupMove, GroupDelete, MemberAdd, MemberRemove, MemberWindow, CompositeSet, CompositeClear, GrantAdd, GrantRemove, InheritAdd, InheritRemove, AttrdefAdd, AttrdefDelete, AttrAdd, AttrDelete, AssignAdd, AssignRemove, ValueAdd, ValueRemove, RuleRemoveLost, RuleEndLost, RuleVeto, RuleOnCreate, RuleDelete, JobSimple, JobList, JobDelete, ConsumerAdd, ConsumerAck}
+use Rattle.reg_terms.specs.declared.command.Command.TheVariants.{FolderAdd, FolderRename, FolderMove, FolderDelete, SubjectAdd, GroupAdd, GroupRename, GroupMove, GroupDelete, MemberAdd, MemberRemove, MemberWindow, CompositeSet, CompositeClear, GrantAdd, GrantRemove, InheritAdd, InheritRemove, AttrdefAdd, AttrdefDelete, AttrAdd, AttrDelete, AssignAdd, AssignRemove, ValueAdd, ValueRemove, RuleRemoveLost, RuleEndLost, RuleVeto, RuleOnCreate, RuleDelete, JobSimple, JobList, JobDelete, Load, ConsumerAdd, ConsumerAck}
 use Rattle.reg_terms.specs.declared.event.Event.{Event}
 use Rattle.reg_terms.specs.declared.event.Event.TheVariants.{FolderMade, FolderRenamed, FolderMoved, FolderGone, SubjectMade, GroupMade, GroupRenamed, GroupMoved, GroupGone, RowAdded, RowRemoved, RowRedated, Composed, Decomposed, GrantAdded, GrantRemoved, InheritAdded, InheritRemoved, DefinitionMade, DefinitionGone, AttributeMade, AttributeGone, AssignMade, AssignGone, ValueAdded, ValueRemoved, RuleMade, RuleGone, JobMade, JobGone, ConsumerAdded, ConsumerAcked}
 use Rattle.reg_terms.specs.declared.kinds.Member.{Member}
+use Rattle.reg_terms.specs.declared.kinds.Member.TheVariants.{Person}
 use Rattle.reg_terms.specs.declared.kinds.AttrValue.{AttrValue}
 use Rattle.reg_terms.specs.declared.kinds.DefKind.{DefKind}
 use Rattle.reg_terms.specs.declared.kinds.Object.{Object}
@@ -25,10 +26,12 @@ use Rattle.reg_terms.specs.declared.rows.AssignRow.{AssignRow}
 use Rattle.reg_terms.specs.declared.rows.RuleRow.{RuleRow}
 use Rattle.reg_terms.specs.declared.rows.JobRow.{JobRow}
 use Rattle.reg_terms.specs.declared.kinds.RuleForm.{RuleForm}
+use Rattle.reg_terms.specs.declared.lists.LoadRow.{LoadRow}
+use Rattle.reg_terms.specs.declared.rows.PersonRow.{PersonRow}
 use Rattle.reg_base.specs.declared.privilege.Privilege.TheVariants.{Admin, StemAdmin, AttrAdmin}
 use Rattle.reg_terms.specs.Values.{with_value, without_value}
 use Rattle.reg_facts.specs.Attributes.{attribute_id, definition_id, value_of}
-use Rattle.reg_facts.specs.Edits.{member_of, is_row, is_composite, the_id, person_text, from_or, folder_renamed, folder_moved, group_renamed, group_moved, windowed, without_notes}
+use Rattle.reg_facts.specs.Edits.{member_of, is_row, is_composite, the_id, person_text, from_or, folder_renamed, folder_moved, group_renamed, group_moved, subject_id, windowed, without_notes}
 use Rattle.reg_facts.specs.Consumers.{acknowledged}
 use Rattle.reg_facts.specs.Grants.{same_grant, same_inherit, object_of, grant_of, inherit_of, makers_grant}
 use Rattle.reg_facts.specs.Jobs.{job_by}
@@ -155,6 +158,53 @@ new_groups_grants by group f =
     let makers = makers_grant by (Group id) Admin f in
     makers ++ not_yet makers (creation_grants id (the_id (home_id group f)) f.folders f.rules)
 
+-- ---- what a load makes happen: groups are made, rows of persons go, and rows of persons come
+
+-- a group of this name is made, with no display text, and the grants on it
+abbrev pub group_events : Entity → List ℕ → Lists → List Event
+group_events by name f = GroupMade (new_group name [] f) ∷ grants_added (new_groups_grants by name f)
+
+-- groups are made, each on the facts after those before
+abbrev pub groups_events : Entity → List (List ℕ) → Lists → List Event
+groups_events by [] f = []
+groups_events by (name ∷ names) f = group_events by name f ++ groups_events by names (all_happened (group_events by name f) f)
+
+-- the facts after groups are made
+abbrev pub with_groups : Entity → List (List ℕ) → Lists → Lists
+with_groups by names f = all_happened (groups_events by names f) f
+
+-- the row that two names speak of
+abbrev pub row_named : Lists → LoadRow → PersonRow
+row_named f row = record { group = the_id (group_id row.group f); person = the_id (subject_id row.person f.subjects) }
+
+-- a row goes
+abbrev pub row_goes : PersonRow → Event
+row_goes row = RowRemoved row.group (Person row.person)
+
+-- a row that comes at a moment has no end
+abbrev pub new_row : ℕ → PersonRow → MemberRow
+new_row at row = record { group = row.group; member = Person row.person; from = at; until = None }
+
+abbrev pub row_comes : ℕ → PersonRow → Event
+row_comes at row = RowAdded (new_row at row)
+
+-- the rows of a load go and come
+abbrev pub rows_events : ℕ → List PersonRow → List PersonRow → List Event
+rows_events at removed added = map row_goes removed ++ map (row_comes at) added
+
+-- the events of a load that acts at a moment, by a caller: its groups are made, then its rows go and come; names are those of the facts with the groups
+unfoldable pub load_events : ℕ → Entity → List (List ℕ) → List LoadRow → List LoadRow → Lists → List Event
+load_events at by created removed added f =
+    let g = with_groups by created f in
+    groups_events by created f ++ rows_events at (map (row_named g) removed) (map (row_named g) added)
+
+-- ---- what a command makes happen
+
+-- whether a command is a load
+abbrev pub is_load : Command → Bool
+is_load (Load job created removed added) = true
+is_load _ = false
+
 -- the events of a command that acts at a moment, by a caller, in order
 unfoldable pub events_of : ℕ → Entity → Command → Lists → List Event
 events_of at by (FolderAdd folder display) f = FolderMade (new_folder folder display f) ∷ grants_added (makers_grant by (Folder (f.made.folders + 1)) StemAdmin f)
@@ -191,6 +241,7 @@ events_of at by (RuleDelete id) f = RuleGone id ∷ []
 events_of at by (JobSimple job group source min_size max_percent) f = JobMade (new_job job (Group (the_id (group_id group f))) source min_size max_percent f) ∷ []
 events_of at by (JobList job folder source min_size max_percent) f = JobMade (new_job job (Folder (the_id (folder_id folder f))) source min_size max_percent f) ∷ []
 events_of at by (JobDelete job) f = on_job (job_by job f.jobs)
+events_of at by (Load job created removed added) f = load_events at by created removed added f
 events_of at by (ConsumerAdd consumer) f = ConsumerAdded (record { name = consumer; place = 0 }) ∷ []
 events_of at by (ConsumerAck consumer seq) f = ConsumerAcked consumer seq ∷ []
 

@@ -39,12 +39,13 @@ use Rattle.reg_json.specs.Flat.{moment_data}
 use Rattle.reg_json.specs.Refusals.{refusal_data, refused}
 use Rattle.reg_json.specs.AdminReplies.{consumer_data, gone_data, job_data, rule_data}
 use Rattle.reg_json.specs.Replies.{accepted_data, strings, row_data, row_items, kind_word, factors_data, grant_data, names_of, span_data, entry_data, value_data, assign_data, answer_data, reply_data, text}
-use Rattle.reg_json.specs.Taking.{has, text_in, number_in, optional_number_in, items_in, all_of, row_from, kind_in, factors_from, factors_or_null, privilege_from, privilege_in, grant_from, span_from, entry_kind_in, entry_from, value_from, assign_from, consumer_from, gone_from, job_from, rule_from, consumers_in, gone_in, jobs_in, rules_in, group_from, listing_from, members_from, memberships_from, groups_from, grants_from, may_from, attributes_from, history_from, admin_from, log_from, list_from, answer_from, bare_refusal, http_refusal, field_refusal, object_refusal, denied_from, future_from, place_from, full_from, limit_from, named_from, with_object, with_field, with_nothing, other_refusal, refusal_from, accepted_from, fault_from, reply_from, reply_of}
+use Rattle.reg_json.specs.Taking.{has, text_in, number_in, optional_number_in, items_in, all_of, row_from, kind_in, factors_from, factors_or_null, privilege_from, privilege_in, grant_from, span_from, entry_kind_in, entry_from, value_from, assign_from, consumer_from, gone_from, job_from, rule_from, consumers_in, gone_in, jobs_in, rules_in, group_from, listing_from, members_from, memberships_from, groups_from, grants_from, may_from, attributes_from, history_from, admin_from, log_from, list_from, answer_from, bare_refusal, http_refusal, field_refusal, object_refusal, denied_from, future_from, place_from, full_from, limit_from, named_from, with_object, with_field, with_nothing, failsafe_from, load_refusal, other_refusal, refusal_from, accepted_from, fault_from, reply_from, reply_of}
 use Rattle.reg_json.specs.Told.{told_value, told_assign, told_answer, told}
 use Rattle.reg_json.specs.Writable.{is_u32, is_u64, is_optional_u64, row_fits, span_fits, entry_fits, value_fits, assign_fits, consumer_fits, gone_fits, job_fits, rule_fits, answer_fits, refusal_fits, reply_fits, IsWritable}
 use Rattle.reg_json.proofs.Plain.{is_plain, are_plain, plain_read, all_plain, all_flat}
 use Rattle.reg_json.proofs.UnderKeys.{all_again, all_any, any, moment_there, name_there, optional_there, privilege_again, small_there, texts_there}
 use Rattle.reg_json.proofs.AdminBack.{consumer_again, consumer_plain, gone_again, gone_plain, job_again, job_plain, rule_again, rule_plain, rule_flat, wide}
+use Rattle.reg_json.proofs.LoadedBack.{loaded_again, loaded_flat, loaded_plain}
 
 -- ---- what queries show
 
@@ -185,7 +186,7 @@ answer_again (answer.Admin consumers gone jobs rules) h =
 -- ---- refusals
 
 refusal_again : (r : Refusal) → refusal_fits r ≡ true → refusal_from (refusal_data r) ≡ Some r
-unfolding refusal_from refusal_data refused has number_in text_in with_field field_refusal with_object named_from object_refusal denied_from other_refusal limit_from full_from future_from place_from with_nothing bare_refusal http_refusal
+unfolding refusal_from refusal_data refused has number_in text_in with_field field_refusal with_object named_from object_refusal denied_from other_refusal limit_from full_from future_from place_from load_refusal failsafe_from with_nothing bare_refusal http_refusal
 refusal_again (refusal.Future asked clock) h =
     let both = and_parts (is_moment asked) (is_moment clock) h in
     let d = refusal_data (refusal.Future asked clock) in
@@ -213,6 +214,8 @@ refusal_again refusal.Single h = refl
 refusal_again (refusal.Place kept last) h = refl
 refusal_again (refusal.Full kind limit) h = refl
 refusal_again (refusal.Vetoed rule) h = refl
+refusal_again (refusal.BadTable row) h = refl
+refusal_again (refusal.Failsafe before removes) h = refl
 refusal_again refusal.NoRoute h = refl
 refusal_again refusal.NoMethod h = refl
 refusal_again refusal.NoLength h = refl
@@ -249,6 +252,8 @@ fault_again refusal.Single = refl
 fault_again (refusal.Place kept last) = refl
 fault_again (refusal.Full kind limit) = refl
 fault_again (refusal.Vetoed rule) = refl
+fault_again (refusal.BadTable row) = refl
+fault_again (refusal.Failsafe before removes) = refl
 fault_again refusal.NoRoute = refl
 fault_again refusal.NoMethod = refl
 fault_again refusal.NoLength = refl
@@ -287,6 +292,7 @@ disk_again = refl
 reply_again : (r : Reply) → reply_fits r ≡ true → reply_from (reply_data r) ≡ Some (told r)
 unfolding reply_data
 reply_again (reply.Number n id) h = number_again n id
+reply_again (reply.Loaded n counts) h = loaded_again n counts
 reply_again (reply.Answer a) h = answer_goes a ∙ ap (option_map (λ v. reply.Answer v)) (answer_again a h)
 reply_again (reply.Refused r) h = fault_again r ∙ ap (option_map (λ v. reply.Refused v)) (refusal_again r h)
 reply_again reply.NoMemory h = memory_again
@@ -398,6 +404,10 @@ refusal_plain (refusal.Place kept last) h =
     rw (both.0, both.1) refl
 refusal_plain (refusal.Full kind limit) h = rw h refl
 refusal_plain (refusal.Vetoed rule) h = rw h refl
+refusal_plain (refusal.BadTable row) h = rw h refl
+refusal_plain (refusal.Failsafe before removes) h =
+    let both = and_parts (is_u64 before) (is_u64 removes) h in
+    rw (both.0, both.1) refl
 refusal_plain (refusal.Future asked clock) h = refl
 refusal_plain (refusal.BadRequest field) h = refl
 refusal_plain (refusal.BadName field) h = refl
@@ -452,6 +462,8 @@ refusal_flat refusal.Single = lit≤ tt
 refusal_flat (refusal.Place kept last) = lit≤ tt
 refusal_flat (refusal.Full kind limit) = lit≤ tt
 refusal_flat (refusal.Vetoed rule) = lit≤ tt
+refusal_flat (refusal.BadTable row) = lit≤ tt
+refusal_flat (refusal.Failsafe before removes) = lit≤ tt
 refusal_flat refusal.NoRoute = lit≤ tt
 refusal_flat refusal.NoMethod = lit≤ tt
 refusal_flat refusal.NoLength = lit≤ tt
@@ -473,6 +485,7 @@ accepted_flat n (Some id) = lit≤ tt
 reply_plain : (r : Reply) → reply_fits r ≡ true → is_plain (reply_data r) ≡ true
 unfolding reply_data
 reply_plain (reply.Number n id) h = accepted_plain n id h
+reply_plain (reply.Loaded n counts) h = loaded_plain n counts h
 reply_plain (reply.Answer a) h = answer_plain a h
 reply_plain (reply.Refused r) h = refusal_plain r h
 reply_plain reply.NoMemory h = refl
@@ -481,6 +494,7 @@ reply_plain reply.KeepFault h = refl
 reply_flat : (r : Reply) → depth (reply_data r) ≤ 127
 unfolding reply_data
 reply_flat (reply.Number n id) = accepted_flat n id
+reply_flat (reply.Loaded n counts) = loaded_flat n counts
 reply_flat (reply.Answer a) = answer_flat a
 reply_flat (reply.Refused r) = refusal_flat r
 reply_flat reply.NoMemory = lit≤ tt

@@ -4,6 +4,7 @@ use Rattle.std.specs.List.{list_all, starts_with}
 use Rattle.std.specs.Str.{IsUtf8, bytes_eq}
 use Rattle.std.proofs.lemmas.Bool.{and_from, and_parts, le-leb}
 use Rattle.std.proofs.lemmas.Str.{is_utf8-from_IsUtf8}
+use Rattle.std.proofs.Math.Bool.{and-true}
 use Rattle.serde_json.specs.Data.{Data}
 use Rattle.serde_json.specs.Find.{get, as_object}
 use Rattle.reg_base.specs.Names.{is_extension, is_name, is_person, is_source, name_of}
@@ -162,6 +163,9 @@ form_kept kind.Owners key d = step (owners_form key d) (λ v e. last (record { i
 form_kept kind.Flag key d = pass (flag_at key d) (λ v. last (record { is_kind = refl; fits = refl }))
 form_kept kind.DefKind key d = pass (def_kind_at key d) (λ v. last (record { is_kind = refl; fits = refl }))
 form_kept kind.Value key d = step (value_form key d) (λ v e. last (record { is_kind = refl; fits = e }))
+form_kept kind.Names key d = record { kept = tt }
+form_kept kind.LoadRows key d = record { kept = tt }
+form_kept kind.Table key d = pass_text key d (λ text. last (record { is_kind = refl; fits = refl }))
 form_kept (kind.Number least most) key d = step (number_form least most key d) (λ v e. last (record { is_kind = refl; fits = e }))
 
 record AreForms (ks : List FieldKind) (fs : List Field) : Type 0 where
@@ -188,6 +192,7 @@ form_is : (o : Op) → op_has_form o ≡ list_all is_field (op_fields o)
 unfolding has_form query_has_form
 form_is (asked.Command c) = refl
 form_is (asked.Query q) = refl
+form_is (asked.Load job table) = sym (and-true (is_extension job))
 
 made_form : TableMakes → (k : OpKind) (fs : List Field) → AreForms (field_kinds (row_of k)) fs → IfSome (made k fs) ReadForm
 made_form table k fs q =

@@ -1,5 +1,5 @@
 -- What an object asks, by the row of its op: first its fields stand there and no others do, then each has its form.
-use Rattle.std.specs.Prelude.{ℕ, List, [], ◌∷◌, Bool, true, Result, Ok, ok_or}
+use Rattle.std.specs.Prelude.{ℕ, List, [], ◌∷◌, Bool, true, Result, Ok, Err, ok_or}
 use Rattle.serde_json.specs.Data.{Data}
 use Rattle.serde_json.specs.Find.{as_object}
 use Rattle.reg_terms.specs.declared.field.FieldKind.{FieldKind}
@@ -18,7 +18,7 @@ use Rattle.reg_json.specs.Fields.{known_keys, no_other, text_at, optional_text_a
 
 -- ---- by the kinds of fields
 
--- a field stands there
+-- a field stands there; a table is any text, and no request brings names or rows of a load
 abbrev pub stands_at : FieldKind → List ℕ → Data → Result Bool Refusal
 stands_at kind.Name key d = do
   text ← text_at key d
@@ -67,6 +67,11 @@ stands_at kind.DefKind key d = do
   Ok true
 stands_at kind.Value key d = do
   value ← value_at key d
+  Ok true
+stands_at kind.Names key d = Err (BadRequest key)
+stands_at kind.LoadRows key d = Err (BadRequest key)
+stands_at kind.Table key d = do
+  text ← text_at key d
   Ok true
 stands_at (kind.Number least most) key d = do
   value ← number_at least most key d
@@ -129,6 +134,11 @@ form_at kind.DefKind key d = do
 form_at kind.Value key d = do
   value ← value_at key d
   Ok (field.Value value)
+form_at kind.Names key d = Err (BadRequest key)
+form_at kind.LoadRows key d = Err (BadRequest key)
+form_at kind.Table key d = do
+  text ← text_at key d
+  Ok (field.Table text)
 form_at (kind.Number least most) key d = do
   value ← number_at least most key d
   Ok (field.Number value least most)

@@ -8,7 +8,8 @@ use Rattle.reg_terms.specs.declared.refusal.Refusal.TheVariants as refusal
 
 -- what a refusal carries: nothing, a limit, a field or an object by its text, an object and the privilege that is
 -- demanded on it, the moment asked of and the clock's by their texts, a use, a kind of which there would be more than
--- its limit, the rule that forbids, or the number that a consumer had and the log's last
+-- its limit, the rule that forbids, a record of a table, how many rows there were before a load and how many it would
+-- remove, or the number that a consumer had and the log's last
 pub data Carries : Type 0 where
   nothing : Carries
   limit : ℕ → Carries
@@ -20,6 +21,8 @@ pub data Carries : Type 0 where
   moments : List ℕ → List ℕ → Carries
   places : ℕ → ℕ → Carries
   rule : ℕ → Carries
+  row : ℕ → Carries
+  removal : ℕ → ℕ → Carries
 
 -- a refusal by its number, its word and what it carries
 unfoldable pub refused : ℕ → List ℕ → Carries → Data
@@ -33,6 +36,8 @@ refused code word (count kind n) = json.object (member (codes "code") (number (u
 refused code word (moments asked clock) = json.object (member (codes "asked") (string asked) (member (codes "clock") (string clock) (member (codes "code") (number (unsigned code)) (member (codes "refused") (string word) no_members))))
 refused code word (places kept last) = json.object (member (codes "code") (number (unsigned code)) (member (codes "kept") (number (unsigned kept)) (member (codes "last") (number (unsigned last)) (member (codes "refused") (string word) no_members))))
 refused code word (rule id) = json.object (member (codes "code") (number (unsigned code)) (member (codes "refused") (string word) (member (codes "rule") (number (unsigned id)) no_members)))
+refused code word (row n) = json.object (member (codes "code") (number (unsigned code)) (member (codes "record") (number (unsigned n)) (member (codes "refused") (string word) no_members)))
+refused code word (removal before removes) = json.object (member (codes "before") (number (unsigned before)) (member (codes "code") (number (unsigned code)) (member (codes "refused") (string word) (member (codes "removes") (number (unsigned removes)) no_members))))
 
 -- each refusal as JSON data
 unfoldable pub refusal_data : Refusal → Data
@@ -58,6 +63,8 @@ refusal_data refusal.WrongOwner = refused 19 (codes "WrongOwner") nothing
 refusal_data refusal.WrongValue = refused 20 (codes "WrongValue") nothing
 refusal_data refusal.Single = refused 21 (codes "Single") nothing
 refusal_data (refusal.Vetoed id) = refused 22 (codes "Vetoed") (rule id)
+refusal_data (refusal.BadTable n) = refused 23 (codes "BadTable") (row n)
+refusal_data (refusal.Failsafe before removes) = refused 24 (codes "Failsafe") (removal before removes)
 refusal_data (refusal.Place kept last) = refused 25 (codes "Place") (places kept last)
 refusal_data (refusal.Full kind n) = refused 26 (codes "Full") (count kind n)
 refusal_data refusal.NoRoute = refused 30 (codes "NoRoute") nothing

@@ -20,6 +20,7 @@ use Rattle.reg_terms.specs.declared.shown.RowShown.{RowShown}
 use Rattle.reg_terms.specs.EntryWords.{word_of}
 use Rattle.reg_terms.specs.declared.changes_shown.SpanShown.{SpanShown}
 use Rattle.reg_terms.specs.declared.changes_shown.EntryShown.{EntryShown}
+use Rattle.reg_terms.specs.declared.reply.LoadCounts.{LoadCounts}
 use Rattle.reg_terms.specs.declared.reply.Reply.{Reply}
 use Rattle.reg_terms.specs.declared.reply.Reply.TheVariants as reply
 use Rattle.reg_json.specs.AdminReplies.{consumer_items, gone_items, job_items, rule_items}
@@ -113,9 +114,14 @@ abbrev pub accepted_data : ℕ → Option ℕ → Data
 accepted_data n None = object (member (codes "number") (number (unsigned n)) (member (codes "ok") (boolean true) no_members))
 accepted_data n (Some id) = object (member (codes "id") (number (unsigned id)) (member (codes "number") (number (unsigned n)) (member (codes "ok") (boolean true) no_members)))
 
+-- an accepted load's number and counts as JSON data
+unfoldable pub loaded_data : ℕ → LoadCounts → Data
+loaded_data n counts = object (member (codes "added") (number (unsigned counts.added)) (member (codes "bad_group") (number (unsigned counts.bad_group)) (member (codes "created") (number (unsigned counts.created)) (member (codes "number") (number (unsigned n)) (member (codes "ok") (boolean true) (member (codes "removed") (number (unsigned counts.removed)) (member (codes "repeated") (number (unsigned counts.repeated)) (member (codes "unchanged") (number (unsigned counts.unchanged)) (member (codes "unknown") (number (unsigned counts.unknown)) (member (codes "vetoed") (number (unsigned counts.vetoed)) no_members))))))))))
+
 -- a reply as JSON data
 unfoldable pub reply_data : Reply → Data
 reply_data (reply.Number n id) = accepted_data n id
+reply_data (reply.Loaded n counts) = loaded_data n counts
 reply_data (reply.Answer a) = answer_data a
 reply_data (reply.Refused r) = refusal_data r
 reply_data reply.NoMemory = object (member (codes "fault") (string (codes "memory")) no_members)

@@ -4,7 +4,7 @@ use Rattle.reg_base.specs.MomentText.{text_of}
 use Rattle.reg_json.specs.declared.said.Said.{Said}
 use Rattle.reg_json.specs.declared.said.Carried.{Carried}
 use Rattle.reg_json.specs.declared.said.Carried.TheVariants as carried
-use Rattle.reg_json.specs.Refusals.{Carries, nothing, limit, field, object, demand, used, count, moments, places, rule, refused}
+use Rattle.reg_json.specs.Refusals.{Carries, nothing, limit, field, object, demand, used, count, moments, places, rule, row, removal, refused}
 
 abbrev pub carries : Carried → Carries
 carries carried.Nothing = nothing
@@ -17,6 +17,8 @@ carries (carried.Count kind n) = count kind.now n
 carries (carried.Moments asked clock) = moments (text_of asked.now) (text_of clock.now)
 carries (carried.Places kept last) = places kept last
 carries (carried.Rule id) = rule id
+carries (carried.Row n) = row n
+carries (carried.Removal before removes) = removal before removes
 
 abbrev pub said_data : Said → Data
 said_data said = refused said.code said.word.now (carries said.carried)

@@ -31,6 +31,7 @@ use Rattle.reg_terms.specs.declared.query.Answer.{Answer}
 use Rattle.reg_terms.specs.declared.query.Answer.TheVariants as answer
 use Rattle.reg_terms.specs.declared.refusal.Refusal.{Refusal}
 use Rattle.reg_terms.specs.declared.refusal.Refusal.TheVariants as refusal
+use Rattle.reg_terms.specs.declared.reply.LoadCounts.{LoadCounts}
 use Rattle.reg_terms.specs.declared.reply.Reply.{Reply}
 use Rattle.reg_terms.specs.declared.reply.Reply.TheVariants as reply
 use Rattle.reg_json.specs.Fields.{whole_number, composite_kind, scope}
@@ -474,13 +475,26 @@ with_field code d = do
 unfoldable pub with_nothing : ℕ → Option Refusal
 with_nothing code = if nat_lt code 30 then bare_refusal code else http_refusal code
 
+-- too large a removal
+unfoldable pub failsafe_from : Data → Option Refusal
+failsafe_from d = do
+  before ← number_in (codes "before") d
+  removes ← number_in (codes "removes") d
+  Some (refusal.Failsafe before removes)
+
+-- a refusal of a load, or one that carries nothing
+unfoldable pub load_refusal : ℕ → Data → Option Refusal
+load_refusal code d =
+    if has (codes "record") d then option_map (λ v. refusal.BadTable v) (number_in (codes "record") d) else
+    (if has (codes "before") d then failsafe_from d else with_nothing code)
+
 -- a refusal that carries numbers or moments, or nothing
 unfoldable pub other_refusal : ℕ → Data → Option Refusal
 other_refusal code d =
     if has (codes "limit") d then limit_from d else
     (if has (codes "asked") d then future_from d else
     (if has (codes "kept") d then place_from d else
-    (if has (codes "rule") d then option_map (λ v. refusal.Vetoed v) (number_in (codes "rule") d) else with_nothing code)))
+    (if has (codes "rule") d then option_map (λ v. refusal.Vetoed v) (number_in (codes "rule") d) else load_refusal code d)))
 
 -- a refusal, by its number and what it carries
 unfoldable pub refusal_from : Data → Option Refusal
@@ -506,12 +520,33 @@ accepted_from d = do
   id ← optional_number_in (codes "id") d
   Some (reply.Number number id)
 
+-- what a load did, count by count
+unfoldable pub counts_from : Data → Option LoadCounts
+counts_from d = do
+  added ← number_in (codes "added") d
+  bad_group ← number_in (codes "bad_group") d
+  created ← number_in (codes "created") d
+  removed ← number_in (codes "removed") d
+  repeated ← number_in (codes "repeated") d
+  unchanged ← number_in (codes "unchanged") d
+  unknown ← number_in (codes "unknown") d
+  vetoed ← number_in (codes "vetoed") d
+  Some (record { created = created; removed = removed; added = added; unchanged = unchanged; unknown = unknown; repeated = repeated; vetoed = vetoed; bad_group = bad_group })
+
+-- an accepted load's number, and what it did
+unfoldable pub loaded_from : Data → Option Reply
+loaded_from d = do
+  number ← number_in (codes "number") d
+  counts ← counts_from d
+  Some (reply.Loaded number counts)
+
 -- a reply, by a key that none of those behind it has
 unfoldable pub reply_from : Data → Option Reply
 reply_from d =
     if has (codes "fault") d then fault_from d else
     (if has (codes "refused") d then option_map (λ v. reply.Refused v) (refusal_from d) else
-    (if has (codes "number") d then accepted_from d else option_map (λ v. reply.Answer v) (answer_from d)))
+    (if has (codes "added") d then loaded_from d else
+    (if has (codes "number") d then accepted_from d else option_map (λ v. reply.Answer v) (answer_from d))))
 
 -- what a text says that is JSON
 unfoldable pub reply_of : List ℕ → Option Reply

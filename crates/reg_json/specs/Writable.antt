@@ -20,6 +20,7 @@ use Rattle.reg_terms.specs.declared.query.Answer.{Answer}
 use Rattle.reg_terms.specs.declared.query.Answer.TheVariants as answer
 use Rattle.reg_terms.specs.declared.refusal.Refusal.{Refusal}
 use Rattle.reg_terms.specs.declared.refusal.Refusal.TheVariants as refusal
+use Rattle.reg_terms.specs.declared.reply.LoadCounts.{LoadCounts}
 use Rattle.reg_terms.specs.declared.reply.Reply.{Reply}
 use Rattle.reg_terms.specs.declared.reply.Reply.TheVariants as reply
 use Rattle.reg_json.specs.Replies.{text}
@@ -95,11 +96,20 @@ refusal_fits (refusal.Future asked clock) = is_moment asked && is_moment clock
 refusal_fits (refusal.Place kept last) = is_u64 kept && is_u64 last
 refusal_fits (refusal.Full kind limit) = is_u64 limit
 refusal_fits (refusal.Vetoed rule) = is_u64 rule
+refusal_fits (refusal.BadTable row) = is_u64 row
+refusal_fits (refusal.Failsafe before removes) = is_u64 before && is_u64 removes
 refusal_fits _ = true
+
+-- the counts of a load have 64 bits
+abbrev pub counts_fit : LoadCounts → Bool
+counts_fit counts =
+    is_u64 counts.added && (is_u64 counts.bad_group && (is_u64 counts.created && (is_u64 counts.removed
+    && (is_u64 counts.repeated && (is_u64 counts.unchanged && (is_u64 counts.unknown && is_u64 counts.vetoed))))))
 
 -- and those of a reply
 abbrev pub reply_fits : Reply → Bool
 reply_fits (reply.Number number id) = is_u64 number && is_optional_u64 id
+reply_fits (reply.Loaded number counts) = is_u64 number && counts_fit counts
 reply_fits (reply.Answer a) = answer_fits a
 reply_fits (reply.Refused r) = refusal_fits r
 reply_fits _ = true

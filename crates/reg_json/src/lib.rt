@@ -21,6 +21,7 @@ mod shown_attributes;
 mod taken_admin;
 mod taken_answer;
 mod taken_attributes;
+mod taken_loaded;
 mod taken_refusal;
 mod taken_shown;
 mod taking;

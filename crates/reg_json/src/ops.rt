@@ -13,7 +13,7 @@ use crate::fields::{
 use crate::forms::{
     entity_from, extension_from, folder_from, moment_from, name_from, object_from, source_from,
 };
-use reg_base::Text;
+use reg_base::{Bytes, Text};
 use reg_terms::{Field, FieldKind, Op, OpKind, made, row_of};
 use serde_json::Value;
 use std::alloc::Global;
@@ -28,10 +28,13 @@ fn stands_at(alloc: Global, value: &Value, key: &str, kind: FieldKind) -> Result
         | FieldKind::Extension
         | FieldKind::Source
         | FieldKind::Entity
-        | FieldKind::Object => match text_at(alloc, value, key) {
+        | FieldKind::Object
+        | FieldKind::Table => match text_at(alloc, value, key) {
             Ok(_) => Ok(true),
             Err(fault) => Err(fault),
         },
+        // no op that a request asks has such a field
+        FieldKind::Names | FieldKind::LoadRows => Err(bad(alloc, key)),
         FieldKind::Display => match display_at(alloc, value, key) {
             Ok(_) => Ok(true),
             Err(fault) => Err(fault),
@@ -155,6 +158,12 @@ fn form_at(alloc: Global, value: &Value, key: &str, kind: FieldKind) -> Result<F
             Ok(given) => Ok(Field::Value(given)),
             Err(fault) => Err(fault),
         },
+        FieldKind::Names | FieldKind::LoadRows => Err(bad(alloc, key)),
+        FieldKind::Table => {
+            let text = text_at(alloc, value, key)?;
+            let table = Bytes::of(alloc, text.as_bytes())?;
+            Ok(Field::Table(table))
+        }
         FieldKind::Number { least, most } => match number_at(alloc, value, key, least, most) {
             Ok(value) => Ok(Field::Number { value, least, most }),
             Err(fault) => Err(fault),

@@ -5,12 +5,13 @@ ghost use Rattle.serde_json.specs.View.{view};
 ghost use Rattle.reg_terms.specs.declared.reply.Reply.{Reply};
 ghost use Rattle.reg_json.specs.Replies.{text};
 ghost use Rattle.reg_json.specs.Takes.{Takes};
-ghost use Rattle.reg_json.specs.Taking.{accepted_from, fault_from, reply_from, reply_of};
+ghost use Rattle.reg_json.specs.Taking.{accepted_from, fault_from, loaded_from, reply_from, reply_of};
 ghost use Rattle.reg_json.specs.Told.{told};
 ghost use Rattle.reg_json.specs.Writable.{IsWritable};
 
 use crate::reply::append_reply;
 use crate::taken_answer::answer_from;
+use crate::taken_loaded::counts_from;
 use crate::taken_refusal::refusal_from;
 use crate::taking::{TakeFault, has, number_in, optional_number_in, str_in};
 use reg_terms::Reply;
@@ -38,6 +39,15 @@ fn accepted_from(value: &Value) -> Result<Reply, TakeFault>
     Ok(Reply::Number { number, id })
 }
 
+#[tactic(auto, unfolding(crate::specs::Taking::loaded_from))]
+fn loaded_from(value: &Value) -> Result<Reply, TakeFault>
+    ensures { Takes (λ r. r) result (loaded_from (view value.now)) }
+{
+    let number = number_in(value, "number")?;
+    let counts = counts_from(value)?;
+    Ok(Reply::Loaded { number, counts })
+}
+
 #[tactic(auto, unfolding(crate::specs::Taking::reply_from))]
 fn reply_from(alloc: Global, value: &Value) -> Result<Reply, TakeFault>
     ensures { Takes (λ r. r) result (reply_from (view value.now)) }
@@ -47,6 +57,8 @@ fn reply_from(alloc: Global, value: &Value) -> Result<Reply, TakeFault>
     } else if has(value, "refused") {
         let refusal = refusal_from(alloc, value)?;
         Ok(Reply::Refused(refusal))
+    } else if has(value, "added") {
+        loaded_from(value)
     } else if has(value, "number") {
         accepted_from(value)
     } else {

@@ -42,6 +42,12 @@ fn said(refusal: &Refusal) -> Said<'_>
         Refusal::WrongValue => Said::new(20, "WrongValue", Carried::Nothing),
         Refusal::Single => Said::new(21, "Single", Carried::Nothing),
         Refusal::Vetoed { rule } => Said::new(22, "Vetoed", Carried::Rule(*rule)),
+        Refusal::BadTable { row } => Said::new(23, "BadTable", Carried::Row(*row)),
+        Refusal::Failsafe { before, removes } => Said::new(
+            24,
+            "Failsafe",
+            Carried::Removal(*before, *removes),
+        ),
         Refusal::Place { kept, last } => Said::new(25, "Place", Carried::Places(*kept, *last)),
         Refusal::Full { kind, limit } => Said::new(26, "Full", Carried::Count(kind, *limit)),
         Refusal::NoRoute => Said::new(30, "NoRoute", Carried::Nothing),

@@ -5,14 +5,14 @@ ghost use Rattle.json.specs.Tree.{json_tokens};
 ghost use Rattle.serde_json.specs.Written.{compact_text, outline};
 ghost use Rattle.reg_terms.specs.declared.query.Answer.TheVariants as answer;
 ghost use Rattle.reg_json.specs.Arrays.{is_plain};
-ghost use Rattle.reg_json.specs.Replies.{accepted_data, answer_data, reply_data, text};
+ghost use Rattle.reg_json.specs.Replies.{accepted_data, answer_data, loaded_data, reply_data, text};
 
 use crate::answer::{put_answer, put_members};
 use crate::array::{append_array, is_plain};
 use crate::flat::{Scalar, put_object};
 use crate::refusal::put_refusal;
 use json::Writer;
-use reg_terms::{Answer, Reply, Texts};
+use reg_terms::{Answer, LoadCounts, Reply, Texts};
 use std::alloc::{AllocError, Global};
 
 fn put_accepted(out: &mut Writer, number: u64, id: Option<u64>) -> Result<(), AllocError>
@@ -27,6 +27,28 @@ fn put_accepted(out: &mut Writer, number: u64, id: Option<u64>) -> Result<(), Al
     }
 }
 
+#[tactic(auto, unfolding(crate::specs::Replies::loaded_data))]
+fn put_loaded(out: &mut Writer, number: u64, counts: &LoadCounts) -> Result<(), AllocError>
+    ensures ok { OnOk result (out.new.tokens ≡ out.old.tokens ++ json_tokens (outline (loaded_data number counts.now))) }
+    ensures before { out.new.before ≡ out.old.before }
+{
+    put_object(
+        out,
+        &[
+            ("added", Scalar::Number(counts.added)),
+            ("bad_group", Scalar::Number(counts.bad_group)),
+            ("created", Scalar::Number(counts.created)),
+            ("number", Scalar::Number(number)),
+            ("ok", Scalar::Flag(true)),
+            ("removed", Scalar::Number(counts.removed)),
+            ("repeated", Scalar::Number(counts.repeated)),
+            ("unchanged", Scalar::Number(counts.unchanged)),
+            ("unknown", Scalar::Number(counts.unknown)),
+            ("vetoed", Scalar::Number(counts.vetoed)),
+        ],
+    )
+}
+
 #[tactic(auto, unfolding(crate::specs::Replies::reply_data))]
 fn put_reply(out: &mut Writer, reply: &Reply) -> Result<(), AllocError>
     ensures ok { OnOk result (out.new.tokens ≡ out.old.tokens ++ json_tokens (outline (reply_data reply.now))) }
@@ -34,6 +56,7 @@ fn put_reply(out: &mut Writer, reply: &Reply) -> Result<(), AllocError>
 {
     match reply {
         Reply::Number { number, id } => put_accepted(out, *number, *id),
+        Reply::Loaded { number, counts } => put_loaded(out, *number, counts),
         Reply::Answer(answer) => put_answer(out, answer),
         Reply::Refused(refusal) => put_refusal(out, refusal),
         Reply::NoMemory => put_object(out, &[("fault", Scalar::Text("memory"))]),

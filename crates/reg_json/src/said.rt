@@ -38,6 +38,10 @@ pub enum Carried<'a> {
     Places(u64, u64),
     /// The rule that forbids.
     Rule(u64),
+    /// A record of a table.
+    Row(u64),
+    /// How many rows there were before a load, and how many it would remove.
+    Removal(u64, u64),
 }
 
 impl<'a> Said<'a> {
@@ -199,6 +203,35 @@ fn put_rule(out: &mut Writer, code: u64, word: &str, rule: u64) -> Result<(), Al
     put_object(out, &[code, word, rule])
 }
 
+#[tactic(auto, unfolding(crate::specs::Refusals::refused))]
+fn put_row(out: &mut Writer, code: u64, word: &str, row: u64) -> Result<(), AllocError>
+    ensures ok { OnOk result (out.new.tokens ≡ out.old.tokens ++ json_tokens (outline (refused code word.now (say.row row)))) }
+    ensures before { out.new.before ≡ out.old.before }
+{
+    let code = ("code", Scalar::Number(code));
+    let row = ("record", Scalar::Number(row));
+    let word = ("refused", Scalar::Text(word));
+    put_object(out, &[code, row, word])
+}
+
+#[tactic(auto, unfolding(crate::specs::Refusals::refused))]
+fn put_removal(
+    out: &mut Writer,
+    code: u64,
+    word: &str,
+    before: u64,
+    removes: u64,
+) -> Result<(), AllocError>
+    ensures ok { OnOk result (out.new.tokens ≡ out.old.tokens ++ json_tokens (outline (refused code word.now (say.removal before removes)))) }
+    ensures before { out.new.before ≡ out.old.before }
+{
+    let before = ("before", Scalar::Number(before));
+    let code = ("code", Scalar::Number(code));
+    let word = ("refused", Scalar::Text(word));
+    let removes = ("removes", Scalar::Number(removes));
+    put_object(out, &[before, code, word, removes])
+}
+
 /// Writes what a refusal says. The only error is out of memory.
 pub fn put_said(out: &mut Writer, said: &Said<'_>) -> Result<(), AllocError>
     ensures ok { OnOk result (out.new.tokens ≡ out.old.tokens ++ json_tokens (outline (said_data said.now))) }
@@ -222,5 +255,7 @@ pub fn put_said(out: &mut Writer, said: &Said<'_>) -> Result<(), AllocError>
         Carried::Moments(asked, clock) => put_moments(out, code, word, **asked, **clock),
         Carried::Places(kept, last) => put_places(out, code, word, *kept, *last),
         Carried::Rule(rule) => put_rule(out, code, word, *rule),
+        Carried::Row(row) => put_row(out, code, word, *row),
+        Carried::Removal(before, removes) => put_removal(out, code, word, *before, *removes),
     }
 }

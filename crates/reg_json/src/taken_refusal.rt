@@ -2,7 +2,7 @@
 ghost use Rattle.std.specs.Prelude.{◌≡◌};
 ghost use Rattle.serde_json.specs.View.{view};
 ghost use Rattle.reg_json.specs.Takes.{Takes};
-ghost use Rattle.reg_json.specs.Taking.{bare_refusal, http_refusal, field_refusal, object_refusal, denied_from, future_from, place_from, full_from, limit_from, named_from, with_object, with_field, with_nothing, other_refusal, refusal_from};
+ghost use Rattle.reg_json.specs.Taking.{bare_refusal, http_refusal, field_refusal, object_refusal, denied_from, future_from, place_from, full_from, limit_from, named_from, with_object, with_field, with_nothing, failsafe_from, load_refusal, other_refusal, refusal_from};
 
 use crate::taking::{TakeFault, has, moment_in, number_in, text_in};
 use reg_base::Text;
@@ -155,6 +155,29 @@ fn limit_from(alloc: Global, value: &Value) -> Result<Refusal, TakeFault>
     Ok(Refusal::TooLong { limit })
 }
 
+#[tactic(auto, unfolding(crate::specs::Taking::failsafe_from))]
+fn failsafe_from(value: &Value) -> Result<Refusal, TakeFault>
+    ensures { Takes (λ r. r) result (failsafe_from (view value.now)) }
+{
+    let before = number_in(value, "before")?;
+    let removes = number_in(value, "removes")?;
+    Ok(Refusal::Failsafe { before, removes })
+}
+
+#[tactic(auto, unfolding(crate::specs::Taking::load_refusal))]
+fn load_refusal(code: u64, value: &Value) -> Result<Refusal, TakeFault>
+    ensures { Takes (λ r. r) result (load_refusal code (view value.now)) }
+{
+    if has(value, "record") {
+        let row = number_in(value, "record")?;
+        Ok(Refusal::BadTable { row })
+    } else if has(value, "before") {
+        failsafe_from(value)
+    } else {
+        with_nothing(code)
+    }
+}
+
 #[tactic(auto, unfolding(crate::specs::Taking::other_refusal))]
 fn other_refusal(alloc: Global, code: u64, value: &Value) -> Result<Refusal, TakeFault>
     ensures { Takes (λ r. r) result (other_refusal code (view value.now)) }
@@ -169,7 +192,7 @@ fn other_refusal(alloc: Global, code: u64, value: &Value) -> Result<Refusal, Tak
         let rule = number_in(value, "rule")?;
         Ok(Refusal::Vetoed { rule })
     } else {
-        with_nothing(code)
+        load_refusal(code, value)
     }
 }
 

@@ -7,28 +7,28 @@ use Rattle.std.specs.Str.{bytes_eq}
 use Rattle.std.proofs.lemmas.Bool.{both_ways, false_from_ne_true, or_cases, and_parts}
 use Rattle.reg_base.specs.declared.entity.Entity.{Entity}
 use Rattle.reg_terms.specs.Kinds.{same_member}
-use Rattle.reg_terms.specs.Limits.{max_grants, max_groups, max_rows}
+use Rattle.reg_terms.specs.Limits.{max_grants, max_groups, max_records, max_rows}
 use Rattle.reg_terms.specs.declared.event.Event.{Event}
 use Rattle.reg_terms.specs.declared.kinds.Member.{Member}
 use Rattle.reg_terms.specs.declared.kinds.Member.TheVariants.{Person}
 use Rattle.reg_terms.specs.declared.rows.GroupRow.{GroupRow}
 use Rattle.reg_terms.specs.declared.rows.JobRow.{JobRow}
 use Rattle.reg_terms.specs.declared.rows.MemberRow.{MemberRow}
+use Rattle.reg_terms.specs.declared.lists.LoadRow.{LoadRow}
+use Rattle.reg_terms.specs.declared.rows.PersonRow.{PersonRow}
 use Rattle.reg_facts.specs.Children.{is_among}
 use Rattle.reg_facts.specs.Edits.{has_row, is_row, subject_id, the_id}
-use Rattle.reg_facts.specs.Events.{new_groups_grants}
+use Rattle.reg_facts.specs.Events.{load_events, new_groups_grants, rows_events, with_groups}
 use Rattle.reg_facts.specs.Lists.{Lists}
 use Rattle.reg_facts.specs.Naming.{group_id, resolve}
 use Rattle.reg_facts.specs.Sound.{has_group, IsSound, RowStands}
 use Rattle.reg_facts.proofs.Noted.{as_group_is, group_stands}
 use Rattle.reg_load.specs.Finding.{first_grants, number_of, numbered_groups}
-use Rattle.reg_load.specs.LoadChecks.{added_rows, created_id, created_number, first_fault, first_missing, first_taken, load_checks, load_group, load_row, max_records, no_number, of_target, removed_rows, room_checks}
+use Rattle.reg_load.specs.LoadChecks.{added_rows, created_id, created_number, first_fault, first_missing, first_taken, load_checks, load_group, load_row, no_number, of_target, removed_rows, room_checks}
 use Rattle.reg_load.specs.declared.faults.LoadFault.TheVariants.{FullGrant, FullRecord}
 use Rattle.reg_load.specs.Loading.{AreNames, CanLoad}
-use Rattle.reg_load.specs.Loads.{comes_twice, is_one_of, load_events, rows_events, same_row, stands, with_groups}
+use Rattle.reg_load.specs.PersonRows.{comes_twice, is_one_of, same_row, stands}
 use Rattle.reg_load.specs.declared.created.CreatedNames.{CreatedNames}
-use Rattle.reg_load.specs.declared.rows.LoadRow.{LoadRow}
-use Rattle.reg_load.specs.declared.rows.PersonRow.{PersonRow}
 use Rattle.reg_load.proofs.GroupGrants.{events_numbered, grants_counted}
 use Rattle.reg_load.proofs.GroupsSuit.{IsReady}
 use Rattle.reg_load.proofs.LoadSuits.{AreFound, checks_told, created_range, created_told, folder_at, group_made, by_numbers, named_group, none_missing}

@@ -17,14 +17,13 @@ use Rattle.reg_terms.specs.declared.rows.FolderRow.{FolderRow}
 use Rattle.reg_terms.specs.declared.rows.GrantRow.{GrantRow}
 use Rattle.reg_terms.specs.declared.rows.RuleRow.{RuleRow}
 use Rattle.reg_facts.specs.Edits.{subject_id, the_id}
-use Rattle.reg_facts.specs.Events.{all_happened, new_groups_grants}
+use Rattle.reg_facts.specs.Events.{all_happened, group_events, groups_events, new_groups_grants, with_groups}
 use Rattle.reg_facts.specs.Grants.{grant_to, has_grant, makers_grant}
 use Rattle.reg_facts.specs.Lists.{Lists}
 use Rattle.reg_facts.specs.Naming.{home_id}
 use Rattle.reg_facts.specs.Rules.{creation_grant, creation_grants, in_scope, not_yet}
 use Rattle.reg_facts.proofs.Places.{all_push}
 use Rattle.reg_load.specs.Finding.{first_grants, numbered_group, numbered_groups, on_group}
-use Rattle.reg_load.specs.Loads.{group_events, groups_events, with_groups}
 use Rattle.reg_load.proofs.GroupsMade.{AreFresh, AreUnlike, more_made, one_made, rest_fresh, with_one}
 
 -- the grants on a group of a number that is made in a folder

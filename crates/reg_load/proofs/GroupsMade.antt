@@ -10,12 +10,11 @@ use Rattle.reg_base.specs.declared.entity.Entity.{Entity}
 use Rattle.reg_terms.specs.declared.event.Event.{Event}
 use Rattle.reg_terms.specs.declared.kinds.Object.TheVariants.{Group}
 use Rattle.reg_facts.specs.Edits.{the_id}
-use Rattle.reg_facts.specs.Events.{happened, all_happened, new_group, new_groups_grants}
+use Rattle.reg_facts.specs.Events.{all_happened, group_events, groups_events, happened, new_group, new_groups_grants, with_groups}
 use Rattle.reg_facts.specs.Lists.{Lists}
 use Rattle.reg_facts.specs.Naming.{child, resolve, home_id}
 use Rattle.reg_facts.proofs.Places.{bytes_same}
 use Rattle.reg_load.specs.Loading.{AreMade}
-use Rattle.reg_load.specs.Loads.{group_events, groups_events, with_groups}
 use Rattle.reg_load.proofs.GroupMore.{grown, after_group, Keeps, child_kept, child_new, child_free, resolve_kept, home_kept, named_child}
 
 pub happened_append : (es ds : List Event) (f : Lists) → all_happened (es ++ ds) f ≡ all_happened ds (all_happened es f)

@@ -6,7 +6,7 @@ use Rattle.reg_terms.specs.Limits.{max_grants, max_groups, max_name}
 use Rattle.reg_terms.specs.declared.event.Event.{Event}
 use Rattle.reg_terms.specs.declared.kinds.Object.TheVariants.{Folder}
 use Rattle.reg_facts.specs.Edits.{the_id}
-use Rattle.reg_facts.specs.Events.{happened, all_happened, events_of, new_groups_grants}
+use Rattle.reg_facts.specs.Events.{all_happened, events_of, group_events, groups_events, happened, new_groups_grants, with_groups}
 use Rattle.reg_facts.specs.Lists.{Lists}
 use Rattle.reg_facts.specs.Naming.{home_of, name_in}
 use Rattle.reg_facts.specs.Ruled.{AreRuled}
@@ -19,7 +19,6 @@ use Rattle.reg_facts.proofs.Noted.{holder_stands}
 use Rattle.reg_facts.proofs.Resolving.{resolve_names}
 use Rattle.reg_facts.proofs.RulesStand.{happened_ruled}
 use Rattle.reg_facts.proofs.Sounding.{happened_sound}
-use Rattle.reg_load.specs.Loads.{group_events, groups_events, with_groups}
 use Rattle.reg_load.proofs.GroupMore.{home_is}
 use Rattle.reg_load.proofs.GroupsMade.{AreFresh, AreUnlike, IsFresh, more_made, one_made, rest_fresh, with_one}
 

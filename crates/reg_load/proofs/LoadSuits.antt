@@ -17,9 +17,10 @@ use Rattle.reg_terms.specs.declared.rows.CompositeRow.{CompositeRow}
 use Rattle.reg_terms.specs.declared.rows.GroupRow.{GroupRow}
 use Rattle.reg_terms.specs.declared.rows.JobRow.{JobRow}
 use Rattle.reg_terms.specs.declared.rows.MemberRow.{MemberRow}
+use Rattle.reg_terms.specs.declared.lists.LoadRow.{LoadRow}
 use Rattle.reg_facts.specs.Children.{is_among}
 use Rattle.reg_facts.specs.Edits.{is_composite, subject_id, the_id}
-use Rattle.reg_facts.specs.Events.{all_happened}
+use Rattle.reg_facts.specs.Events.{all_happened, groups_events, load_events, row_named, rows_events, with_groups}
 use Rattle.reg_facts.specs.Lists.{Lists}
 use Rattle.reg_facts.specs.Named.{AreNamed}
 use Rattle.reg_facts.specs.Naming.{group_id, home_id, resolve}
@@ -30,8 +31,7 @@ use Rattle.reg_facts.proofs.Lasting.{sound_named}
 use Rattle.reg_facts.proofs.Noted.{as_group_is, ascend_top, group_stands}
 use Rattle.reg_load.specs.LoadChecks.{LoadCheck, added_rows, already, created_id, created_number, first_fault, first_missing, first_taken, is_composite_target, is_elsewhere, is_home, is_of_target, load_checks, load_group, load_row, missing_text, no_number, no_such, of_target, removed_rows, room_checks}
 use Rattle.reg_load.specs.Loading.{AreLoaded, AreMade, AreNames, CanLoad, IsLoaded, loaded_rows}
-use Rattle.reg_load.specs.Loads.{comes_twice, groups_events, load_events, row_named, rows_events, stands, with_groups}
-use Rattle.reg_load.specs.declared.rows.LoadRow.{LoadRow}
+use Rattle.reg_load.specs.PersonRows.{comes_twice, stands}
 use Rattle.reg_load.proofs.GroupMore.{extensions_apart, named_child}
 use Rattle.reg_load.proofs.GroupsMade.{AreFresh, AreUnlike, Unlike, all_made, happened_append}
 use Rattle.reg_load.proofs.GroupsSuit.{IsReady, groups_suit, ready_after, suit_append}

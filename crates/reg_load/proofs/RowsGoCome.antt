@@ -14,15 +14,15 @@ use Rattle.reg_terms.specs.declared.rows.CompositeRow.{CompositeRow}
 use Rattle.reg_terms.specs.declared.rows.GroupRow.{GroupRow}
 use Rattle.reg_terms.specs.declared.rows.MemberRow.{MemberRow}
 use Rattle.reg_terms.specs.declared.rows.SubjectRow.{SubjectRow}
+use Rattle.reg_terms.specs.declared.rows.PersonRow.{PersonRow}
 use Rattle.reg_facts.specs.Edits.{is_composite, is_row}
-use Rattle.reg_facts.specs.Events.{happened, all_happened}
+use Rattle.reg_facts.specs.Events.{all_happened, happened, new_row, row_comes, row_goes, rows_events}
 use Rattle.reg_facts.specs.Lists.{Lists}
 use Rattle.reg_facts.specs.Sound.{has_group, has_subject}
 use Rattle.reg_facts.specs.Suiting.{AllSuit}
 use Rattle.reg_facts.proofs.RulesStand.{number_turned}
-use Rattle.reg_load.specs.Loads.{comes_twice, is_one_of, new_row, row_comes, row_goes, rows_events, same_row, stands}
+use Rattle.reg_load.specs.PersonRows.{comes_twice, is_one_of, same_row, stands}
 use Rattle.reg_load.specs.Loading.{AreLoaded, is_groups, is_of_rows, loaded_rows}
-use Rattle.reg_load.specs.declared.rows.PersonRow.{PersonRow}
 use Rattle.reg_load.proofs.GroupsMade.{happened_append}
 use Rattle.reg_load.proofs.GroupsSuit.{suit_append}
 

@@ -6,12 +6,12 @@ use Rattle.reg_terms.specs.declared.event.Event.TheVariants.{GroupMade, RowAdded
 use Rattle.reg_terms.specs.declared.kinds.Member.TheVariants.{Person}
 use Rattle.reg_terms.specs.declared.kinds.Object.TheVariants.{Folder}
 use Rattle.reg_terms.specs.declared.rows.JobRow.{JobRow}
+use Rattle.reg_terms.specs.declared.lists.LoadRow.{LoadRow}
 use Rattle.reg_facts.specs.Lists.{Lists, root_row, start}
 use Rattle.reg_facts.specs.Naming.{placed, resolve}
+use Rattle.reg_facts.specs.Events.{load_events}
 use Rattle.reg_load.specs.LoadChecks.{first_fault, load_checks}
 use Rattle.reg_load.specs.declared.faults.LoadFault.TheVariants.{NotFound, WrongKind, Taken, Already, NoSuch}
-use Rattle.reg_load.specs.Loads.{load_events}
-use Rattle.reg_load.specs.declared.rows.LoadRow.{LoadRow}
 
 -- the folder app, and ann
 abbrev pub app : Lists

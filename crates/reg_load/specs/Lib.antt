@@ -1,4 +1,4 @@
-pub mod Loads
+pub mod PersonRows
 pub mod LoadChecks
 pub mod Loading
 pub mod Finding

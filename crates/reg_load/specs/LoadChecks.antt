@@ -5,27 +5,23 @@ use Rattle.std.specs.Option.{option_or}
 use Rattle.std.specs.Str.{bytes_eq}
 use Rattle.reg_base.specs.declared.entity.Entity.{Entity}
 use Rattle.reg_terms.specs.Kinds.{same_object}
-use Rattle.reg_terms.specs.Limits.{max_grants, max_groups, max_rows}
+use Rattle.reg_terms.specs.Limits.{max_grants, max_groups, max_records, max_rows}
 use Rattle.reg_terms.specs.declared.kinds.Object.{Object}
 use Rattle.reg_terms.specs.declared.kinds.Object.TheVariants.{Folder, Group, Def, Attr, Subject}
 use Rattle.reg_terms.specs.declared.rows.GroupRow.{GroupRow}
 use Rattle.reg_terms.specs.declared.rows.JobRow.{JobRow}
 use Rattle.reg_terms.specs.declared.rows.MemberRow.{MemberRow}
+use Rattle.reg_terms.specs.declared.lists.LoadRow.{LoadRow}
+use Rattle.reg_terms.specs.declared.rows.PersonRow.{PersonRow}
 use Rattle.reg_facts.specs.Children.{is_among}
 use Rattle.reg_facts.specs.Edits.{is_composite, subject_id, the_id}
 use Rattle.reg_facts.specs.Lists.{Lists}
 use Rattle.reg_facts.specs.Naming.{group_id, home_id, resolve}
 use Rattle.reg_facts.specs.Rows.{group_row}
-use Rattle.reg_load.specs.Loads.{comes_twice, stands, with_groups}
+use Rattle.reg_facts.specs.Events.{with_groups}
+use Rattle.reg_load.specs.PersonRows.{comes_twice, stands}
 use Rattle.reg_load.specs.declared.faults.LoadFault.{LoadFault}
 use Rattle.reg_load.specs.declared.faults.LoadFault.TheVariants.{NotFound, WrongKind, Taken, Already, NoSuch, IsComposite, FullGroup, FullRow, FullGrant, FullRecord}
-use Rattle.reg_load.specs.declared.faults.TheConstants.{MAX_RECORDS}
-use Rattle.reg_load.specs.declared.rows.LoadRow.{LoadRow}
-use Rattle.reg_load.specs.declared.rows.PersonRow.{PersonRow}
-
--- rows that a load may bring
-abbrev pub max_records : ℕ
-max_records = MAX_RECORDS
 
 -- ---- the groups of a job
 

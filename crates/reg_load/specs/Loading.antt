@@ -9,15 +9,15 @@ use Rattle.reg_terms.specs.declared.kinds.Object.{Object}
 use Rattle.reg_terms.specs.declared.kinds.Object.TheVariants as object
 use Rattle.reg_terms.specs.declared.rows.JobRow.{JobRow}
 use Rattle.reg_terms.specs.declared.rows.MemberRow.{MemberRow}
+use Rattle.reg_terms.specs.declared.lists.LoadRow.{LoadRow}
+use Rattle.reg_terms.specs.declared.rows.PersonRow.{PersonRow}
 use Rattle.reg_facts.specs.Edits.{is_row}
-use Rattle.reg_facts.specs.Events.{all_happened}
+use Rattle.reg_facts.specs.Events.{all_happened, load_events, new_row, with_groups}
 use Rattle.reg_facts.specs.Lists.{Lists}
 use Rattle.reg_facts.specs.Naming.{resolve}
 use Rattle.reg_facts.specs.Suiting.{AllSuit}
 use Rattle.reg_load.specs.LoadChecks.{added_rows, created_number, first_fault, load_checks, removed_rows, room_checks}
-use Rattle.reg_load.specs.Loads.{is_one_of, load_events, new_row, stands, with_groups}
-use Rattle.reg_load.specs.declared.rows.LoadRow.{LoadRow}
-use Rattle.reg_load.specs.declared.rows.PersonRow.{PersonRow}
+use Rattle.reg_load.specs.PersonRows.{is_one_of, stands}
 
 -- no test of a load finds a fault
 pub record CanLoad (by : Entity) (job : JobRow) (created : List (List ℕ)) (removed added : List LoadRow) (f : Lists) : Type 0 where

@@ -1,8 +1,8 @@
 -- Whether a set of rows has one.
 use Rattle.std.specs.Prelude.{ℕ, ◌==◌, ◌&&◌, Bool, List}
 use Rattle.std.specs.List.{list_any}
+use Rattle.reg_terms.specs.declared.rows.PersonRow.{PersonRow}
 use Rattle.reg_load.specs.declared.row_set.RowSet.{RowSet}
-use Rattle.reg_load.specs.declared.rows.PersonRow.{PersonRow}
 
 -- whether a group and a person are one of some pairs
 abbrev pub in_pairs : ℕ → ℕ → List (ℕ × ℕ) → Bool

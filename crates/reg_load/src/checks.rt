@@ -6,14 +6,14 @@ ghost use Rattle.reg_terms.specs.Limits.{max_grants, max_groups};
 ghost use Rattle.reg_load.specs.Finding.{first_grants};
 ghost use Rattle.reg_load.specs.LoadChecks.{already, first_fault, first_missing, first_taken, is_composite_target, is_elsewhere, is_home, load_checks, no_number, no_such, removed_rows, room_checks};
 
+use crate::LoadFault;
 use crate::created::{CreatedNames, law_names};
 use crate::finding::find_rows;
 use crate::row_set::comes_twice;
 use crate::standing::{all_stand, any_stands};
-use crate::{LoadFault, LoadRow, MAX_RECORDS, PersonRow};
 use reg_base::{Entity, Name, Text};
 use reg_facts::{Facts, GrantRow, JobRow, Object};
-use reg_terms::{MAX_GRANTS, MAX_GROUPS, MAX_ROWS};
+use reg_terms::{LoadRow, MAX_GRANTS, MAX_GROUPS, MAX_RECORDS, MAX_ROWS, PersonRow};
 use std::alloc::{AllocError, Global};
 
 /// Whether a name is that of an object directly in the folder of a job. It takes no memory.
@@ -200,7 +200,7 @@ pub fn check_room(
     if full {
         return Ok(Some(LoadFault::FullGrant));
     }
-    if added.len() > MAX_RECORDS {
+    if added.len() > MAX_RECORDS as usize {
         return Ok(Some(LoadFault::FullRecord));
     }
     Ok(None)

@@ -1,19 +1,18 @@
 // What an accepted load makes happen.
 ghost use Rattle.std.specs.Prelude.{◌≡◌, ◌++◌, ◌+◌, ◌≤◌, ◌<◌, ◌^◌, IfOk, OnOk, length, map};
 ghost use Rattle.std.specs.List.{AllByRecursion};
-ghost use Rattle.reg_facts.specs.Events.{grants_added};
+ghost use Rattle.reg_facts.specs.Events.{grants_added, load_events, row_comes, row_goes};
 ghost use Rattle.reg_terms.specs.Limits.{max_groups};
+ghost use Rattle.reg_terms.specs.declared.rows.PersonRow.{PersonRow};
 ghost use Rattle.reg_load.specs.Finding.{numbered_group, numbered_groups, on_group};
 ghost use Rattle.reg_load.specs.Loading.{CanLoad};
-ghost use Rattle.reg_load.specs.Loads.{load_events, row_comes, row_goes};
-ghost use Rattle.reg_load.specs.declared.rows.PersonRow.{PersonRow};
 
 use crate::checks::first_grants;
 use crate::created::law_names;
 use crate::finding::{added_rows, removed_rows};
-use crate::{LoadRow, PersonRow};
 use reg_base::{Entity, FolderId, GroupId, Moment, Name, Text};
 use reg_facts::{Event, Facts, GrantRow, GroupRow, JobRow, Member, MemberRow, Object};
+use reg_terms::{LoadRow, PersonRow};
 use std::alloc::{AllocError, Global};
 
 /// Grants are made on a group.

@@ -1,9 +1,6 @@
 // Why a load doesn't suit the facts.
 use reg_base::Text;
 
-/// Rows that a load may bring.
-pub const MAX_RECORDS: usize = 200_000;
-
 /// Why a load doesn't suit the facts.
 #[derive(Drop)]
 pub enum LoadFault {

@@ -5,9 +5,9 @@ ghost use Rattle.reg_load.specs.Finding.{number_of};
 ghost use Rattle.reg_load.specs.LoadChecks.{added_rows, first_fault, first_missing, is_of_target, load_checks, load_group, load_row, no_number, of_target, removed_rows, stands_in};
 
 use crate::created::CreatedNames;
-use crate::{LoadRow, PersonRow};
 use reg_base::{FolderId, GroupId, Name, Text};
 use reg_facts::{Facts, JobRow, Object};
+use reg_terms::{LoadRow, PersonRow};
 use std::alloc::{AllocError, Global};
 
 /// Whether a group is there and stands directly in a folder.

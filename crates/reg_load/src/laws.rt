@@ -2,8 +2,8 @@
 ghost use Rattle.std.specs.Prelude.{ℕ, List};
 ghost use Rattle.reg_base.specs.declared.entity.Entity.{Entity};
 ghost use Rattle.reg_terms.specs.declared.rows.JobRow.{JobRow};
+ghost use Rattle.reg_terms.specs.declared.lists.LoadRow.{LoadRow};
 ghost use Rattle.reg_load.specs.Loading.{AreNames, CanLoad, IsLoaded};
-ghost use Rattle.reg_load.specs.declared.rows.LoadRow.{LoadRow};
 
 use reg_facts::Facts;
 

@@ -8,12 +8,10 @@ mod faults;
 mod finding;
 mod laws;
 mod row_set;
-mod rows;
 mod standing;
 
 pub use checks::{check_load, check_room};
 pub use events::load_events;
-pub use faults::{LoadFault, MAX_RECORDS};
+pub use faults::LoadFault;
 pub use finding::added_rows;
 pub use laws::law_load;
-pub use rows::{LoadRow, PersonRow};

@@ -1,11 +1,11 @@
 // Rows of persons as an ordered set.
 ghost use Rattle.std.specs.Prelude.{◌≡◌, ◌||◌, IfOk, OnOk, false, not};
-ghost use Rattle.reg_load.specs.Loads.{comes_twice, same_row};
+ghost use Rattle.reg_terms.specs.declared.rows.PersonRow.{PersonRow};
+ghost use Rattle.reg_load.specs.PersonRows.{comes_twice, same_row};
 ghost use Rattle.reg_load.specs.Sets.{holds};
-ghost use Rattle.reg_load.specs.declared.rows.PersonRow.{PersonRow};
 
-use crate::PersonRow;
 use reg_base::SubjectId;
+use reg_terms::PersonRow;
 use std::alloc::{AllocError, Global};
 use std::collections::BTreeSet;
 

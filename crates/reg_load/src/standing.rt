@@ -1,11 +1,11 @@
 // Whether rows of persons stand.
 ghost use Rattle.std.specs.Prelude.{◌≡◌};
 ghost use Rattle.std.specs.List.{list_all, list_any};
-ghost use Rattle.reg_load.specs.Loads.{stands};
+ghost use Rattle.reg_load.specs.PersonRows.{stands};
 
-use crate::PersonRow;
 use reg_base::GroupId;
 use reg_facts::{Facts, Member};
+use reg_terms::PersonRow;
 
 /// Whether a person is an immediate member of a group. It takes no memory.
 fn stands(facts: &Facts, row: &PersonRow) -> bool

@@ -7,7 +7,7 @@ use Rattle.std.proofs.lemmas.Bool.{and_from, and_parts, and_left, and_right, fal
 use Rattle.std.proofs.lemmas.List.{take-append-le, take_all, map-append}
 use Rattle.std.proofs.lemmas.Str.{IsUtf8-from_is_utf8, is_utf8-from_IsUtf8}
 use Rattle.csv.specs.Records.{AllText}
-use Rattle.reg_loader.specs.declared.tables.TheConstants.{MAX_RECORDS}
+use Rattle.reg_terms.specs.declared.limits.TheConstants.{MAX_RECORDS}
 use Rattle.reg_loader.specs.declared.columns.Columns.{Columns}
 use Rattle.reg_loader.specs.declared.tables.TableFault.TheVariants.{Bad, TooMany}
 use Rattle.reg_loader.specs.declared.reading.Header.{Header}

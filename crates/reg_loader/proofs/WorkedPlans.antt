@@ -4,6 +4,7 @@ use Rattle.reg_base.specs.NameParts.{extension_of, folder_of}
 use Rattle.reg_terms.specs.declared.kinds.Member.TheVariants as member
 use Rattle.reg_terms.specs.declared.kinds.Object.TheVariants.{Folder, Group}
 use Rattle.reg_terms.specs.declared.kinds.RuleForm.TheVariants.{Veto}
+use Rattle.reg_terms.specs.declared.lists.LoadRow.{LoadRow}
 use Rattle.reg_terms.specs.declared.rows.GroupRow.{GroupRow}
 use Rattle.reg_terms.specs.declared.rows.JobRow.{JobRow}
 use Rattle.reg_terms.specs.declared.rows.MemberRow.{MemberRow}
@@ -13,7 +14,6 @@ use Rattle.reg_facts.specs.Naming.{extensions, name_of, path, placed, resolve}
 use Rattle.reg_facts.specs.RowOrder.{rows_of}
 use Rattle.reg_effect.specs.Member.{member}
 use Rattle.reg_rules.specs.Live.{live}
-use Rattle.reg_loader.specs.declared.plans.Pair.{Pair}
 use Rattle.reg_loader.specs.declared.plans.PlanFault.TheVariants.{Failsafe}
 use Rattle.reg_loader.specs.declared.tables.TableRow.{TableRow}
 use Rattle.reg_loader.specs.Mentions.{mention, person_in}
@@ -47,7 +47,7 @@ vetoed_facts = record start {
 pub vetoed_table : List TableRow
 vetoed_table = record_of (codes "ann") ∷ record_of (codes "ann") ∷ record_of (codes "zed") ∷ record_of (codes "cid") ∷ record_of (codes "bob") ∷ []
 
-pair : List ℕ → List ℕ → Pair
+pair : List ℕ → List ℕ → LoadRow
 pair g p = record { group = g; person = p }
 
 two_added : planned (live 0 vetoed_facts) (job_on 0 100) vetoed_table vetoed_facts ≡ Ok (record {

@@ -6,6 +6,8 @@ use Rattle.indexmap.specs.IndexSet.{insert_key}
 use Rattle.reg_terms.specs.declared.kinds.Member.TheVariants as member
 use Rattle.reg_terms.specs.declared.kinds.Object.{Object}
 use Rattle.reg_terms.specs.declared.kinds.Object.TheVariants.{Folder, Group, Def, Attr, Subject}
+use Rattle.reg_terms.specs.declared.lists.LoadRow.{LoadRow}
+use Rattle.reg_terms.specs.declared.reply.LoadCounts.{LoadCounts}
 use Rattle.reg_terms.specs.declared.rows.GroupRow.{GroupRow}
 use Rattle.reg_terms.specs.declared.rows.JobRow.{JobRow}
 use Rattle.reg_terms.specs.declared.rows.MemberRow.{MemberRow}
@@ -20,7 +22,6 @@ use Rattle.reg_rules.specs.Veto.{first_veto}
 use Rattle.reg_loader.specs.Mentions.{group_text, mention, person_in}
 use Rattle.reg_loader.specs.declared.mentions.Mention.{Mention}
 use Rattle.reg_loader.specs.declared.mentions.Mention.TheVariants.{Bad, Standing, New}
-use Rattle.reg_loader.specs.declared.plans.Pair.{Pair}
 use Rattle.reg_loader.specs.declared.plans.Plan.{Plan}
 use Rattle.reg_loader.specs.declared.plans.PlanFault.{PlanFault}
 use Rattle.reg_loader.specs.declared.plans.PlanFault.TheVariants.{IsComposite, Failsafe, NoMemory}
@@ -177,7 +178,7 @@ abbrev pub text_of : Lists → ℕ → List ℕ
 text_of f s = elim (subject_row s f.subjects) [ None ↦ [] | Some row ↦ row.text ]
 
 -- a pair by its texts
-abbrev pub shown : List (List ℕ) → Lists → Key → Pair
+abbrev pub shown : List (List ℕ) → Lists → Key → LoadRow
 shown names f key = record { group = group_name names f key.0; person = text_of f key.1 }
 
 -- what a load does
@@ -191,6 +192,19 @@ plan_of L job rows f = record {
   repeated = repeats job rows f;
   vetoed = length (vetoed L (standing job.target f) f (wanted job rows f));
   bad_group = bad_groups job.target rows f;
+}
+
+-- what it does and what the records of its table say, in numbers
+abbrev pub counts_of : Plan → LoadCounts
+counts_of plan = record {
+  created = length plan.created;
+  removed = length plan.removed;
+  added = length plan.added;
+  unchanged = plan.unchanged;
+  unknown = plan.unknown;
+  repeated = plan.repeated;
+  vetoed = plan.vetoed;
+  bad_group = plan.bad_group;
 }
 
 -- the plan, unless so many persons would go

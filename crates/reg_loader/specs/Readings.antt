@@ -1,6 +1,6 @@
 -- What a reading of a table's records keeps of those that it took.
 use Rattle.std.specs.Prelude.{◌≡◌, Bool, List, [], ◌∷◌, suc, take, map, length, Some, None}
-use Rattle.reg_loader.specs.declared.tables.TheConstants.{MAX_RECORDS}
+use Rattle.reg_terms.specs.declared.limits.TheConstants.{MAX_RECORDS}
 use Rattle.reg_loader.specs.declared.columns.Columns.{Columns}
 use Rattle.reg_loader.specs.declared.reading.Reading.{Reading}
 use Rattle.reg_loader.specs.Columns.{columns_of}

@@ -3,7 +3,7 @@ use Rattle.std.specs.Prelude.{◌≡◌, ℕ, Bool, ◌&&◌, ◌==◌, not, Lis
 use Rattle.std.specs.List.{list_all}
 use Rattle.std.specs.Str.{is_utf8}
 use Rattle.csv.specs.Reading.{default_config, records, strip_bom}
-use Rattle.reg_loader.specs.declared.tables.TheConstants.{MAX_RECORDS}
+use Rattle.reg_terms.specs.declared.limits.TheConstants.{MAX_RECORDS}
 use Rattle.reg_loader.specs.declared.columns.Columns.{Columns}
 use Rattle.reg_loader.specs.declared.tables.TableRow.{TableRow}
 use Rattle.reg_loader.specs.declared.tables.TableFault.{TableFault}

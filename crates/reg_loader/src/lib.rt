@@ -17,6 +17,6 @@ mod walking;
 
 pub use laws::{law_after, law_counts, law_nothing};
 pub use planning::plan;
-pub use plans::{Names, Pair, Pairs, Plan, PlanFault};
+pub use plans::{Plan, PlanFault};
 pub use reading::read_table;
-pub use tables::{MAX_RECORDS, Table, TableFault, TableRow};
+pub use tables::{Table, TableFault, TableRow};

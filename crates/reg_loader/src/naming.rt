@@ -9,11 +9,11 @@ ghost use Rattle.reg_loader.specs.Plan.{group_name, shown, text_of};
 ghost use Rattle.reg_loader.specs.Walks.{AreTold, IsTold};
 
 use crate::keys::Key;
-use crate::{Names, Pair, Pairs};
 use indexmap::IndexSet;
 use reg_base::{GroupId, Name, SubjectId, Text};
 use reg_facts::{Facts, Object};
 use reg_names::name_of;
+use reg_terms::{LoadRow, LoadRows, Names};
 use std::alloc::{AllocError, Global};
 
 /// The name that a text is.
@@ -83,13 +83,13 @@ fn text_of(alloc: Global, facts: &Facts, person: SubjectId) -> Result<Text, Allo
 }
 
 /// A pair by its texts.
-fn shown(alloc: Global, facts: &Facts, names: &Names, key: Key) -> Result<Pair, AllocError>
+fn shown(alloc: Global, facts: &Facts, names: &Names, key: Key) -> Result<LoadRow, AllocError>
     requires { IsTold names.now facts.now key.0 }
-    ensures { IfOk result (λ pair. pair ≡ shown names.now facts.now key) }
+    ensures { IfOk result (λ row. row ≡ shown names.now facts.now key) }
 {
     let group = group_name(alloc, facts, names, key.0)?;
     let person = text_of(alloc, facts, SubjectId::new(key.1))?;
-    Ok(Pair { group, person })
+    Ok(LoadRow { group, person })
 }
 
 /// Pairs by their texts.
@@ -98,14 +98,14 @@ pub(crate) fn all_shown(
     facts: &Facts,
     names: &Names,
     keys: &[Key],
-) -> Result<Pairs, AllocError>
+) -> Result<LoadRows, AllocError>
     requires { AreTold names.now facts.now keys.now }
-    ensures { IfOk result (λ pairs. pairs ≡ map (shown names.now facts.now) keys.now) }
+    ensures { IfOk result (λ rows. rows ≡ map (shown names.now facts.now) keys.now) }
 {
-    let mut pairs = Pairs::new(alloc);
+    let mut rows = LoadRows::new(alloc);
     for key in keys {
-        let pair = shown(alloc, facts, names, *key)?;
-        pairs.push(pair)?;
+        let row = shown(alloc, facts, names, *key)?;
+        rows.push(row)?;
     }
-    Ok(pairs)
+    Ok(rows)
 }

@@ -5,8 +5,9 @@ ghost use Rattle.reg_loader.specs.Tables.{Fields, Answers, Fails, table_in, tabl
 ghost use Rattle.reg_loader.specs.Readings.{IsFirst, IsUnder, IsReading};
 
 use crate::columns::Columns;
-use crate::{MAX_RECORDS, Table, TableFault};
+use crate::{Table, TableFault};
 use csv::{ByteRecord, ReaderBuilder, StringRecord};
+use reg_terms::MAX_RECORDS;
 use std::alloc::Global;
 
 /// What a header says.

@@ -5,9 +5,6 @@ use reg_base::Text;
 use std::alloc::{AllocError, Global};
 use std::marker::Model;
 
-/// The most records that a table may have under its header.
-pub const MAX_RECORDS: u64 = 200_000;
-
 /// A record of a table: the texts in the columns that a load reads.
 #[derive(Debug, Drop)]
 pub struct TableRow {

@@ -30,6 +30,7 @@ use Rattle.reg_machine.specs.Refusals.{refusal}
 use Rattle.reg_machine.specs.Standing.{AreStood}
 use Rattle.reg_machine.proofs.Defined.{defined_later, defined_next, defined_push, defined_start}
 use Rattle.reg_machine.proofs.Due.{due_some}
+use Rattle.reg_machine.proofs.Formed.{carried_formed, date_formed, start_formed}
 use Rattle.reg_machine.proofs.InStep.{command_in_step, later_in_step, next_in_step}
 use Rattle.reg_machine.proofs.KnownPersons.{known_later, known_next, known_push, known_start}
 use Rattle.reg_machine.proofs.Lived.{last_is, last_left, last_moment_by, lived_later, lived_next, lived_push, lived_start}
@@ -152,6 +153,7 @@ next_recorded history d r new h first is records sound =
       known = known_then history d r new h is there stands sound;
       stood = stood_then history d r new h is there stands sound;
       defined = rw is (defined_next history r.now.clock d h.in_step.by h.defined there);
+      formed = rw is (date_formed r.now.clock d r.now.facts h.formed);
     }
 
 -- a clock up to which no date comes
@@ -165,6 +167,7 @@ later_recorded history u r new h later none is same =
       known = rw is (known_later history r.now.clock u h.in_step.by h.known later there);
       stood = rw is (stood_later history r.now.clock u h.in_step.by h.stood later there);
       defined = rw is (defined_later history r.now.clock u h.in_step.by h.defined later there);
+      formed = rw is h.formed;
     }
 
 -- a command more
@@ -186,6 +189,7 @@ command_recorded history by c r new es h allowed are hold is records sound =
       known = known_more history by c r new h (ap (λ (n : Now). n.clock) is) stands sound;
       stood = stood_more history by c r new es h (ap (λ (n : Now). n.clock) is) stands are hold sound;
       defined = rw is (defined_push history r.now.clock by c h.in_step.by h.defined (subst (λ (f : Lists). AllHold r.now.clock (events_of r.now.clock by c f) f) h.in_step.facts (subst (λ (xs : List Event). AllHold r.now.clock xs r.now.facts) are hold)));
+      formed = rw is (carried_formed r.now es (all_suit r.now.clock es r.now.facts hold) h.formed);
     }
 
 -- nothing stands in an empty history
@@ -197,4 +201,5 @@ start_recorded r is none = record {
   known = rw is known_start;
   stood = rw is (stood_start start_sound);
   defined = rw is defined_start;
+  formed = rw is start_formed;
 }

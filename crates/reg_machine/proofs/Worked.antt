@@ -1,12 +1,14 @@
--- Worked examples computed: the most steps of a membership that begins, of one that ends below a complement, and of one that ends where two rules follow; and what refuses a loader job, and a target of one to be deleted.
+-- Worked examples computed: the most steps of a membership that begins, of one that ends below a complement, and of one that ends where two rules follow; and what refuses a loader job, a target of one to be deleted, and a load.
 use Rattle.std.proofs.Common.{◌≡◌, ◌++◌, ℕ, [], ◌∷◌, Some, None, codes, refl}
+use Rattle.reg_base.specs.NameParts.{extension_of, folder_of}
+use Rattle.reg_base.specs.declared.entity.Entity.TheVariants.{System}
 use Rattle.reg_terms.specs.declared.event.Event.TheVariants.{RowRemoved}
 use Rattle.reg_terms.specs.declared.kinds.Member.{Member}
 use Rattle.reg_terms.specs.declared.kinds.Member.TheVariants.{Person, Group}
 use Rattle.reg_terms.specs.declared.kinds.Object.TheVariants as object
-use Rattle.reg_terms.specs.declared.kinds.RuleForm.TheVariants.{RemoveLost}
+use Rattle.reg_terms.specs.declared.kinds.RuleForm.TheVariants.{RemoveLost, Veto}
 use Rattle.reg_terms.specs.declared.kinds.SetOp.TheVariants.{Complement}
-use Rattle.reg_terms.specs.declared.refusal.Refusal.TheVariants.{Full, InUse, Taken}
+use Rattle.reg_terms.specs.declared.refusal.Refusal.TheVariants.{Full, InUse, Taken, Vetoed, WrongKind}
 use Rattle.reg_terms.specs.declared.rows.MemberRow.{MemberRow}
 use Rattle.reg_facts.specs.Lists.{Lists, start}
 use Rattle.reg_facts.specs.Naming.{placed, resolve}
@@ -17,7 +19,8 @@ use Rattle.reg_effect.specs.Deltas.{ended}
 use Rattle.reg_effect.specs.Edges.{edges}
 use Rattle.reg_effect.specs.Member.{member}
 use Rattle.reg_rules.specs.Settling.{settling}
-use Rattle.reg_machine.specs.Checks.{folder_delete_checks, group_delete_checks, job_list_checks, job_simple_checks}
+use Rattle.reg_load.specs.LoadChecks.{load_checks}
+use Rattle.reg_machine.specs.Checks.{all_load_checks, folder_delete_checks, group_delete_checks, job_list_checks, job_simple_checks}
 use Rattle.reg_machine.specs.Invariant.{Now}
 use Rattle.reg_machine.specs.Live.{live}
 use Rattle.reg_machine.specs.Recording.{carried_steps}
@@ -82,3 +85,21 @@ job_is_taken = refl
 pub jobs_ever_made_count : first_of (job_list_checks [] (record start { made = record start.made { jobs = 1000 } }) (codes "nightly") (codes ":")) ≡ Some (Full (codes "job") 1000)
 unfolding resolve placed
 jobs_ever_made_count = refl
+
+-- ann (1) can't be loaded into staff, where a veto (3) wants her in cleared (2)
+pub guarded : Lists
+guarded = record loaded {
+  groups = loaded.groups ++ (record { id = 2; folder = 0; extension = codes "cleared"; display = [] }) ∷ [];
+  subjects = (record { id = 1; text = codes "uni/ann"; display = [] }) ∷ [];
+  rules = (record { id = 3; form = Veto 1 2 }) ∷ [];
+  made = record start.made { groups = 2; subjects = 1; rules = 3; jobs = 2 };
+}
+
+pub load_is_vetoed : first_of (all_load_checks [] 7 guarded System (codes "nightly") [] [] (record { group = codes "staff"; person = codes "uni/ann" } ∷ [])) ≡ Some (Vetoed 3)
+unfolding loaded guarded load_checks resolve placed member
+load_is_vetoed = refl
+
+-- nor may a job of one group make another
+pub one_group_alone : first_of (all_load_checks [] 7 guarded System (codes "nightly") (codes "app:new" ∷ []) [] []) ≡ Some (WrongKind (codes "created"))
+unfolding loaded guarded load_checks resolve placed extension_of folder_of
+one_group_alone = refl

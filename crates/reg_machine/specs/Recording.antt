@@ -14,6 +14,7 @@ use Rattle.reg_audit.specs.Audit.{IsAudit}
 use Rattle.reg_audit.specs.Steps.{Step, FollowsOn}
 use Rattle.reg_audit.specs.declared.audit.Audit.{Audit}
 use Rattle.reg_machine.specs.Defining.{AreDefined}
+use Rattle.reg_machine.specs.Formed.{AreFormed}
 use Rattle.reg_machine.specs.Invariant.{IsInStep, Now}
 use Rattle.reg_machine.specs.Live.{live}
 use Rattle.reg_machine.specs.Past.{AreKnown, AreLived, steps}
@@ -60,3 +61,4 @@ pub record IsRecorded (history : List Stamped) (recording : Recording) : Type 0 
   pub known : AreKnown history recording.now.clock
   pub stood : AreStood history recording.now.clock
   pub defined : AreDefined history recording.now.clock
+  pub formed : AreFormed recording.now.facts

@@ -4,21 +4,27 @@ ghost use Rattle.std.specs.List.{list_any, AllByRecursion};
 ghost use Rattle.reg_base.specs.declared.entity.Entity.{Entity};
 ghost use Rattle.reg_terms.specs.declared.command.Command.{Command};
 ghost use Rattle.reg_terms.specs.declared.kinds.Member.{Member};
+ghost use Rattle.reg_terms.specs.declared.lists.LoadRow.{LoadRow};
+ghost use Rattle.reg_terms.specs.declared.rows.JobRow.{JobRow};
 ghost use Rattle.reg_terms.specs.declared.rows.MemberRow.{MemberRow};
 ghost use Rattle.reg_facts.specs.Edits.{is_row};
 ghost use Rattle.reg_facts.specs.Edits as edits;
 ghost use Rattle.reg_facts.specs.Events.{events_of};
+ghost use Rattle.reg_facts.specs.Jobs.{job_by};
+ghost use Rattle.reg_facts.specs.Suiting.{CanEdit};
+ghost use Rattle.reg_load.specs.LoadChecks.{added_rows};
 ghost use Rattle.reg_effect.specs.Order.{has_live_row};
 ghost use Rattle.reg_terms.specs.Forms.{has_form};
 ghost use Rattle.reg_machine.specs.Checks as checks;
 ghost use Rattle.reg_machine.specs.Dates.{due, is_on, pass_steps};
+ghost use Rattle.reg_machine.specs.Formed.{AreFormed};
 ghost use Rattle.reg_machine.specs.History.{State, acted, appended, start};
 ghost use Rattle.reg_machine.specs.Refusals.{refusal, first_of};
 ghost use Rattle.reg_machine.specs.Holding.{AllHold};
 ghost use Rattle.reg_machine.specs.Live.{live};
 ghost use Rattle.reg_machine.specs.Losing.{TakesLost};
-ghost use Rattle.reg_machine.specs.Vetoes.{AllLet};
-ghost use Rattle.reg_terms.specs.declared.command.Command.TheVariants.{MemberAdd};
+ghost use Rattle.reg_machine.specs.Vetoes.{AllLet, IsLet};
+ghost use Rattle.reg_terms.specs.declared.command.Command.TheVariants.{Load, MemberAdd};
 ghost use Rattle.reg_terms.specs.declared.command.Stamped.{Stamped};
 ghost use Rattle.reg_terms.specs.declared.kinds.Member.TheVariants.{Person};
 ghost use Rattle.reg_facts.specs.Naming.{group_id};
@@ -31,6 +37,7 @@ use reg_base::{Entity, GroupId, Moment, Steps};
 use reg_demand::refused;
 use reg_effect::Kept;
 use reg_facts::{Command, Event, Facts, Refusal, Stamped};
+use reg_load::law_load;
 use reg_names::Names;
 use std::alloc::{AllocError, AllocFailed, Global};
 use std::marker::Model;
@@ -197,10 +204,11 @@ impl<K: Kept> Machine<K> {
     }
 
     /// Each command of the history that adds a person to a group found the person, at its moment and by
-    /// the facts before it, an effective member of the condition of each veto on the group. It does
-    /// nothing.
+    /// the facts before it, an effective member of the condition of each veto on the group; and so did
+    /// each load that adds persons to groups, but for the groups that it made. It does nothing.
     pub fn law_vetoed(&self)
-        ensures { (before after : List Stamped) (at : ℕ) (by : Entity) (group : List ℕ) (who : Entity) (from until : Option ℕ) (person : ℕ) → self.now.history ≡ before ++ (record { at = at; by = by; command = MemberAdd group who from until }) ∷ after → edits.member_of who (facts before at) ≡ Some (Person person) → AllLet at (edits.the_id (group_id group (facts before at))) person (facts before at) }
+        ensures members { (before after : List Stamped) (at : ℕ) (by : Entity) (group : List ℕ) (who : Entity) (from until : Option ℕ) (person : ℕ) → self.now.history ≡ before ++ (record { at = at; by = by; command = MemberAdd group who from until }) ∷ after → edits.member_of who (facts before at) ≡ Some (Person person) → AllLet at (edits.the_id (group_id group (facts before at))) person (facts before at) }
+        ensures loads { (before after : List Stamped) (at : ℕ) (by : Entity) (name : List ℕ) (created : List (List ℕ)) (removed added : List LoadRow) (job : JobRow) → self.now.history ≡ before ++ (record { at = at; by = by; command = Load name created removed added }) ∷ after → job_by name (facts before at).jobs ≡ Some job → AllByRecursion (IsLet at (facts before at)) (added_rows job created (facts before at) added) }
     {
         self.law_legal();
     }
@@ -386,6 +394,12 @@ impl<K: Kept> Machine<K> {
             Command::JobSimple { job, group, .. } => self.decide_job_simple(alloc, job, group),
             Command::JobList { job, folder, .. } => self.decide_job_list(alloc, job, folder),
             Command::JobDelete { job } => self.decide_job_delete(alloc, job),
+            Command::Load {
+                job,
+                created,
+                removed,
+                added,
+            } => self.decide_load(alloc, by, job, created, removed, added),
             Command::ConsumerAdd { consumer } => self.decide_consumer_add(alloc, consumer),
             Command::ConsumerAck { consumer, seq } => {
                 self.decide_consumer_ack(alloc, consumer, *seq)
@@ -393,7 +407,36 @@ impl<K: Kept> Machine<K> {
         }
     }
 
+    /// A law, which does nothing: subjects have texts of persons, and no more memberships stand than
+    /// may.
+    pub(crate) fn law_formed(&self)
+        ensures { AreFormed (now_facts self.now) }
+    {
+        let _ = &self.stamped;
+    }
+
+    /// A law, which does nothing: what a command that isn't refused makes happen suits the facts, and
+    /// can happen at the clock.
+    fn law_allowed(&self, by: &Entity, command: &Command)
+        requires allowed { refusal self.now.history self.now.clock by.now command.now ≡ None }
+        requires form { has_form command.now ≡ true }
+        ensures suits { CanEdit self.now.clock by.now command.now (now_facts self.now) }
+        ensures hold { AllHold self.now.clock (events_of self.now.clock by.now command.now (now_facts self.now)) (now_facts self.now) }
+    {
+        let _ = by;
+        let _ = command;
+        let facts = self.facts();
+        facts.law_sound();
+        facts.law_held();
+        facts.law_grants();
+        facts.law_owners();
+        facts.law_new_group();
+        facts.law_job_delete();
+        law_load(facts);
+    }
+
     /// The events of a command that isn't refused, at the clock.
+    #[tactic(auto, unfolding(reg_facts::specs::Events::events_of))]
     fn events_of(
         &self,
         alloc: Global,
@@ -405,14 +448,16 @@ impl<K: Kept> Machine<K> {
         ensures events { IfOk result (λ events. events.items ≡ events_of self.now.clock by.now command.now (now_facts self.now)) }
         ensures hold { AllHold self.now.clock (events_of self.now.clock by.now command.now (now_facts self.now)) (now_facts self.now) }
     {
-        let facts = self.facts();
-        facts.law_sound();
-        facts.law_held();
-        facts.law_grants();
-        facts.law_owners();
-        facts.law_new_group();
-        facts.law_job_delete();
-        facts.events_of(alloc, self.clock(), by, command)
+        self.law_allowed(by, command);
+        match command {
+            Command::Load {
+                job,
+                created,
+                removed,
+                added,
+            } => self.events_of_load(alloc, by, job, created, removed, added),
+            _ => self.facts().events_of(alloc, self.clock(), by, command),
+        }
     }
 
     /// Takes a command that isn't refused into the history, at the clock, and rules do what follows.

@@ -60,7 +60,7 @@ fn is_named(facts: &Facts, object: &Object) -> bool
 }
 
 /// The name of what stands, or a subject's text; empty where it doesn't stand.
-fn present_name(alloc: Global, facts: &Facts, object: &Object) -> Result<Text, AllocError>
+pub fn present_name(alloc: Global, facts: &Facts, object: &Object) -> Result<Text, AllocError>
     ensures { IfOk result (λ name. name ≡ present_name object.now facts.now) }
 {
     if let Object::Subject(id) = object {

@@ -24,7 +24,8 @@ use Rattle.reg_session.specs.declared.stop.Stop.{Stop}
 use Rattle.reg_session.specs.declared.stop.Stop.TheVariants as stop
 use Rattle.reg_run.specs.Status.{status_of}
 use Rattle.reg_run.specs.Crash.{Seen, DiskSurvives, IsWhole}
-use Rattle.reg_run.specs.Ends.{Asked, Printed, ApplyEnds, DidApply, AskEnds, RepliedFront, TooMuchExactly, begins_at, end_of_reply, end_of_stop, is_refused}
+use Rattle.reg_run.specs.Ends.{Asked, ApplyEnds, DidApply, AskEnds, RepliedFront, TooMuchExactly, begins_at, end_of_stop, is_refused}
+use Rattle.reg_run.specs.Once.{Printed, end_of_reply}
 use Rattle.reg_run.specs.World.{World, Out, IsFlushed, SameNet, output}
 use Rattle.reg_run.specs.declared.status.End.{End}
 use Rattle.reg_run.specs.declared.status.End.TheVariants as the_end
@@ -54,6 +55,7 @@ told_query s m (Err r) = inr (refl, refl)
 told_op : (s : State) (m : ℕ) (by : List ℕ) (o : Op) → IsQuery o
     → (end_of_reply (requested (at_moment s m) by o).0 ≡ the_end.Done) × (is_refused (requested (at_moment s m) by o).0 ≡ false) ⊎ (end_of_reply (requested (at_moment s m) by o).0 ≡ the_end.Refused) × (is_refused (requested (at_moment s m) by o).0 ≡ true)
 told_op s m by (op.Command command) is = elim is [ ]
+told_op s m by (op.Load job table) is = elim is [ ]
 told_op s m by (op.Query query) is = told_query s m (told s.history (max s.clock m) by query)
 
 told_reading : (s : State) (m : ℕ) (reading : Result Request Refusal) → AsksNoChange reading
@@ -118,7 +120,7 @@ four (inr (inl e)) = absurd (omega arith)
 four (inr (inr (inl e))) = absurd (omega arith)
 four (inr (inr (inr e))) = absurd (omega arith)
 
-six : IsWhole 6 → ⊥
+pub six : IsWhole 6 → ⊥
 six (inl e) = absurd (omega arith)
 six (inr (inl e)) = absurd (omega arith)
 six (inr (inr (inl e))) = absurd (omega arith)

@@ -1,12 +1,17 @@
 -- Where the words ask for nothing.
 use Rattle.std.proofs.Common.{◌≡◌, ◌∙◌, ◌⊎◌, List, ℕ, Option, Some, None, refl, ap, sym, subst, inl, inr, arith}
 use Rattle.reg_outside.specs.declared.disk.Disk.{Ghosts}
+use Rattle.reg_machine.specs.History.{State}
+use Rattle.reg_terms.specs.declared.command.Stamped.{Stamped}
 use Rattle.reg_words.specs.declared.task.Task.{Task}
 use Rattle.reg_words.specs.declared.task.Task.TheVariants as task
 use Rattle.reg_run.specs.declared.status.End.{End}
 use Rattle.reg_run.specs.declared.status.End.TheVariants as the_end
 use Rattle.reg_run.specs.Crash.{Seen, seen}
-use Rattle.reg_run.specs.Ends.{Did, IsIdle, IsUsage, Printed, RunDid}
+use Rattle.reg_terms.specs.declared.reply.Reply.{Reply}
+use Rattle.reg_terms.specs.declared.reply.Reply.TheVariants as reply
+use Rattle.reg_run.specs.Ends.{Did, IsIdle, IsUsage, LoadAsked, LoadBroke, RunDid}
+use Rattle.reg_run.specs.Once.{Printed, end_of_reply}
 use Rattle.reg_run.specs.Status.{status_of}
 use Rattle.reg_run.specs.World.{Out, World}
 
@@ -28,6 +33,23 @@ print_is_use bytes old new (inl p) = let is : the_end.Usage ≡ the_end.Done = p
 print_is_use bytes old new (inr (inl p)) = let is : the_end.Usage ≡ the_end.Output = p.0 in absurd (cc)
 print_is_use bytes old new (inr (inr p)) = let is : the_end.Usage ≡ the_end.Memory = p.0 in absurd (cc)
 
+reply_is_use : (told : Reply) → end_of_reply told ≡ the_end.Usage → ⊥
+reply_is_use (reply.Number n id) e = absurd (cc)
+reply_is_use (reply.Loaded n counts) e = absurd (cc)
+reply_is_use (reply.Answer a) e = absurd (cc)
+reply_is_use (reply.Refused r) e = absurd (cc)
+reply_is_use reply.NoMemory e = absurd (cc)
+reply_is_use reply.KeepFault e = absurd (cc)
+
+told_is_use : (told : Reply) (bytes : List ℕ) (old new : Out) → Printed (end_of_reply told) bytes the_end.Usage old new → ⊥
+told_is_use told bytes old new (inl p) = reply_is_use told (sym p.0)
+told_is_use told bytes old new (inr (inl p)) = let is : the_end.Usage ≡ the_end.Output = p.0 in absurd (cc)
+told_is_use told bytes old new (inr (inr p)) = let is : the_end.Usage ≡ the_end.Memory = p.0 in absurd (cc)
+
+load_is_use : (from : State) (job taken : List ℕ) (before after : World) (answered kept : List Stamped) → LoadBroke the_end.Usage from before after answered kept ⊎ LoadAsked the_end.Usage from job taken before after answered kept → ⊥
+load_is_use from job taken before after answered kept (inl broke) = let is : the_end.Usage ≡ the_end.Input = broke.0 in absurd (cc)
+load_is_use from job taken before after answered kept (inr asked) = told_is_use asked.2.told _ _ _ asked.2.printed
+
 -- no task ends so
 task_is_use : (d : Seen) (t : Task) (before after : World) → Did d t the_end.Usage before after → ⊥
 task_is_use d task.Init before after did = did.ends
@@ -39,6 +61,9 @@ task_is_use d task.Check before after (inl not) = not.cause
 task_is_use d task.Check before after (inr p) = print_is_use _ _ _ p.2.printed
 task_is_use d (task.Ask question) before after (inl not) = not.cause
 task_is_use d (task.Ask question) before after (inr p) = p.2.ends
+task_is_use d (task.Load job) before after (inl not) = not.cause
+task_is_use d (task.Load job) before after (inr p) = load_is_use p.0 job p.2.taken before after _ _ p.2.ends
+task_is_use d (task.Sample seed size) before after did = print_is_use _ _ _ did.printed
 
 words_are_use : {D : Type 0} (g : Ghosts D) (t : Task) (end : End) (before after : World) (old new : D) → end ≡ the_end.Usage
     → Did (seen g old new) t end before after ⊎ ((end ≡ the_end.Memory) × IsIdle before after old new) → ⊥

@@ -1,9 +1,10 @@
 -- How a run ends: each end, its cause, and what was done.
-use Rattle.std.specs.Prelude.{◌≡◌, ◌⊎◌, ◌<◌, ◌≤◌, ◌^◌, ◌++◌, ℕ, List, [], Bool, true, false, Option, Some, None, Result, Ok, Err, length, take, option_map, IfSome}
+use Rattle.std.specs.Prelude.{◌≡◌, ◌⊎◌, ◌<◌, ◌≤◌, ◌^◌, ◌+◌, ◌++◌, ℕ, List, [], Bool, true, false, Option, Some, None, Result, Ok, Err, length, take, option_map, IfSome}
 use Rattle.std.specs.Io.KnownBytes.{append_known, IsAtEnd}
 use Rattle.reg_outside.specs.Faults.{Rose}
 use Rattle.reg_outside.specs.Streams.{first_moment, WritesFront}
 use Rattle.reg_outside.specs.declared.disk.Disk.{Ghosts}
+use Rattle.reg_terms.specs.Limits.{max_line}
 use Rattle.reg_terms.specs.declared.command.Stamped.{Stamped}
 use Rattle.reg_terms.specs.declared.refusal.Refusal.{Refusal}
 use Rattle.reg_terms.specs.declared.request.Request.{Request}
@@ -26,6 +27,8 @@ use Rattle.reg_run.specs.Crash.{Seen, seen, OpensTo, IsUntouched, DiskSurvives, 
 use Rattle.reg_run.specs.Status.{check_line, status_of}
 use Rattle.reg_run.specs.Serving.{DidServe}
 use Rattle.reg_run.specs.World.{World, Out, IsFlushed, LookedOnce, SameClock, SameInput, SameNet, SameOutput, output}
+use Rattle.reg_played.specs.Played.{summary, summary_text}
+use Rattle.reg_run.specs.Once.{AsksOnce, IsTakenWhole, Printed, end_of_reply, load_of}
 use Rattle.reg_run.specs.Questions.{asked_by}
 use Rattle.reg_words.specs.declared.task.Task.{Task}
 use Rattle.reg_words.specs.declared.task.Task.TheVariants as task
@@ -143,14 +146,6 @@ pub record DidApply (d : Seen) (end : End) (before after : World) (from : State)
   pub net : SameNet before after
   pub disk : DiskSurvives d from.history accepted answered (status_of end)
 
--- How printing these bytes ends: they were written and flushed, and the end is this one; or the output failed, a front of them
--- stands there and isn't flushed; or there was no memory, and nothing was written.
-abbrev pub Printed : End → List ℕ → End → Out → Out → Type 0
-Printed good bytes end old new =
-    ((end ≡ good) × (new.written ≡ append_known old.written bytes) × (new.flushed ≡ option_map length new.written))
-    ⊎ (((end ≡ the_end.Output) × Rose old.writes new.writes × WritesFront old.written new.written bytes × (new.flushed ≡ old.flushed))
-    ⊎ ((end ≡ the_end.Memory) × (new ≡ old)))
-
 -- `check` from the state that the file opened to: it printed how many commands there are, and only read the disk
 pub record DidCheck (d : Seen) (end : End) (before after : World) (from : State) : Type 0 where
   pub printed : Printed the_end.Done (check_line from) end (output before) (output after)
@@ -163,6 +158,7 @@ pub record DidCheck (d : Seen) (end : End) (before after : World) (from : State)
 -- a reply that refuses
 abbrev pub is_refused : Reply → Bool
 is_refused (reply.Number n id) = false
+is_refused (reply.Loaded n counts) = false
 is_refused (reply.Answer a) = false
 is_refused (reply.Refused r) = true
 is_refused reply.NoMemory = false
@@ -186,14 +182,6 @@ end_of_stop stop.Disk = the_end.Disk
 end_of_stop stop.Input = the_end.Input
 end_of_stop stop.Output = the_end.Output
 end_of_stop stop.TooMuch = the_end.TooMuch
-
--- the end of a run that printed this one reply
-abbrev pub end_of_reply : Reply → End
-end_of_reply (reply.Number n id) = the_end.Done
-end_of_reply (reply.Answer a) = the_end.Done
-end_of_reply (reply.Refused r) = the_end.Refused
-end_of_reply reply.NoMemory = the_end.Memory
-end_of_reply reply.KeepFault = the_end.Disk
 
 -- The reply to a reading at the clock's next moment was printed, or that there was no memory for it, and the end is its.
 pub record Asked (s : State) (moments : Option (List ℕ)) (reading : Result Request Refusal) (end : End) (old new : Out) : Type 0 where
@@ -234,6 +222,41 @@ pub record DidAsk (d : Seen) (reading : Result Request Refusal) (end : End) (bef
   pub same : IsUntouched d
   pub disk : DiskSurvives d from.history [] 0 (status_of end)
 
+-- The input wasn't taken whole: it failed, and nothing was asked or written.
+abbrev pub LoadBroke : End → State → World → World → (answered kept : List Stamped) → Type 0
+LoadBroke end from before after answered kept =
+    (end ≡ the_end.Input) × Rose before.reads after.reads × SameOutput before after × SameClock before after × (answered ≡ from.history) × (kept ≡ from.history)
+
+-- It was taken, to its end or to one byte more than a table may have, and the load of what was taken was asked: at the clock's
+-- next moment, by GrouperSystem. Its reply was printed, or there was no memory to, or the output failed. Where the keeper
+-- failed, so did the disk.
+abbrev pub LoadAsked : End → State → (job taken : List ℕ) → World → World → (answered kept : List Stamped) → Type 0
+LoadAsked end from job taken before after answered kept =
+    IsTakenWhole taken after.left × LookedOnce before after × AsksOnce from before.moments (load_of job taken) end answered kept (output before) (output after) × (end ≡ the_end.Disk → Rose before.faults after.faults)
+
+-- `load` from the state that the file opened to: the bytes that were taken, the commands that were accepted and how many of
+-- them were answered, how it ended, and what it leaves of the disk.
+pub record DidLoad (d : Seen) (job : List ℕ) (end : End) (before after : World) (from : State) : Type 0 where
+  pub taken : List ℕ
+  pub input : Takes before.left taken after.left
+  pub few : length taken ≤ max_line + 1
+  pub accepted : List Stamped
+  pub answered : ℕ
+  pub ends : LoadBroke end from before after (from.history ++ take answered accepted) (from.history ++ accepted)
+      ⊎ LoadAsked end from job taken before after (from.history ++ take answered accepted) (from.history ++ accepted)
+  pub net : SameNet before after
+  pub disk : DiskSurvives d from.history accepted answered (status_of end)
+
+-- `sample`: the summary of the seed and the size was printed, and nothing else was looked at; or there was no memory, and
+-- nothing was written
+pub record DidSample (d : Seen) (seed size : ℕ) (end : End) (before after : World) : Type 0 where
+  pub printed : Printed the_end.Done (summary_text (summary seed size)) end (output before) (output after)
+  pub input : SameInput before after
+  pub clock : SameClock before after
+  pub net : SameNet before after
+  pub held : (after.held ≡ before.held) × (after.faults ≡ before.faults)
+  pub disk : IsUntouched d
+
 -- what a run of a task did
 abbrev pub Did : Seen → Task → End → World → World → Type 0
 Did d task.Init end before after = DidInit d end before after
@@ -241,6 +264,8 @@ Did d task.Apply end before after = OverJournal d (DidApply d end before after) 
 Did d (task.Serve port connections) end before after = OverJournal d (DidServe d port connections end before after) end before after
 Did d task.Check end before after = OverJournal d (DidCheck d end before after) end before after
 Did d (task.Ask question) end before after = OverJournal d (DidAsk d (asked_by question) end before after) end before after
+Did d (task.Load job) end before after = OverJournal d (DidLoad d job end before after) end before after
+Did d (task.Sample seed size) end before after = DidSample d seed size end before after
 
 -- nothing was done
 abbrev pub IsIdle : {D : Type 0} → World → World → D → D → Type 0

@@ -1,5 +1,6 @@
 pub mod Crash
 pub mod Ends
+pub mod Once
 pub mod Questions
 pub mod Serving
 pub mod Status

@@ -2,9 +2,11 @@
 //! listener, and the exit status and the note that say how it ended.
 #![tactic(auto)]
 
+mod load;
 mod perform;
 mod program;
 mod question;
+mod sample;
 mod serve;
 mod status;
 

@@ -8,12 +8,15 @@ ghost use Rattle.reg_keep.specs.JournalWords.{disk_of};
 ghost use Rattle.reg_service.specs.Opening.{opens, at_last, FrontsReopen};
 ghost use Rattle.reg_session.specs.Replies.{line_of};
 ghost use Rattle.reg_run.specs.Crash.{seen};
-ghost use Rattle.reg_run.specs.Ends.{Did, DidInit, OpenCaused, Asked, Printed, end_of_reply, end_of_stop, end_of_open};
+ghost use Rattle.reg_run.specs.Ends.{Did, DidInit, OpenCaused, Asked, end_of_stop, end_of_open};
+ghost use Rattle.reg_run.specs.Once.{Printed, end_of_reply};
 ghost use Rattle.reg_run.specs.Questions.{asked_by};
 ghost use Rattle.reg_run.specs.Status.{check_line};
 ghost use Rattle.reg_run.specs.World.{Net, World, world, holding, printing, at_clock, net_of, out_of};
 
+use crate::load::load_over;
 use crate::question::asked_by;
+use crate::sample::print_sample;
 use crate::serve::serve_over;
 use crate::status::End;
 use reg_effect::Incremental;
@@ -117,7 +120,7 @@ fn apply_over<S: Source, K: Sink, D: Disk, C: Clock>(
 }
 
 /// Writes bytes, and flushes.
-fn print<K: Sink>(out: &mut K, bytes: &[u8]) -> Result<(), Failed>
+pub(crate) fn print<K: Sink>(out: &mut K, bytes: &[u8]) -> Result<(), Failed>
     ensures written { OnOk result (K.written out.new ≡ append_known (K.written out.old) bytes.now) }
     ensures flushed { OnOk result (K.flushed out.new ≡ option_map length (K.written out.new)) }
     ensures unflushed { OnErr result (K.flushed out.new ≡ K.flushed out.old) }
@@ -171,14 +174,14 @@ fn end_of_reply(reply: &Reply) -> End
     ensures { result ≡ end_of_reply reply.now }
 {
     match reply {
-        Reply::Number { .. } | Reply::Answer(_) => End::Done,
+        Reply::Number { .. } | Reply::Loaded { .. } | Reply::Answer(_) => End::Done,
         Reply::Refused(_) => End::Refused,
         Reply::NoMemory => End::Memory,
         Reply::KeepFault => End::Disk,
     }
 }
 
-fn print_reply<K: Sink>(alloc: Global, reply: &Reply, out: &mut K) -> End
+pub(crate) fn print_reply<K: Sink>(alloc: Global, reply: &Reply, out: &mut K) -> End
     ensures { Printed (end_of_reply reply.now) (line_of reply.now) result (out_of ⟦<K as Sink>⟧ out.old) (out_of ⟦<K as Sink>⟧ out.new) }
 {
     match reply_line(alloc, reply) {
@@ -260,5 +263,7 @@ pub fn perform<S: Source, K: Sink, D: Disk, C: Clock, L: Listener>(
         }
         Task::Check => check_over(alloc, out, disk),
         Task::Ask(question) => ask_over(alloc, question, out, disk, clock),
+        Task::Load { job } => load_over(alloc, job, input, out, disk, clock),
+        Task::Sample { seed, size } => (print_sample(alloc, *seed, *size, out), disk),
     }
 }

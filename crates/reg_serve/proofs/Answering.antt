@@ -23,6 +23,7 @@ use Rattle.reg_service.specs.declared.service.Cause.{Cause}
 use Rattle.reg_service.specs.declared.service.Next.{Next}
 use Rattle.reg_service.specs.declared.service.Next.TheVariants as next
 use Rattle.reg_session.specs.Replies.{is_accepted, IsShown}
+use Rattle.reg_session.proofs.Answering.{load_keeps}
 use Rattle.reg_session.proofs.Halting.{one_more, turn_one}
 use Rattle.reg_session.specs.Answered.{Point, AreNext, coming_after, Gives}
 use Rattle.reg_http.specs.declared.call.Call.{Call}
@@ -49,6 +50,7 @@ ordered_keeps s (Some by) command h = decided_keeps s by command _ h
 answered_keeps : (s : State) (by : List ℕ) (o : Op) → is_accepted (requested s by o).0 ≡ false → (requested s by o).1 ≡ s
 answered_keeps s by (op.Command command) h = ordered_keeps s (entity_of by) command h
 answered_keeps s by (op.Query query) h = refl
+answered_keeps s by (op.Load job table) h = load_keeps s (entity_of by) job table h
 
 turn_keeps : (s : State) (m : ℕ) (reading : Result Request Refusal) → is_accepted (turn s m reading).0 ≡ false → (turn s m reading).1 ≡ at_moment s m
 turn_keeps s m (Err r) h = refl

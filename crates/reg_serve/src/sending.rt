@@ -16,7 +16,7 @@ use std::alloc::{AllocError, Global};
 fn is_accepted(reply: &Reply) -> bool
     ensures { result ≡ is_accepted reply.now }
 {
-    matches!(reply, Reply::Number { .. })
+    matches!(reply, Reply::Number { .. } | Reply::Loaded { .. })
 }
 
 fn send_bytes<C: Connection>(conn: &mut C, bytes: &[u8]) -> Result<(), Ended>

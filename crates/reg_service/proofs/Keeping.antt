@@ -159,9 +159,6 @@ pub served_one : (s m : State) (st : Stamped) (bytes : List ℕ) (told told2 : O
 served_one s m st bytes told told2 failed failed2 served at sure back is same kept going =
     rw is (served_more s st told told2 failed failed2 served at sure back (subst (λ (b : List ℕ). told2 ≡ option_map (λ ps. ps ++ b ∷ []) told) same kept) going)
 
-pub size_one : (bytes : List ℕ) (st : Stamped) → bytes ≡ payload st → length (payload st) < 2 ^ 32 → length bytes < 2 ^ 32
-size_one bytes st is short = rw is short
-
 with_payload : {K : Type 0} (g : Ghosts K) (st : Stamped) (bytes : List ℕ) (old new : K) → bytes ≡ payload st → IfSome (g.payloads old) (λ ps. Leaves g.keep_moment g.stopped_since (IsOneOf ps bytes) old new)
     → IfSome (g.payloads old) (λ ps. Leaves g.keep_moment g.stopped_since (IsOneOf ps (payload st)) old new)
 with_payload g st bytes old new is l = subst (λ (b : List ℕ). IfSome (g.payloads old) (λ ps. Leaves g.keep_moment g.stopped_since (IsOneOf ps b) old new)) is l

@@ -1,3 +1,4 @@
 pub mod Forms
 pub mod Keeping
+pub mod Loads
 pub mod Opens

@@ -78,3 +78,7 @@ IsAcknowledged g before number id (next.Go s) =
     (one : Stamped) × (s.state.history ≡ before ++ one ∷ []) × (number ≡ length (before ++ one ∷ [])) × (id ≡ made_id one.command (facts before one.at))
     × IfSome (g.payloads s.keeper) (λ ps. ps ≡ payloads_of (before ++ one ∷ [])) × ((r : Result (List (List ℕ)) ℕ) → g.stop_leaves s.keeper r → r ≡ Ok (payloads_of (before ++ one ∷ [])))
 IsAcknowledged g before number id (next.Stop why keeper) = ⊥
+
+-- the same of a load's command, whatever the id of what it made
+abbrev pub IsLoaded : {K : Type 0} → Ghosts K → List Stamped → ℕ → Next K → Type 0
+IsLoaded g before number n = (id : Option ℕ) × IsAcknowledged g before number id n

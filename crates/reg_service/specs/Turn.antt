@@ -8,11 +8,13 @@ use Rattle.reg_terms.specs.declared.refusal.Refusal.{Refusal}
 use Rattle.reg_terms.specs.declared.refusal.Refusal.TheVariants.{NoCaller}
 use Rattle.reg_machine.specs.History.{State, appended, facts}
 use Rattle.reg_machine.specs.Refusals.{refusal}
+use Rattle.reg_machine.specs.Loads.{load_outcome}
 use Rattle.reg_view.specs.AtClock.{told}
 use Rattle.reg_terms.specs.declared.query.Answer.{Answer}
 use Rattle.reg_terms.specs.declared.request.Request.{Request}
 use Rattle.reg_terms.specs.declared.request.Op.{Op}
 use Rattle.reg_terms.specs.declared.request.Op.TheVariants as op
+use Rattle.reg_terms.specs.declared.reply.LoadCounts.{LoadCounts}
 use Rattle.reg_terms.specs.declared.reply.Reply.{Reply}
 use Rattle.reg_terms.specs.declared.reply.Reply.TheVariants as reply
 use Rattle.reg_terms.specs.Forms.{op_has_form}
@@ -36,6 +38,16 @@ abbrev pub ordered : State → Option Entity → Command → Reply × State
 ordered s None command = (reply.Refused NoCaller, s)
 ordered s (Some by) command = decided s by command (refusal s.history s.clock by command)
 
+-- a load that isn't refused is the command of its plan: it is appended, and answered with its place and what the plan counts
+abbrev pub loaded : State → Entity → Result (Command × LoadCounts) Refusal → Reply × State
+loaded s by (Ok plan) = (reply.Loaded (length (appended s by plan.0).history) plan.1, appended s by plan.0)
+loaded s by (Err r) = (reply.Refused r, s)
+
+-- an entity's load of a table for a job; the text of no entity is nobody's
+abbrev pub load_ordered : State → Option Entity → List ℕ → List ℕ → Reply × State
+load_ordered s None job table = (reply.Refused NoCaller, s)
+load_ordered s (Some by) job table = loaded s by (load_outcome s.history s.clock by job table)
+
 -- the reply to a query
 abbrev pub answered : Result Answer Refusal → Reply
 answered (Ok a) = reply.Answer a
@@ -45,6 +57,7 @@ answered (Err r) = reply.Refused r
 abbrev pub requested : State → List ℕ → Op → Reply × State
 requested s by (op.Command command) = ordered s (entity_of by) command
 requested s by (op.Query query) = (answered (told s.history s.clock by query), s)
+requested s by (op.Load job table) = load_ordered s (entity_of by) job table
 
 -- the reply to a reading at a moment, and the state after it
 abbrev pub turn : State → ℕ → Result Request Refusal → Reply × State
@@ -76,9 +89,19 @@ abbrev pub Follows : {K : Type 0} → State → ℕ → Result Request Refusal �
 Follows s m reading (told, next.Go after) = Turns s m reading told after.state
 Follows s m reading (told, next.Stop why keeper) = told ≡ last_reply why
 
+-- the reply to a load, by that to its command
+abbrev pub counted : LoadCounts → Reply → Reply
+counted counts (reply.Number n id) = reply.Loaded n counts
+counted counts (reply.Loaded n other) = reply.Loaded n other
+counted counts (reply.Answer a) = reply.Answer a
+counted counts (reply.Refused r) = reply.Refused r
+counted counts reply.NoMemory = reply.NoMemory
+counted counts reply.KeepFault = reply.KeepFault
+
 -- an accepted command alone goes into the history, at its end; whatever else is answered leaves the history as it was
 abbrev pub KeepsHistory : State → Reply → State → Type 0
 KeepsHistory s (reply.Number n id) after = (stamped : Stamped) × (after.history ≡ s.history ++ stamped ∷ []) × (n ≡ length after.history)
+KeepsHistory s (reply.Loaded n counts) after = (stamped : Stamped) × (after.history ≡ s.history ++ stamped ∷ []) × (n ≡ length after.history)
 KeepsHistory s (reply.Answer a) after = after.history ≡ s.history
 KeepsHistory s (reply.Refused r) after = after.history ≡ s.history
 KeepsHistory s reply.NoMemory after = after.history ≡ s.history
@@ -97,6 +120,7 @@ HasForm request = op_has_form request.op ≡ true
 abbrev pub IsQuery : Op → Type 0
 IsQuery (op.Command command) = ⊥
 IsQuery (op.Query query) = Unit {0}
+IsQuery (op.Load job table) = ⊥
 
 -- what was read asks for no change: it is refused, or a query
 abbrev pub AsksNoChange : Result Request Refusal → Type 0

@@ -3,25 +3,29 @@
 ghost use Rattle.std.specs.Prelude.{◌≡◌, ℕ, List, Option, Result, true, false, Ok, Err, None, IfOk, IfErr, IfSome};
 ghost use Rattle.reg_machine.specs.History.{start};
 ghost use Rattle.reg_machine.specs.Refusals.{refusal};
+ghost use Rattle.reg_machine.specs.Loads.{load_outcome};
 ghost use Rattle.reg_keep.specs.Frames.{payloads_of_records};
 ghost use Rattle.reg_keep.specs.declared.open.OpenFault.TheVariants.{Damaged};
+ghost use Rattle.reg_base.specs.Names.{is_extension};
 ghost use Rattle.reg_terms.specs.declared.command.Stamped.{Stamped};
+ghost use Rattle.reg_terms.specs.declared.reply.LoadCounts.{LoadCounts};
 ghost use Rattle.reg_terms.specs.Forms.{is_entity, has_form};
 ghost use Rattle.reg_wire.specs.Payload.{IsWritable};
 ghost use Rattle.reg_service.specs.Opening.{payloads_of, judged, FrontsReopen, IsServed};
-ghost use Rattle.reg_service.specs.Kept.{KeepsNext, KeptOn, IsAcknowledged, LeavesKeeper, keeper_of};
-ghost use Rattle.reg_service.specs.Turn.{turn, requested, HasForm, IsQuery, Carries, Follows, GoesOn, ordered};
+ghost use Rattle.reg_service.specs.Kept.{KeepsNext, KeptOn, IsAcknowledged, IsLoaded, LeavesKeeper, keeper_of};
+ghost use Rattle.reg_service.specs.Turn.{turn, requested, HasForm, IsQuery, Carries, Follows, GoesOn, counted, load_ordered, loaded, ordered};
 
 use crate::ids::made_id;
 use crate::opening::replay;
 use crate::uncounted::{advance, apply};
-use reg_base::{Bytes, Entity, Moment};
+use reg_base::{Bytes, Entity, Moment, Text};
 use reg_effect::Incremental;
 use reg_facts::{Command, Refusal, Stamped};
 use reg_keep::{KeepFault, Keeper, OpenFault, Records};
 use reg_machine::Machine;
+use reg_terms::LoadCounts;
 use reg_view::{Op, Query, Reply, Request, ask};
-use reg_wire::{encode, payload_is_short, payload_reads_back, read_is_payload};
+use reg_wire::{encode, payload_reads_back, read_is_payload};
 use std::alloc::{AllocError, Global};
 use std::marker::Model;
 
@@ -112,12 +116,12 @@ fn keep<K: Keeper>(
     ensures acknowledged { (n : ℕ) (id : Option ℕ) → result.0 ≡ Reply.Number n id → IsAcknowledged ⟦<K as Keeper>⟧ machine.history n id result.1 }
 {
     let mut keeper = keeper;
+    machine.law_loads_few();
     let Ok(payload) = encode(alloc, &stamped) else {
         drop(stamped);
         return (Reply::NoMemory, Next::Go(Service { machine, keeper }));
     };
     payload_reads_back();
-    payload_is_short();
     let Stamped { by, command, .. } = stamped;
     let id = made_id(&machine, &command);
     let applied = apply(alloc, machine, &by, command);
@@ -202,6 +206,97 @@ fn commanded<K: Keeper>(
     }
 }
 
+/// The reply to a load, by that to its command.
+fn counted(reply: Reply, counts: LoadCounts) -> Reply
+    ensures { result ≡ counted counts reply }
+{
+    if let Reply::Number { number, .. } = &reply {
+        let number = *number;
+        drop(reply);
+        return Reply::Loaded { number, counts };
+    }
+    reply
+}
+
+/// Takes the command of a load's plan into the history and keeps it, and answers what the plan
+/// counts.
+fn keep_load<K: Keeper>(
+    alloc: Global,
+    machine: Machine<Incremental>,
+    keeper: K,
+    stamped: Stamped,
+    counts: LoadCounts,
+) -> (Reply, Next<K>)
+    requires served { IsServed machine (K.payloads keeper) (K.has_failed keeper) }
+    requires accepted { refusal machine.history machine.clock stamped.by stamped.command ≡ None }
+    requires now { stamped.at ≡ machine.clock }
+    requires writable { IsWritable stamped }
+    ensures turn { Carries machine (loaded machine stamped.by (Ok (stamped.command, counts))) result }
+    ensures kept { KeepsNext ⟦<K as Keeper>⟧ machine.history (loaded machine stamped.by (Ok (stamped.command, counts))).1.history keeper result.1 }
+    ensures unnumbered { (n : ℕ) (id : Option ℕ) → result.0 ≡ Reply.Number n id → ⊥ }
+    ensures loaded { (n : ℕ) (counts : LoadCounts) → result.0 ≡ Reply.Loaded n counts → IsLoaded ⟦<K as Keeper>⟧ machine.history n result.1 }
+{
+    let (reply, next) = keep(alloc, machine, keeper, stamped);
+    (counted(reply, counts), next)
+}
+
+/// Plans an entity's load and carries it out, unless it is refused.
+fn load<K: Keeper>(
+    alloc: Global,
+    machine: Machine<Incremental>,
+    keeper: K,
+    by: Entity,
+    job: &Text,
+    table: &Bytes,
+) -> (Reply, Next<K>)
+    requires served { IsServed machine (K.payloads keeper) (K.has_failed keeper) }
+    requires caller { is_entity by ≡ true }
+    requires form { is_extension job.now ≡ true }
+    ensures turn { Carries machine (load_ordered machine (Some by) job.now table.now) result }
+    ensures kept { KeepsNext ⟦<K as Keeper>⟧ machine.history (load_ordered machine (Some by) job.now table.now).1.history keeper result.1 }
+    ensures unnumbered { (n : ℕ) (id : Option ℕ) → result.0 ≡ Reply.Number n id → ⊥ }
+    ensures loaded { (n : ℕ) (counts : LoadCounts) → result.0 ≡ Reply.Loaded n counts → IsLoaded ⟦<K as Keeper>⟧ machine.history n result.1 }
+{
+    match machine.plan_load(alloc, &by, job, table.bytes()) {
+        Err(AllocError) => (Reply::NoMemory, Next::Go(Service { machine, keeper })),
+        Ok(Err(refusal)) => (
+            Reply::Refused(refusal),
+            Next::Go(Service { machine, keeper }),
+        ),
+        Ok(Ok((command, counts))) => {
+            let at = machine.clock();
+            let stamped = Stamped { at, by, command };
+            keep_load(alloc, machine, keeper, stamped, counts)
+        }
+    }
+}
+
+/// Plans the load of whoever has this text and carries it out, unless it is refused.
+fn load_by<K: Keeper>(
+    alloc: Global,
+    machine: Machine<Incremental>,
+    keeper: K,
+    by: Bytes,
+    job: Text,
+    table: Bytes,
+) -> (Reply, Next<K>)
+    requires served { IsServed machine (K.payloads keeper) (K.has_failed keeper) }
+    requires form { is_extension job ≡ true }
+    ensures turn { Carries machine (requested machine by (Op.Load job table)) result }
+    ensures kept { KeepsNext ⟦<K as Keeper>⟧ machine.history (requested machine by (Op.Load job table)).1.history keeper result.1 }
+    ensures unnumbered { (n : ℕ) (id : Option ℕ) → result.0 ≡ Reply.Number n id → ⊥ }
+    ensures loaded { (n : ℕ) (counts : LoadCounts) → result.0 ≡ Reply.Loaded n counts → IsLoaded ⟦<K as Keeper>⟧ machine.history n result.1 }
+{
+    match Entity::parse(alloc, by.bytes()) {
+        Err(AllocError) => (Reply::NoMemory, Next::Go(Service { machine, keeper })),
+        Ok(None) => (
+            Reply::Refused(Refusal::NoCaller),
+            Next::Go(Service { machine, keeper }),
+        ),
+        Ok(Some(by)) => load(alloc, machine, keeper, by, &job, &table),
+    }
+}
+
 impl<K: Keeper> Service<K> {
     /// The service over a keeper's history, whose records these are, with the clock at its last
     /// moment, or at 0. `Damaged` names the first place whose payload is no command's, falls in
@@ -268,6 +363,9 @@ impl<K: Keeper> Service<K> {
         // history with it at its end.
         ensures acknowledged { (n : ℕ) (id : Option ℕ) → result.0 ≡ Reply.Number n id → IsAcknowledged ⟦<K as Keeper>⟧ self.state.history n id result.1 }
 
+        // The same after a load is answered with its number.
+        ensures loaded { (n : ℕ) (counts : LoadCounts) → result.0 ≡ Reply.Loaded n counts → IsLoaded ⟦<K as Keeper>⟧ self.state.history n result.1 }
+
         // A query leaves the keeper as it was, and so the service doesn't stop for it.
         ensures asked { IsQuery request.op → LeavesKeeper self.keeper result.1 }
     {
@@ -281,6 +379,7 @@ impl<K: Keeper> Service<K> {
         match op {
             Op::Query(query) => asked(alloc, machine, keeper, by, query),
             Op::Command(command) => commanded(alloc, machine, keeper, by, command),
+            Op::Load { job, table } => load_by(alloc, machine, keeper, by, job, table),
         }
     }
 

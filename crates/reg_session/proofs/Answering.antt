@@ -9,15 +9,17 @@ use Rattle.reg_terms.specs.declared.refusal.Refusal.{Refusal}
 use Rattle.reg_base.specs.declared.entity.Entity.{Entity}
 use Rattle.reg_terms.specs.declared.command.Command.{Command}
 use Rattle.reg_machine.specs.History.{State}
+use Rattle.reg_machine.specs.Loads.{load_outcome}
 use Rattle.reg_machine.specs.Refusals.{refusal}
 use Rattle.reg_terms.specs.declared.request.Request.{Request}
 use Rattle.reg_terms.specs.declared.request.Op.{Op}
 use Rattle.reg_terms.specs.declared.request.Op.TheVariants as op
+use Rattle.reg_terms.specs.declared.reply.LoadCounts.{LoadCounts}
 use Rattle.reg_terms.specs.declared.reply.Reply.{Reply}
 use Rattle.reg_terms.specs.declared.reply.Reply.TheVariants as reply
 use Rattle.reg_json.specs.Reading.{reading_of}
 use Rattle.reg_base.specs.Entities.{entity_of}
-use Rattle.reg_service.specs.Turn.{at_moment, decided, requested, turn, Turns, Follows, last_reply, ordered}
+use Rattle.reg_service.specs.Turn.{at_moment, decided, load_ordered, loaded, requested, turn, Turns, Follows, last_reply, ordered}
 use Rattle.reg_service.specs.Opening.{Served}
 use Rattle.reg_service.specs.declared.service.Cause.{Cause}
 use Rattle.reg_service.specs.declared.service.Next.{Next}
@@ -35,9 +37,18 @@ ordered_keeps : (s : State) (by : Option Entity) (command : Command) → is_acce
 ordered_keeps s None command h = refl
 ordered_keeps s (Some by) command h = decided_keeps s by command (refusal s.history s.clock by command) h
 
+plan_keeps : (s : State) (by : Entity) (plan : Result (Command × LoadCounts) Refusal) → is_accepted (loaded s by plan).0 ≡ false → (loaded s by plan).1 ≡ s
+plan_keeps s by (Ok plan) h = cc
+plan_keeps s by (Err r) h = refl
+
+pub load_keeps : (s : State) (by : Option Entity) (job table : List ℕ) → is_accepted (load_ordered s by job table).0 ≡ false → (load_ordered s by job table).1 ≡ s
+load_keeps s None job table h = refl
+load_keeps s (Some by) job table h = plan_keeps s by (load_outcome s.history s.clock by job table) h
+
 answered_keeps : (s : State) (by : List ℕ) (asked : Op) → is_accepted (requested s by asked).0 ≡ false → (requested s by asked).1 ≡ s
 answered_keeps s by (op.Command command) h = ordered_keeps s (entity_of by) command h
 answered_keeps s by (op.Query query) h = refl
+answered_keeps s by (op.Load job table) h = load_keeps s (entity_of by) job table h
 
 -- what isn't an accepted command moves the clock alone
 turn_keeps : (s : State) (m : ℕ) (reading : Result Request Refusal) → is_accepted (turn s m reading).0 ≡ false → (turn s m reading).1 ≡ at_moment s m

@@ -10,16 +10,18 @@ use Rattle.reg_terms.specs.declared.command.Command.{Command}
 use Rattle.reg_terms.specs.declared.command.Stamped.{Stamped}
 use Rattle.reg_terms.specs.declared.refusal.Refusal.{Refusal}
 use Rattle.reg_terms.specs.declared.refusal.Refusal.TheVariants.{BadWindow}
+use Rattle.reg_terms.specs.declared.reply.LoadCounts.{LoadCounts}
 use Rattle.reg_terms.specs.declared.request.Request.{Request}
 use Rattle.reg_terms.specs.declared.request.Op.{Op}
 use Rattle.reg_terms.specs.declared.request.Op.TheVariants as op
 use Rattle.reg_machine.specs.History.{State}
+use Rattle.reg_machine.specs.Loads.{load_outcome}
 use Rattle.reg_machine.specs.Refusals.{refusal}
 use Rattle.reg_keep.specs.declared.keeper.Keeper.{Ghosts}
 use Rattle.reg_service.specs.Opening.{payloads_of, Served, FrontsReopen}
 use Rattle.reg_service.specs.Kept.{KeptOn, IsBetween, IsOneMore, Stopped, Halted, KeepsNext, Began, RoseAt}
 use Rattle.reg_base.specs.Entities.{entity_of}
-use Rattle.reg_service.specs.Turn.{requested, decided, turn, at_moment, ordered}
+use Rattle.reg_service.specs.Turn.{requested, decided, load_ordered, loaded, turn, at_moment, ordered}
 use Rattle.reg_service.specs.declared.service.Next.{Next}
 use Rattle.reg_service.specs.declared.service.Next.TheVariants as next
 use Rattle.reg_service.specs.declared.service.Cause.{Cause}
@@ -169,9 +171,18 @@ ordered_one : (s : State) (by : Option Entity) (command : Command) → IsOneMore
 ordered_one s None command = inl refl
 ordered_one s (Some by) command = decided_one s by command (refusal s.history s.clock by command)
 
+loaded_one : (s : State) (by : Entity) (plan : Result (Command × LoadCounts) Refusal) → IsOneMore s.history (loaded s by plan).1.history
+loaded_one s by (Ok plan) = inr (record { at = s.clock; by = by; command = plan.0 }, refl)
+loaded_one s by (Err r) = inl refl
+
+load_one : (s : State) (by : Option Entity) (job table : List ℕ) → IsOneMore s.history (load_ordered s by job table).1.history
+load_one s None job table = inl refl
+load_one s (Some by) job table = loaded_one s by (load_outcome s.history s.clock by job table)
+
 requested_one : (s : State) (by : List ℕ) (asked : Op) → IsOneMore s.history (requested s by asked).1.history
 requested_one s by (op.Command command) = ordered_one s (entity_of by) command
 requested_one s by (op.Query query) = inl refl
+requested_one s by (op.Load job table) = load_one s (entity_of by) job table
 
 -- a turn leads to the history, or to one command more
 pub turn_one : (s : State) (m : ℕ) (reading : Result Request Refusal) → IsOneMore s.history (turn s m reading).1.history

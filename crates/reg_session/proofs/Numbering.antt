@@ -7,6 +7,7 @@ use Rattle.reg_terms.specs.declared.command.Command.{Command}
 use Rattle.reg_terms.specs.declared.command.Stamped.{Stamped}
 use Rattle.reg_terms.specs.declared.refusal.Refusal.{Refusal}
 use Rattle.reg_machine.specs.History.{State}
+use Rattle.reg_machine.specs.Loads.{load_outcome}
 use Rattle.reg_machine.specs.Refusals.{refusal}
 use Rattle.reg_view.specs.AtClock.{told}
 use Rattle.reg_terms.specs.declared.query.Answer as terms
@@ -14,10 +15,11 @@ use Rattle.reg_terms.specs.declared.request.Request.{Request}
 use Rattle.reg_terms.specs.declared.request.Op.{Op}
 use Rattle.reg_terms.specs.declared.request.Op.TheVariants as op
 use Rattle.reg_terms.specs.declared.refusal.Refusal.TheVariants.{NoCaller}
+use Rattle.reg_terms.specs.declared.reply.LoadCounts.{LoadCounts}
 use Rattle.reg_terms.specs.declared.reply.Reply.{Reply}
 use Rattle.reg_terms.specs.declared.reply.Reply.TheVariants as reply
 use Rattle.reg_base.specs.Entities.{entity_of}
-use Rattle.reg_service.specs.Turn.{turn, requested, decided, answered, at_moment, Turns, ordered}
+use Rattle.reg_service.specs.Turn.{turn, requested, decided, answered, at_moment, load_ordered, loaded, Turns, ordered}
 use Rattle.reg_session.specs.Lines.{readings}
 use Rattle.reg_session.specs.Replies.{numbers, places}
 use Rattle.reg_session.specs.Answered.{Answer, Point, MayAnswer, AreNext, Answered, Accepted, moments_of, replies_of, answers, last_state}
@@ -48,9 +50,22 @@ ordered_numbers : (s : State) (by : Option Entity) (command : Command) → Numbe
 ordered_numbers s None command = nothing s (reply.Refused NoCaller) s refl (λ replies. refl)
 ordered_numbers s (Some by) command = decided_numbers s by command (refusal s.history s.clock by command)
 
+loaded_numbers : (s : State) (by : Entity) (plan : Result (Command × LoadCounts) Refusal) → NumbersAdded s (loaded s by plan).0 (loaded s by plan).1
+loaded_numbers s by (Ok plan) = record {
+  more = (record { at = s.clock; by = by; command = plan.0 }) ∷ [];
+  grown = refl;
+  tells = λ replies. ap (λ (n : ℕ). n ∷ numbers replies) (length-append s.history ((record { at = s.clock; by = by; command = plan.0 }) ∷ []));
+}
+loaded_numbers s by (Err r) = nothing s (reply.Refused r) s refl (λ replies. refl)
+
+load_numbers : (s : State) (by : Option Entity) (job table : List ℕ) → NumbersAdded s (load_ordered s by job table).0 (load_ordered s by job table).1
+load_numbers s None job table = nothing s (reply.Refused NoCaller) s refl (λ replies. refl)
+load_numbers s (Some by) job table = loaded_numbers s by (load_outcome s.history s.clock by job table)
+
 requested_numbers : (s : State) (by : List ℕ) (asked : Op) → NumbersAdded s (requested s by asked).0 (requested s by asked).1
 requested_numbers s by (op.Command command) = ordered_numbers s (entity_of by) command
 requested_numbers s by (op.Query query) = answered_numbers s (told s.history s.clock by query)
+requested_numbers s by (op.Load job table) = load_numbers s (entity_of by) job table
 
 moved : (s : State) (m : ℕ) (told : Reply) (after : State) → NumbersAdded (at_moment s m) told after → NumbersAdded s told after
 moved s m told after t = record { more = t.more; grown = t.grown; tells = t.tells }

@@ -22,6 +22,7 @@ lines_of (told ∷ replies) = line_of told ++ lines_of replies
 abbrev pub numbers : List Reply → List ℕ
 numbers [] = []
 numbers ((reply.Number n id) ∷ replies) = n ∷ numbers replies
+numbers ((reply.Loaded n counts) ∷ replies) = n ∷ numbers replies
 numbers ((reply.Answer a) ∷ replies) = numbers replies
 numbers ((reply.Refused r) ∷ replies) = numbers replies
 numbers (reply.NoMemory ∷ replies) = numbers replies
@@ -32,9 +33,10 @@ abbrev pub places : ℕ → List Stamped → List ℕ
 places n [] = []
 places n (s ∷ ss) = (n + 1) ∷ places (n + 1) ss
 
--- whether a reply says that a command was accepted
+-- whether a reply says that a command was accepted, be it that of a load
 abbrev pub is_accepted : Reply → Bool
 is_accepted (reply.Number n id) = true
+is_accepted (reply.Loaded n counts) = true
 is_accepted (reply.Answer a) = false
 is_accepted (reply.Refused r) = false
 is_accepted reply.NoMemory = false

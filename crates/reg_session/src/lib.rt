@@ -7,6 +7,6 @@ mod session;
 mod stop;
 
 pub use input::answer_input;
-pub use pending::LineReading;
+pub use pending::{LineReading, PendingLine};
 pub use session::{reply_line, turn};
 pub use stop::{Stop, stop_of};

@@ -29,7 +29,7 @@ const LINE_FEED: u8 = 10;
 fn is_accepted(reply: &Reply) -> bool
     ensures { result ≡ is_accepted reply.now }
 {
-    matches!(reply, Reply::Number { .. })
+    matches!(reply, Reply::Number { .. } | Reply::Loaded { .. })
 }
 
 /// The text of a reply, and LF.

@@ -1,5 +1,6 @@
 pub mod Cutting
 mod Makes
-mod Lists
+mod Seen
 mod Displays
 mod EntryKinds
+mod LoadWord

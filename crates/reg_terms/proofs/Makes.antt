@@ -9,7 +9,7 @@ use Rattle.reg_terms.specs.declared.kinds.Value.{Value as GivenValue}
 use Rattle.reg_terms.specs.declared.kinds.Scope.{Scope}
 use Rattle.reg_terms.specs.declared.kinds.SetOp.{SetOp}
 use Rattle.reg_terms.specs.declared.command.Command.{Command}
-use Rattle.reg_terms.specs.declared.command.Command.TheVariants.{FolderAdd, FolderRename, FolderMove, FolderDelete, SubjectAdd, GroupAdd, GroupRename, GroupMove, GroupDelete, MemberAdd, MemberRemove, MemberWindow, CompositeSet, CompositeClear, GrantAdd, GrantRemove, InheritAdd, InheritRemove, AttrdefAdd, AttrdefDelete, AttrAdd, AttrDelete, AssignAdd, AssignRemove, ValueAdd, ValueRemove, RuleRemoveLost, RuleEndLost, RuleVeto, RuleOnCreate, RuleDelete, JobSimple, JobList, JobDelete, ConsumerAdd, ConsumerAck}
+use Rattle.reg_terms.specs.declared.command.Command.TheVariants.{FolderAdd, FolderRename, FolderMove, FolderDelete, SubjectAdd, GroupAdd, GroupRename, GroupMove, GroupDelete, MemberAdd, MemberRemove, MemberWindow, CompositeSet, CompositeClear, GrantAdd, GrantRemove, InheritAdd, InheritRemove, AttrdefAdd, AttrdefDelete, AttrAdd, AttrDelete, AssignAdd, AssignRemove, ValueAdd, ValueRemove, RuleRemoveLost, RuleEndLost, RuleVeto, RuleOnCreate, RuleDelete, JobSimple, JobList, JobDelete, Load, ConsumerAdd, ConsumerAck}
 use Rattle.reg_terms.specs.declared.query.Query.TheVariants.{GroupGet, FolderList, Members, Rows, Groups, Grants, May, Attributes, History, Log, Admin}
 use Rattle.reg_terms.specs.declared.request.Op.TheVariants as asked
 use Rattle.reg_terms.specs.declared.table.CommandKind.{CommandKind}
@@ -18,12 +18,13 @@ use Rattle.reg_terms.specs.declared.table.QueryKind.{QueryKind}
 use Rattle.reg_terms.specs.declared.table.QueryKind.TheVariants as query
 use Rattle.reg_terms.specs.declared.table.OpKind.{OpKind}
 use Rattle.reg_terms.specs.declared.table.OpKind.TheVariants as op
+use Rattle.reg_terms.specs.declared.lists.LoadRow.{LoadRow}
 use Rattle.reg_terms.specs.declared.field.FieldKind.{FieldKind}
 use Rattle.reg_terms.specs.declared.field.FieldKind.TheVariants as kind
 use Rattle.reg_terms.specs.declared.field.Field.{Field}
 use Rattle.reg_terms.specs.declared.field.Field.TheVariants as field
 use Rattle.reg_terms.specs.Parts.{field_kind, next_as}
-use Rattle.reg_terms.specs.Table.{command_row, query_row, row_of, field_kinds, IsMadeCommand, IsMade, IsApart}
+use Rattle.reg_terms.specs.Table.{command_row, query_row, load_row, row_of, field_kinds, IsMadeCommand, IsMade, IsApart}
 
 -- ---- by the kinds of fields
 
@@ -46,6 +47,9 @@ Value kind.Flag = Bool
 Value kind.DefKind = DefKind
 Value kind.Value = GivenValue
 Value (kind.Number least most) = ℕ
+Value kind.Names = List (List ℕ)
+Value kind.LoadRows = List LoadRow
+Value kind.Table = List ℕ
 
 -- a value as a field
 abbrev as_field : (k : FieldKind) → Value k → Field
@@ -66,6 +70,9 @@ as_field kind.Flag v = field.Flag v
 as_field kind.DefKind v = field.DefKind v
 as_field kind.Value v = field.Value v
 as_field (kind.Number least most) v = field.Number v least most
+as_field kind.Names v = field.Names v
+as_field kind.LoadRows v = field.LoadRows v
+as_field kind.Table v = field.Table v
 
 -- values of so many kinds
 abbrev Values : List FieldKind → Type 0
@@ -96,6 +103,9 @@ field_value (field.Flag v) = (v, refl)
 field_value (field.DefKind v) = (v, refl)
 field_value (field.Value v) = (v, refl)
 field_value (field.Number v least most) = (v, refl)
+field_value (field.Names v) = (v, refl)
+field_value (field.LoadRows v) = (v, refl)
+field_value (field.Table v) = (v, refl)
 
 -- fields are values of these kinds
 record AreValues (ks : List FieldKind) (fields : List Field) : Type 0 where
@@ -153,6 +163,7 @@ makes command.RuleDelete v = record { command = RuleDelete _; made_so = refl; is
 makes command.JobSimple v = record { command = JobSimple _ _ _ _ _; made_so = refl; is_kind = refl; has_these = refl }
 makes command.JobList v = record { command = JobList _ _ _ _ _; made_so = refl; is_kind = refl; has_these = refl }
 makes command.JobDelete v = record { command = JobDelete _; made_so = refl; is_kind = refl; has_these = refl }
+makes command.Load v = record { command = Load _ _ _ _; made_so = refl; is_kind = refl; has_these = refl }
 makes command.ConsumerAdd v = record { command = ConsumerAdd _; made_so = refl; is_kind = refl; has_these = refl }
 makes command.ConsumerAck v = record { command = ConsumerAck _ _; made_so = refl; is_kind = refl; has_these = refl }
 
@@ -169,6 +180,10 @@ query_makes query.Attributes v = record { op = asked.Query (Attributes _ _); mad
 query_makes query.History v = record { op = asked.Query (History _); made_so = refl; is_kind = refl; has_these = refl }
 query_makes query.Log v = record { op = asked.Query (Log _ _); made_so = refl; is_kind = refl; has_these = refl }
 query_makes query.Admin v = record { op = asked.Query Admin; made_so = refl; is_kind = refl; has_these = refl }
+
+load_makes : (v : Values (field_kinds load_row)) → IsMade op.Load (as_fields (field_kinds load_row) v)
+unfolding next_as
+load_makes v = record { op = asked.Load _ _; made_so = refl; is_kind = refl; has_these = refl }
 
 pub command_apart : (c : Command) → IsApart c
 unfolding next_as
@@ -206,6 +221,7 @@ command_apart (RuleDelete a) = record { few = lit≤ tt; kinds = refl; again = r
 command_apart (JobSimple a b c d e) = record { few = lit≤ tt; kinds = refl; again = refl; coded_so = refl }
 command_apart (JobList a b c d e) = record { few = lit≤ tt; kinds = refl; again = refl; coded_so = refl }
 command_apart (JobDelete a) = record { few = lit≤ tt; kinds = refl; again = refl; coded_so = refl }
+command_apart (Load a b c d) = record { few = lit≤ tt; kinds = refl; again = refl; coded_so = refl }
 command_apart (ConsumerAdd a) = record { few = lit≤ tt; kinds = refl; again = refl; coded_so = refl }
 command_apart (ConsumerAck a b) = record { few = lit≤ tt; kinds = refl; again = refl; coded_so = refl }
 
@@ -228,3 +244,6 @@ op_made (op.Command k) fields e =
 op_made (op.Query k) fields e =
     let v = of_kinds (field_kinds (query_row k)) fields e in
     subst (IsMade (op.Query k)) v.are (query_makes k v.values)
+op_made op.Load fields e =
+    let v = of_kinds (field_kinds load_row) fields e in
+    subst (IsMade op.Load) v.are (load_makes v.values)

@@ -1,4 +1,4 @@
--- The form that each field has, and whether a command's or a query's fields have theirs.
+-- The form that each field has, and whether the fields of a command, a query or a load have theirs.
 use Rattle.std.specs.Prelude.{ℕ, ◌==◌, ◌&&◌, ◌||◌, ◌^◌, ℤ, pos, negsuc, List, Bool, true, Option, None, Some, length, codes, nat_le, nat_lt, is_some, if◌then◌else◌}
 use Rattle.std.specs.List.{list_all, list_any}
 use Rattle.std.specs.Str.{bytes_eq, is_utf8}
@@ -9,6 +9,7 @@ use Rattle.reg_base.specs.declared.entity.Entity.TheVariants as entity
 use Rattle.reg_terms.specs.declared.kinds.Owners.{Owners}
 use Rattle.reg_terms.specs.declared.kinds.Value.{Value}
 use Rattle.reg_terms.specs.declared.kinds.Value.TheVariants as value
+use Rattle.reg_terms.specs.declared.lists.LoadRow.{LoadRow}
 use Rattle.reg_terms.specs.declared.command.Command.{Command}
 use Rattle.reg_terms.specs.declared.query.Query.{Query}
 use Rattle.reg_terms.specs.declared.request.Op.{Op}
@@ -60,6 +61,22 @@ abbrev pub is_value : Value → Bool
 is_value (value.Int n) = is_i64 n
 is_value (value.Text text) = is_display text
 
+-- fewer items than 2^32
+abbrev pub are_few : ℕ → Bool
+are_few count = nat_lt count (2 ^ 32)
+
+-- names, and fewer than 2^32
+abbrev pub are_names : List (List ℕ) → Bool
+are_names names = list_all is_name names && are_few (length names)
+
+-- a group's name, and a person's text
+abbrev pub is_load_row : LoadRow → Bool
+is_load_row row = is_name row.group && is_person row.person
+
+-- rows of a load, and fewer than 2^32
+abbrev pub are_load_rows : List LoadRow → Bool
+are_load_rows rows = list_all is_load_row rows && are_few (length rows)
+
 -- what may stand in a field
 abbrev pub is_field : Field → Bool
 is_field (field.Name text) = is_name text
@@ -79,6 +96,9 @@ is_field (field.Flag flag) = true
 is_field (field.DefKind kind) = true
 is_field (field.Value value) = is_value value
 is_field (field.Number value least most) = nat_le least value && nat_le value most
+is_field (field.Names names) = are_names names
+is_field (field.LoadRows rows) = are_load_rows rows
+is_field (field.Table table) = true
 
 -- whether each field of a command has its form
 unfoldable pub has_form : Command → Bool
@@ -88,7 +108,8 @@ has_form c = list_all is_field (fields_of c)
 unfoldable pub query_has_form : Query → Bool
 query_has_form q = list_all is_field (query_apart q).1
 
--- whether each field of a command or query has its form
+-- whether each field of a command, a query or a load has its form
 abbrev pub op_has_form : Op → Bool
 op_has_form (asked.Command c) = has_form c
 op_has_form (asked.Query q) = query_has_form q
+op_has_form (asked.Load job table) = is_extension job

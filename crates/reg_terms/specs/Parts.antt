@@ -9,6 +9,7 @@ use Rattle.reg_terms.specs.declared.kinds.DefKind.{DefKind}
 use Rattle.reg_terms.specs.declared.kinds.Value.{Value}
 use Rattle.reg_terms.specs.declared.kinds.Scope.{Scope}
 use Rattle.reg_terms.specs.declared.kinds.SetOp.{SetOp}
+use Rattle.reg_terms.specs.declared.lists.LoadRow.{LoadRow}
 use Rattle.reg_terms.specs.declared.field.FieldKind.{FieldKind}
 use Rattle.reg_terms.specs.declared.field.FieldKind.TheVariants as kind
 use Rattle.reg_terms.specs.declared.field.Field.{Field}
@@ -40,6 +41,9 @@ field_kind (field.Flag v) = kind.Flag
 field_kind (field.DefKind v) = kind.DefKind
 field_kind (field.Value v) = kind.Value
 field_kind (field.Number v least most) = kind.Number least most
+field_kind (field.Names v) = kind.Names
+field_kind (field.LoadRows v) = kind.LoadRows
+field_kind (field.Table v) = kind.Table
 
 -- the name, if the field is one
 abbrev pub as_name : Field → Option (List ℕ)
@@ -126,6 +130,21 @@ abbrev pub as_number : Field → Option ℕ
 as_number (field.Number v least most) = Some v
 as_number _ = None
 
+-- the names of objects, if the field is that
+abbrev pub as_names : Field → Option (List (List ℕ))
+as_names (field.Names v) = Some v
+as_names _ = None
+
+-- the rows of a load, if the field is that
+abbrev pub as_load_rows : Field → Option (List LoadRow)
+as_load_rows (field.LoadRows v) = Some v
+as_load_rows _ = None
+
+-- the bytes of a table, if the field is that
+abbrev pub as_table : Field → Option (List ℕ)
+as_table (field.Table v) = Some v
+as_table _ = None
+
 -- the field that is seen, if one is
 abbrev pub seen : FieldRef → List Field
 seen reference.Nothing = []
@@ -146,6 +165,8 @@ seen (reference.Flag v) = field.Flag v ∷ []
 seen (reference.DefKind v) = field.DefKind v ∷ []
 seen (reference.Value v) = field.Value v.now ∷ []
 seen (reference.Number v least most) = field.Number v least most ∷ []
+seen (reference.Names v) = field.Names v.now ∷ []
+seen (reference.LoadRows v) = field.LoadRows v.now ∷ []
 
 -- the fields that are seen
 abbrev pub seen_all : List FieldRef → List Field
@@ -230,6 +251,18 @@ value_in fields = next_as as_value fields
 -- a number from the front
 abbrev pub number_in : List Field → Option (ℕ × List Field)
 number_in fields = next_as as_number fields
+
+-- names of objects from the front
+abbrev pub names_in : List Field → Option (List (List ℕ) × List Field)
+names_in fields = next_as as_names fields
+
+-- rows of a load from the front
+abbrev pub load_rows_in : List Field → Option (List LoadRow × List Field)
+load_rows_in fields = next_as as_load_rows fields
+
+-- the bytes of a table from the front
+abbrev pub table_in : List Field → Option (List ℕ × List Field)
+table_in fields = next_as as_table fields
 
 -- what was made, where no field is left
 abbrev pub whole : {A : Type 0} → A → List Field → Option A

@@ -1,8 +1,8 @@
--- The table of ops: each with its word, its code and its fields, and a command or query taken apart and made of them.
+-- The table of ops: each with its word, its code and its fields, and an op taken apart and made of them.
 use Rattle.std.specs.Prelude.{◌≡◌, ◌≤◌, ℕ, List, [], ◌∷◌, ◌==◌, if◌then◌else◌, Option, Some, None, option_map, codes, map, length}
 use Rattle.std.specs.Str.{bytes_eq}
 use Rattle.reg_terms.specs.declared.command.Command.{Command}
-use Rattle.reg_terms.specs.declared.command.Command.TheVariants.{FolderAdd, FolderRename, FolderMove, FolderDelete, SubjectAdd, GroupAdd, GroupRename, GroupMove, GroupDelete, MemberAdd, MemberRemove, MemberWindow, CompositeSet, CompositeClear, GrantAdd, GrantRemove, InheritAdd, InheritRemove, AttrdefAdd, AttrdefDelete, AttrAdd, AttrDelete, AssignAdd, AssignRemove, ValueAdd, ValueRemove, RuleRemoveLost, RuleEndLost, RuleVeto, RuleOnCreate, RuleDelete, JobSimple, JobList, JobDelete, ConsumerAdd, ConsumerAck}
+use Rattle.reg_terms.specs.declared.command.Command.TheVariants.{FolderAdd, FolderRename, FolderMove, FolderDelete, SubjectAdd, GroupAdd, GroupRename, GroupMove, GroupDelete, MemberAdd, MemberRemove, MemberWindow, CompositeSet, CompositeClear, GrantAdd, GrantRemove, InheritAdd, InheritRemove, AttrdefAdd, AttrdefDelete, AttrAdd, AttrDelete, AssignAdd, AssignRemove, ValueAdd, ValueRemove, RuleRemoveLost, RuleEndLost, RuleVeto, RuleOnCreate, RuleDelete, JobSimple, JobList, JobDelete, Load, ConsumerAdd, ConsumerAck}
 use Rattle.reg_terms.specs.declared.query.Query.{Query}
 use Rattle.reg_terms.specs.declared.query.Query.TheVariants.{GroupGet, FolderList, Members, Rows, Groups, Grants, May, Attributes, History, Log, Admin}
 use Rattle.reg_terms.specs.declared.request.Op.{Op}
@@ -17,7 +17,7 @@ use Rattle.reg_terms.specs.declared.field.FieldKind.{FieldKind}
 use Rattle.reg_terms.specs.declared.field.FieldKind.TheVariants as kind
 use Rattle.reg_terms.specs.declared.field.Field.{Field}
 use Rattle.reg_terms.specs.declared.field.Field.TheVariants as field
-use Rattle.reg_terms.specs.Parts.{◌>>=◌, field_kind, name_in, folder_in, extension_in, source_in, display_in, entity_in, object_in, moment_in, set_op_in, inherit_kind_in, scope_in, privilege_in, owners_in, flag_in, def_kind_in, value_in, number_in, whole}
+use Rattle.reg_terms.specs.Parts.{◌>>=◌, field_kind, name_in, folder_in, extension_in, source_in, display_in, entity_in, object_in, moment_in, set_op_in, inherit_kind_in, scope_in, privilege_in, owners_in, flag_in, def_kind_in, value_in, number_in, names_in, load_rows_in, table_in, whole}
 
 -- ---- the table
 
@@ -67,6 +67,7 @@ command_row command.RuleDelete = record { code = 31; op = record { word = codes 
 command_row command.JobSimple = record { code = 32; op = record { word = codes "job.simple"; fields = (codes "job", kind.Extension) ∷ (codes "group", kind.Name) ∷ (codes "source", kind.Source) ∷ (codes "min_size", kind.Number 0 4294967295) ∷ (codes "max_percent", kind.Number 0 100) ∷ [] } }
 command_row command.JobList = record { code = 33; op = record { word = codes "job.list"; fields = (codes "job", kind.Extension) ∷ (codes "folder", kind.Folder) ∷ (codes "source", kind.Source) ∷ (codes "min_size", kind.Number 0 4294967295) ∷ (codes "max_percent", kind.Number 0 100) ∷ [] } }
 command_row command.JobDelete = record { code = 34; op = record { word = codes "job.delete"; fields = (codes "job", kind.Extension) ∷ [] } }
+command_row command.Load = record { code = 35; op = record { word = codes "load"; fields = (codes "job", kind.Extension) ∷ (codes "created", kind.Names) ∷ (codes "removed", kind.LoadRows) ∷ (codes "added", kind.LoadRows) ∷ [] } }
 command_row command.ConsumerAdd = record { code = 36; op = record { word = codes "consumer.add"; fields = (codes "consumer", kind.Extension) ∷ [] } }
 command_row command.ConsumerAck = record { code = 37; op = record { word = codes "consumer.ack"; fields = (codes "consumer", kind.Extension) ∷ (codes "seq", kind.Number 0 18446744073709551615) ∷ [] } }
 
@@ -84,14 +85,19 @@ query_row query.History = record { word = codes "history"; fields = (codes "grou
 query_row query.Log = record { word = codes "log"; fields = (codes "consumer", kind.Extension) ∷ (codes "max", kind.Number 1 1000) ∷ [] }
 query_row query.Admin = record { word = codes "admin"; fields = [] }
 
+-- the row of a load as a request brings it
+abbrev pub load_row : Row
+load_row = record { word = codes "load"; fields = (codes "job", kind.Extension) ∷ (codes "table", kind.Table) ∷ [] }
+
 -- the row of an op
 abbrev pub row_of : OpKind → Row
 row_of (op.Command k) = (command_row k).op
 row_of (op.Query k) = query_row k
+row_of op.Load = load_row
 
 -- every command
 abbrev pub commands : List CommandKind
-commands = command.FolderAdd ∷ command.FolderRename ∷ command.FolderMove ∷ command.FolderDelete ∷ command.SubjectAdd ∷ command.GroupAdd ∷ command.GroupRename ∷ command.GroupMove ∷ command.GroupDelete ∷ command.MemberAdd ∷ command.MemberRemove ∷ command.MemberWindow ∷ command.CompositeSet ∷ command.CompositeClear ∷ command.GrantAdd ∷ command.GrantRemove ∷ command.InheritAdd ∷ command.InheritRemove ∷ command.AttrdefAdd ∷ command.AttrdefDelete ∷ command.AttrAdd ∷ command.AttrDelete ∷ command.AssignAdd ∷ command.AssignRemove ∷ command.ValueAdd ∷ command.ValueRemove ∷ command.RuleRemoveLost ∷ command.RuleEndLost ∷ command.RuleVeto ∷ command.RuleOnCreate ∷ command.RuleDelete ∷ command.JobSimple ∷ command.JobList ∷ command.JobDelete ∷ command.ConsumerAdd ∷ command.ConsumerAck ∷ []
+commands = command.FolderAdd ∷ command.FolderRename ∷ command.FolderMove ∷ command.FolderDelete ∷ command.SubjectAdd ∷ command.GroupAdd ∷ command.GroupRename ∷ command.GroupMove ∷ command.GroupDelete ∷ command.MemberAdd ∷ command.MemberRemove ∷ command.MemberWindow ∷ command.CompositeSet ∷ command.CompositeClear ∷ command.GrantAdd ∷ command.GrantRemove ∷ command.InheritAdd ∷ command.InheritRemove ∷ command.AttrdefAdd ∷ command.AttrdefDelete ∷ command.AttrAdd ∷ command.AttrDelete ∷ command.AssignAdd ∷ command.AssignRemove ∷ command.ValueAdd ∷ command.ValueRemove ∷ command.RuleRemoveLost ∷ command.RuleEndLost ∷ command.RuleVeto ∷ command.RuleOnCreate ∷ command.RuleDelete ∷ command.JobSimple ∷ command.JobList ∷ command.JobDelete ∷ command.Load ∷ command.ConsumerAdd ∷ command.ConsumerAck ∷ []
 
 -- every query
 abbrev pub queries : List QueryKind
@@ -116,12 +122,14 @@ abbrev pub query_named : List QueryKind → List ℕ → Option QueryKind
 query_named [] word = None
 query_named (k ∷ ks) word = if bytes_eq (query_row k).word word then Some k else query_named ks word
 
--- the op that a word names
+-- the command that a word names, else the query
+abbrev pub command_or_query : Option CommandKind → Option QueryKind → Option OpKind
+command_or_query (Some k) query = Some (op.Command k)
+command_or_query None query = option_map (λ k. op.Query k) query
+
+-- the op that a word names: a load brings a table, and no request a command of loads
 unfoldable pub kind_named : List ℕ → Option OpKind
-kind_named word = elim (command_named commands word) [
-  | Some k ↦ Some (op.Command k)
-  | None ↦ option_map (λ k. op.Query k) (query_named queries word)
-]
+kind_named word = if bytes_eq load_row.word word then Some op.Load else command_or_query (command_named commands word) (query_named queries word)
 
 -- ---- taken apart
 
@@ -161,6 +169,7 @@ apart (RuleDelete id) = (command.RuleDelete, field.Number id 0 18446744073709551
 apart (JobSimple job group source min_size max_percent) = (command.JobSimple, field.Extension job ∷ field.Name group ∷ field.Source source ∷ field.Number min_size 0 4294967295 ∷ field.Number max_percent 0 100 ∷ [])
 apart (JobList job folder source min_size max_percent) = (command.JobList, field.Extension job ∷ field.Folder folder ∷ field.Source source ∷ field.Number min_size 0 4294967295 ∷ field.Number max_percent 0 100 ∷ [])
 apart (JobDelete job) = (command.JobDelete, field.Extension job ∷ [])
+apart (Load job created removed added) = (command.Load, field.Extension job ∷ field.Names created ∷ field.LoadRows removed ∷ field.LoadRows added ∷ [])
 apart (ConsumerAdd consumer) = (command.ConsumerAdd, field.Extension consumer ∷ [])
 apart (ConsumerAck consumer seq) = (command.ConsumerAck, field.Extension consumer ∷ field.Number seq 0 18446744073709551615 ∷ [])
 
@@ -194,11 +203,13 @@ code_of c = (command_row (kind_of c)).code
 abbrev pub op_kind : Op → OpKind
 op_kind (asked.Command c) = op.Command (apart c).0
 op_kind (asked.Query q) = op.Query (query_apart q).0
+op_kind (asked.Load job table) = op.Load
 
 -- its fields, in order
 abbrev pub op_fields : Op → List Field
 op_fields (asked.Command c) = (apart c).1
 op_fields (asked.Query q) = (query_apart q).1
+op_fields (asked.Load job table) = field.Extension job ∷ field.Table table ∷ []
 
 -- ---- and made of fields
 
@@ -364,6 +375,12 @@ made_command command.JobList fields = do
 made_command command.JobDelete fields = do
   job ← extension_in fields
   whole (JobDelete job.0) job.1
+made_command command.Load fields = do
+  job ← extension_in fields
+  created ← names_in job.1
+  removed ← load_rows_in created.1
+  added ← load_rows_in removed.1
+  whole (Load job.0 created.0 removed.0 added.0) added.1
 made_command command.ConsumerAdd fields = do
   consumer ← extension_in fields
   whole (ConsumerAdd consumer.0) consumer.1
@@ -417,6 +434,10 @@ made_query query.Admin fields = whole Admin fields
 abbrev pub made : OpKind → List Field → Option Op
 made (op.Command k) fields = option_map (λ c. asked.Command c) (made_command k fields)
 made (op.Query k) fields = option_map (λ q. asked.Query q) (made_query k fields)
+made op.Load fields = do
+  job ← extension_in fields
+  table ← table_in job.1
+  whole (asked.Load job.0 table.0) table.1
 
 -- ---- what holds of them
 
@@ -427,7 +448,7 @@ pub record IsMadeCommand (k : CommandKind) (fields : List Field) : Type 0 where
   pub is_kind : kind_of command ≡ k
   pub has_these : fields_of command ≡ fields
 
--- fields make a command or query, which has these fields
+-- fields make an op, which has these fields
 pub record IsMade (k : OpKind) (fields : List Field) : Type 0 where
   pub op : Op
   pub made_so : made k fields ≡ Some op

@@ -1,9 +1,9 @@
 // A field of a command or a query, and the kinds of fields.
 ghost use Rattle.std.specs.Prelude.{◌≡◌};
-ghost use Rattle.reg_terms.specs.Parts.{as_name, as_folder, as_extension, as_source, as_display, as_entity, as_object, as_moment, as_set_op, as_inherit_kind, as_scope, as_privilege, as_owners, as_flag, as_def_kind, as_value, as_number};
+ghost use Rattle.reg_terms.specs.Parts.{as_name, as_folder, as_extension, as_source, as_display, as_entity, as_object, as_moment, as_set_op, as_inherit_kind, as_scope, as_privilege, as_owners, as_flag, as_def_kind, as_value, as_number, as_names, as_load_rows, as_table};
 
-use crate::{DefKind, InheritKind, Owners, Scope, SetOp, Value};
-use reg_base::{Entity, Moment, Name, Privilege, Text};
+use crate::{DefKind, InheritKind, LoadRows, Names, Owners, Scope, SetOp, Value};
+use reg_base::{Bytes, Entity, Moment, Name, Privilege, Text};
 
 /// A kind of field: which values may stand in it, and how they are written (`docs/REQUESTS.md`,
 /// `docs/JOURNAL.md`).
@@ -43,6 +43,12 @@ pub enum FieldKind {
     Value,
     /// A whole number from `least` to `most`.
     Number { least: u64, most: u64 },
+    /// Names of objects, fewer than 2^32.
+    Names,
+    /// Rows of a load, fewer than 2^32.
+    LoadRows,
+    /// The bytes of a table.
+    Table,
 }
 
 /// A field of a command or a query.
@@ -66,6 +72,9 @@ pub enum Field {
     Value(Value),
     /// A number, and the least and the greatest that may stand here.
     Number { value: u64, least: u64, most: u64 },
+    Names(Names),
+    LoadRows(LoadRows),
+    Table(Bytes),
 }
 
 impl Field {
@@ -235,6 +244,36 @@ impl Field {
     {
         match self {
             Field::Number { value, .. } => Some(*value),
+            _ => None,
+        }
+    }
+
+    /// The names of objects, if it is that.
+    pub fn names(self) -> Option<Names>
+        ensures { result ≡ as_names self }
+    {
+        match self {
+            Field::Names(names) => Some(names),
+            _ => None,
+        }
+    }
+
+    /// The rows of a load, if it is that.
+    pub fn load_rows(self) -> Option<LoadRows>
+        ensures { result ≡ as_load_rows self }
+    {
+        match self {
+            Field::LoadRows(rows) => Some(rows),
+            _ => None,
+        }
+    }
+
+    /// The bytes of a table, if it is that.
+    pub fn table(self) -> Option<Bytes>
+        ensures { result ≡ as_table self }
+    {
+        match self {
+            Field::Table(table) => Some(table),
             _ => None,
         }
     }

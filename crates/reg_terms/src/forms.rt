@@ -1,14 +1,15 @@
 // Whether fields have their forms.
 ghost use Rattle.std.specs.Prelude.{◌≡◌, ◌≤◌, is_some, length};
 ghost use Rattle.std.specs.List.{list_all};
+ghost use Rattle.reg_base.specs.Names.{is_name};
 ghost use Rattle.reg_base.specs.Entities.{entity_of, group_entity, person_entity};
-ghost use Rattle.reg_terms.specs.Forms.{is_folder_text, is_display, is_entity, is_object_text, is_optional_moment, is_i64, is_value, suits_some, is_field, has_form};
+ghost use Rattle.reg_terms.specs.Forms.{is_folder_text, is_display, is_entity, is_object_text, is_optional_moment, is_i64, is_value, suits_some, is_load_row, are_few, are_names, are_load_rows, is_field, has_form};
 ghost use Rattle.reg_terms.specs.Parts.{seen, seen_all};
 
 use crate::limits::MAX_DISPLAY;
 use crate::parts::{FieldRef, fields_of};
-use crate::{Command, Owners, Value};
-use reg_base::{Entity, Moment, Text, is_extension, is_name, is_person, is_source};
+use crate::{Command, LoadRow, LoadRows, Names, Owners, Value};
+use reg_base::{Entity, Moment, Name, Text, is_extension, is_name, is_person, is_source};
 
 /// Whether the text is the name of a folder, or `:` for the root.
 pub fn is_folder_text(text: &[u8]) -> bool
@@ -104,6 +105,45 @@ fn is_value(value: &Value) -> bool
     }
 }
 
+/// Whether so many items are fewer than 2^32.
+fn are_few(count: usize) -> bool
+    ensures { result ≡ are_few count }
+{
+    count < 4_294_967_296
+}
+
+fn all_names(names: &[Name]) -> bool
+    ensures { result ≡ list_all is_name names.now }
+{
+    names.iter().all(|name| is_name(name.bytes()))
+}
+
+fn are_names(names: &Names) -> bool
+    ensures { result ≡ are_names names.now }
+{
+    let names = names.list();
+    all_names(names) && are_few(names.len())
+}
+
+fn is_load_row(row: &LoadRow) -> bool
+    ensures { result ≡ is_load_row row.now }
+{
+    is_name(row.group.bytes()) && is_person(row.person.bytes())
+}
+
+fn all_load_rows(rows: &[LoadRow]) -> bool
+    ensures { result ≡ list_all is_load_row rows.now }
+{
+    rows.iter().all(|row| is_load_row(row))
+}
+
+fn are_load_rows(rows: &LoadRows) -> bool
+    ensures { result ≡ are_load_rows rows.now }
+{
+    let rows = rows.list();
+    all_load_rows(rows) && are_few(rows.len())
+}
+
 fn is_field(field: &FieldRef<'_>) -> bool
     ensures { result ≡ list_all is_field (seen field.now) }
 {
@@ -126,10 +166,12 @@ fn is_field(field: &FieldRef<'_>) -> bool
         FieldRef::Owners(owners) => suits_some(*owners),
         FieldRef::Value(value) => is_value(value),
         FieldRef::Number { value, least, most } => *least <= *value && *value <= *most,
+        FieldRef::Names(names) => are_names(names),
+        FieldRef::LoadRows(rows) => are_load_rows(rows),
     }
 }
 
-#[tactic(auto, using(crate::proofs::Lists::seen_test))]
+#[tactic(auto, using(crate::proofs::Seen::seen_test))]
 fn are_fields(fields: &[FieldRef<'_>]) -> bool
     ensures { result ≡ list_all is_field (seen_all fields.now) }
 {

@@ -48,5 +48,8 @@ pub const MAX_NAME: usize = 1_000;
 /// Bytes of a display text.
 pub const MAX_DISPLAY: usize = 255;
 
+/// Records of a table.
+pub const MAX_RECORDS: u64 = 200_000;
+
 /// Bytes of a line that asks something.
 pub const MAX_LINE: usize = 8_388_608;

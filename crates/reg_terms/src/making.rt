@@ -1,14 +1,17 @@
-// Commands and queries made of fields.
+// Commands, queries and loads made of fields.
 ghost use Rattle.std.specs.Prelude.{◌≡◌};
-ghost use Rattle.reg_terms.specs.Parts.{Took, name_in, folder_in, extension_in, source_in, display_in, entity_in, object_in, moment_in, set_op_in, inherit_kind_in, scope_in, privilege_in, owners_in, flag_in, def_kind_in, value_in, number_in, whole};
+ghost use Rattle.reg_terms.specs.Parts.{Took, name_in, folder_in, extension_in, source_in, display_in, entity_in, object_in, moment_in, set_op_in, inherit_kind_in, scope_in, privilege_in, owners_in, flag_in, def_kind_in, value_in, number_in, names_in, load_rows_in, table_in, whole};
 ghost use Rattle.reg_terms.specs.Table.{made_command, made_query, made};
 ghost use Rattle.reg_terms.specs.declared.table.CommandKind.TheVariants as command;
 ghost use Rattle.reg_terms.specs.declared.table.QueryKind.TheVariants as query;
+ghost use Rattle.reg_terms.specs.declared.table.OpKind.TheVariants as op;
 
 use crate::field::Field;
 use crate::table::{CommandKind, OpKind, QueryKind};
-use crate::{Command, DefKind, InheritKind, Op, Owners, Query, Scope, SetOp, Value};
-use reg_base::{Entity, Moment, Name, Privilege, Text};
+use crate::{
+    Command, DefKind, InheritKind, LoadRows, Names, Op, Owners, Query, Scope, SetOp, Value,
+};
+use reg_base::{Bytes, Entity, Moment, Name, Privilege, Text};
 use std::collections::VecDeque;
 
 #[tactic(auto, unfolding(crate::specs::Parts::next_as))]
@@ -137,6 +140,27 @@ fn number(fields: &mut VecDeque<Field>) -> Option<u64>
 {
     let field = fields.pop_front()?;
     field.number()
+}
+
+#[tactic(auto, unfolding(crate::specs::Parts::next_as))]
+fn names(fields: &mut VecDeque<Field>) -> Option<Names>
+    ensures { Took result fields.new.items (names_in fields.old.items) }
+{
+    fields.pop_front()?.names()
+}
+
+#[tactic(auto, unfolding(crate::specs::Parts::next_as))]
+fn load_rows(fields: &mut VecDeque<Field>) -> Option<LoadRows>
+    ensures { Took result fields.new.items (load_rows_in fields.old.items) }
+{
+    fields.pop_front()?.load_rows()
+}
+
+#[tactic(auto, unfolding(crate::specs::Parts::next_as))]
+fn table(fields: &mut VecDeque<Field>) -> Option<Bytes>
+    ensures { Took result fields.new.items (table_in fields.old.items) }
+{
+    fields.pop_front()?.table()
 }
 
 fn whole<T: Drop>(op: T, fields: VecDeque<Field>) -> Option<T>
@@ -509,6 +533,18 @@ fn job_delete(mut fields: VecDeque<Field>) -> Option<Command>
     whole(command, fields)
 }
 
+fn load_command(mut fields: VecDeque<Field>) -> Option<Command>
+    ensures { result ≡ made_command command.Load fields.items }
+{
+    let command = Command::Load {
+        job: extension(&mut fields)?,
+        created: names(&mut fields)?,
+        removed: load_rows(&mut fields)?,
+        added: load_rows(&mut fields)?,
+    };
+    whole(command, fields)
+}
+
 fn consumer_add(mut fields: VecDeque<Field>) -> Option<Command>
     ensures { result ≡ made_command command.ConsumerAdd fields.items }
 {
@@ -670,6 +706,7 @@ pub fn made_command(kind: CommandKind, fields: VecDeque<Field>) -> Option<Comman
         CommandKind::JobSimple => job_simple(fields),
         CommandKind::JobList => job_list(fields),
         CommandKind::JobDelete => job_delete(fields),
+        CommandKind::Load => load_command(fields),
         CommandKind::ConsumerAdd => consumer_add(fields),
         CommandKind::ConsumerAck => consumer_ack(fields),
     }
@@ -693,7 +730,18 @@ fn made_query(kind: QueryKind, fields: VecDeque<Field>) -> Option<Query>
     }
 }
 
-/// The command or the query that these fields make, if they do.
+/// The load with its table that these fields make, if they do.
+fn load(mut fields: VecDeque<Field>) -> Option<Op>
+    ensures { result ≡ made op.Load fields.items }
+{
+    let load = Op::Load {
+        job: extension(&mut fields)?,
+        table: table(&mut fields)?,
+    };
+    whole(load, fields)
+}
+
+/// The command, query or load that these fields make, if they do.
 pub fn made(kind: OpKind, fields: VecDeque<Field>) -> Option<Op>
     ensures { result ≡ made kind fields.items }
 {
@@ -706,5 +754,6 @@ pub fn made(kind: OpKind, fields: VecDeque<Field>) -> Option<Op>
             Some(query) => Some(Op::Query(query)),
             None => None,
         },
+        OpKind::Load => load(fields),
     }
 }

@@ -2,9 +2,10 @@
 ghost use Rattle.std.specs.Prelude.{◌≡◌};
 ghost use Rattle.reg_terms.specs.Parts.{seen_all};
 ghost use Rattle.reg_terms.specs.Table.{kind_of, fields_of};
+ghost use Rattle.reg_terms.specs.declared.parts.FieldRef.TheVariants as reference;
 
 use crate::table::CommandKind;
-use crate::{Command, DefKind, InheritKind, Owners, Scope, SetOp, Value};
+use crate::{Command, DefKind, InheritKind, LoadRows, Names, Owners, Scope, SetOp, Value};
 use reg_base::{Entity, Moment, Name, Privilege, Text};
 
 /// A field that stands in a command, or none.
@@ -28,6 +29,8 @@ pub enum FieldRef<'a> {
     DefKind(DefKind),
     Value(&'a Value),
     Number { value: u64, least: u64, most: u64 },
+    Names(&'a Names),
+    LoadRows(&'a LoadRows),
 }
 
 /// Which command it is.
@@ -69,9 +72,17 @@ pub fn kind_of(command: &Command) -> CommandKind
         Command::JobSimple { .. } => CommandKind::JobSimple,
         Command::JobList { .. } => CommandKind::JobList,
         Command::JobDelete { .. } => CommandKind::JobDelete,
+        Command::Load { .. } => CommandKind::Load,
         Command::ConsumerAdd { .. } => CommandKind::ConsumerAdd,
         Command::ConsumerAck { .. } => CommandKind::ConsumerAck,
     }
+}
+
+/// A number, and the least and the greatest that may stand there.
+fn number<'a>(value: u64, least: u64, most: u64) -> FieldRef<'a>
+    ensures { result ≡ reference.Number value least most }
+{
+    FieldRef::Number { value, least, most }
 }
 
 /// The fields of a command, in order. It takes no memory.
@@ -314,11 +325,7 @@ pub fn fields_of<'a>(command: &'a Command) -> [FieldRef<'a>; 6]
         } => [
             FieldRef::Name(attribute),
             FieldRef::Object(object),
-            FieldRef::Number {
-                value: *id,
-                least: 0,
-                most: u64::MAX,
-            },
+            number(*id, 0, u64::MAX),
             FieldRef::Nothing,
             FieldRef::Nothing,
             FieldRef::Nothing,
@@ -331,11 +338,7 @@ pub fn fields_of<'a>(command: &'a Command) -> [FieldRef<'a>; 6]
         } => [
             FieldRef::Name(attribute),
             FieldRef::Object(object),
-            FieldRef::Number {
-                value: *id,
-                least: 0,
-                most: u64::MAX,
-            },
+            number(*id, 0, u64::MAX),
             FieldRef::Value(value),
             FieldRef::Nothing,
             FieldRef::Nothing,
@@ -348,11 +351,7 @@ pub fn fields_of<'a>(command: &'a Command) -> [FieldRef<'a>; 6]
         } => [
             FieldRef::Name(attribute),
             FieldRef::Object(object),
-            FieldRef::Number {
-                value: *id,
-                least: 0,
-                most: u64::MAX,
-            },
+            number(*id, 0, u64::MAX),
             FieldRef::Value(value),
             FieldRef::Nothing,
             FieldRef::Nothing,
@@ -368,11 +367,7 @@ pub fn fields_of<'a>(command: &'a Command) -> [FieldRef<'a>; 6]
         Command::RuleEndLost { check, owner, days } => [
             FieldRef::Name(check),
             FieldRef::Name(owner),
-            FieldRef::Number {
-                value: *days,
-                least: 1,
-                most: 3_650,
-            },
+            number(*days, 1, 3_650),
             FieldRef::Nothing,
             FieldRef::Nothing,
             FieldRef::Nothing,
@@ -399,11 +394,7 @@ pub fn fields_of<'a>(command: &'a Command) -> [FieldRef<'a>; 6]
             FieldRef::Nothing,
         ],
         Command::RuleDelete { id } => [
-            FieldRef::Number {
-                value: *id,
-                least: 0,
-                most: u64::MAX,
-            },
+            number(*id, 0, u64::MAX),
             FieldRef::Nothing,
             FieldRef::Nothing,
             FieldRef::Nothing,
@@ -420,16 +411,8 @@ pub fn fields_of<'a>(command: &'a Command) -> [FieldRef<'a>; 6]
             FieldRef::Extension(job),
             FieldRef::Name(group),
             FieldRef::Source(source),
-            FieldRef::Number {
-                value: *min_size,
-                least: 0,
-                most: 4_294_967_295,
-            },
-            FieldRef::Number {
-                value: *max_percent,
-                least: 0,
-                most: 100,
-            },
+            number(*min_size, 0, 4_294_967_295),
+            number(*max_percent, 0, 100),
             FieldRef::Nothing,
         ],
         Command::JobList {
@@ -442,16 +425,8 @@ pub fn fields_of<'a>(command: &'a Command) -> [FieldRef<'a>; 6]
             FieldRef::Extension(job),
             FieldRef::Folder(folder),
             FieldRef::Source(source),
-            FieldRef::Number {
-                value: *min_size,
-                least: 0,
-                most: 4_294_967_295,
-            },
-            FieldRef::Number {
-                value: *max_percent,
-                least: 0,
-                most: 100,
-            },
+            number(*min_size, 0, 4_294_967_295),
+            number(*max_percent, 0, 100),
             FieldRef::Nothing,
         ],
         Command::JobDelete { job } => [
@@ -459,6 +434,19 @@ pub fn fields_of<'a>(command: &'a Command) -> [FieldRef<'a>; 6]
             FieldRef::Nothing,
             FieldRef::Nothing,
             FieldRef::Nothing,
+            FieldRef::Nothing,
+            FieldRef::Nothing,
+        ],
+        Command::Load {
+            job,
+            created,
+            removed,
+            added,
+        } => [
+            FieldRef::Extension(job),
+            FieldRef::Names(created),
+            FieldRef::LoadRows(removed),
+            FieldRef::LoadRows(added),
             FieldRef::Nothing,
             FieldRef::Nothing,
         ],
@@ -472,11 +460,7 @@ pub fn fields_of<'a>(command: &'a Command) -> [FieldRef<'a>; 6]
         ],
         Command::ConsumerAck { consumer, seq } => [
             FieldRef::Extension(consumer),
-            FieldRef::Number {
-                value: *seq,
-                least: 0,
-                most: u64::MAX,
-            },
+            number(*seq, 0, u64::MAX),
             FieldRef::Nothing,
             FieldRef::Nothing,
             FieldRef::Nothing,

@@ -1,12 +1,14 @@
 // Requests.
 use crate::{Command, Query};
-use reg_base::Bytes;
+use reg_base::{Bytes, Text};
 
 /// What is asked of the registry.
 #[derive(Drop)]
 pub enum Op {
     Command(Command),
     Query(Query),
+    /// A table for the loader job of this name.
+    Load { job: Text, table: Bytes },
 }
 
 /// What is asked of the registry, and by whom.

@@ -1,6 +1,6 @@
 // The table of ops: each with its word, its code and its fields.
 ghost use Rattle.std.specs.Prelude.{◌≡◌, map};
-ghost use Rattle.reg_terms.specs.Table.{command_row, query_row, row_of, field_kinds, commands, queries, coded, command_named, query_named, kind_named};
+ghost use Rattle.reg_terms.specs.Table.{command_row, query_row, load_row, row_of, field_kinds, commands, queries, coded, command_named, query_named, kind_named};
 
 use crate::field::FieldKind;
 
@@ -41,6 +41,7 @@ pub enum CommandKind {
     JobSimple,
     JobList,
     JobDelete,
+    Load,
     ConsumerAdd,
     ConsumerAck,
 }
@@ -61,11 +62,13 @@ pub enum QueryKind {
     Admin,
 }
 
-/// Which command or query.
+/// Which command, query or load.
 #[derive(Clone, Copy)]
 pub enum OpKind {
     Command(CommandKind),
     Query(QueryKind),
+    /// A load as a request brings it, with its table.
+    Load,
 }
 
 /// An op's word in a request, and its fields in order, each with its key.
@@ -83,7 +86,7 @@ pub struct CommandRow {
 }
 
 /// Every command.
-const COMMANDS: [CommandKind; 36] = [
+const COMMANDS: [CommandKind; 37] = [
     CommandKind::FolderAdd,
     CommandKind::FolderRename,
     CommandKind::FolderMove,
@@ -118,6 +121,7 @@ const COMMANDS: [CommandKind; 36] = [
     CommandKind::JobSimple,
     CommandKind::JobList,
     CommandKind::JobDelete,
+    CommandKind::Load,
     CommandKind::ConsumerAdd,
     CommandKind::ConsumerAck,
 ];
@@ -464,6 +468,16 @@ pub fn command_row(kind: CommandKind) -> CommandRow
             ],
         ),
         CommandKind::JobDelete => command(34, "job.delete", &[("job", FieldKind::Extension)]),
+        CommandKind::Load => command(
+            35,
+            "load",
+            &[
+                ("job", FieldKind::Extension),
+                ("created", FieldKind::Names),
+                ("removed", FieldKind::LoadRows),
+                ("added", FieldKind::LoadRows),
+            ],
+        ),
         CommandKind::ConsumerAdd => command(
             36,
             "consumer.add",
@@ -550,6 +564,18 @@ pub fn query_row(kind: QueryKind) -> Row
     }
 }
 
+/// The row of a load as a request brings it.
+fn load_row() -> Row
+    ensures word { result.word.now ≡ load_row.word }
+    ensures fields { map (λ f. (f.0.now, f.1)) result.fields.now ≡ load_row.fields }
+    ensures kinds { map (λ f. f.1) result.fields.now ≡ field_kinds load_row }
+{
+    op(
+        "load",
+        &[("job", FieldKind::Extension), ("table", FieldKind::Table)],
+    )
+}
+
 /// An op's row.
 pub fn row_of(kind: OpKind) -> Row
     ensures word { result.word.now ≡ (row_of kind).word }
@@ -559,6 +585,7 @@ pub fn row_of(kind: OpKind) -> Row
     match kind {
         OpKind::Command(kind) => command_row(kind).op,
         OpKind::Query(kind) => query_row(kind),
+        OpKind::Load => load_row(),
     }
 }
 
@@ -614,11 +641,14 @@ fn query_named(kinds: &[QueryKind], word: &str) -> Option<QueryKind>
     }
 }
 
-/// The op that a word names.
+/// The op that a word names: a load brings a table, and no request a command of loads.
 #[tactic(auto, unfolding(crate::specs::Table::kind_named))]
 pub fn kind_named(word: &str) -> Option<OpKind>
     ensures { result ≡ kind_named word.now }
 {
+    if load_row().word == word {
+        return Some(OpKind::Load);
+    }
     match command_named(&COMMANDS, word) {
         Some(kind) => Some(OpKind::Command(kind)),
         None => match query_named(&QUERIES, word) {

@@ -1,7 +1,7 @@
 -- Commands are read exactly as they are written, by the kinds of their fields.
-use Rattle.std.proofs.Common.{◌≡◌, ℕ, Bool, true, eqb, leb, List, [], ◌∷◌, ◌++◌, map, Option, Some, refl, sym, ap, subst, ◌∙◌, append_assoc, inl, inr, arith}
+use Rattle.std.proofs.Common.{◌≡◌, ℕ, Bool, true, false, eqb, leb, List, [], ◌∷◌, ◌++◌, map, Option, Some, refl, sym, ap, subst, ◌∙◌, append_assoc, inl, inr, arith}
 use Rattle.std.specs.List.{list_all, flat_map}
-use Rattle.std.proofs.lemmas.Bool.{and_parts, and_from, eqb-true, leb-true}
+use Rattle.std.proofs.lemmas.Bool.{and_parts, and_from, eqb-true, false≢true, leb-true}
 use Rattle.std.proofs.lemmas.Option.{same_Some}
 use Rattle.reg_base.specs.Names.{is_extension, is_name, is_source}
 use Rattle.reg_base.specs.declared.entity.Entity.{Entity}
@@ -12,6 +12,7 @@ use Rattle.reg_terms.specs.declared.kinds.Owners.{Owners}
 use Rattle.reg_terms.specs.declared.kinds.Scope.{Scope}
 use Rattle.reg_terms.specs.declared.kinds.SetOp.{SetOp}
 use Rattle.reg_terms.specs.declared.kinds.Value.{Value}
+use Rattle.reg_terms.specs.declared.lists.LoadRow.{LoadRow}
 use Rattle.reg_terms.specs.declared.command.Command.{Command}
 use Rattle.reg_terms.specs.declared.command.Command.TheVariants.{ConsumerAck}
 use Rattle.reg_terms.specs.declared.table.CommandKind.{CommandKind}
@@ -24,13 +25,14 @@ use Rattle.reg_terms.specs.Parts.{◌>>=◌, field_kind}
 use Rattle.reg_terms.specs.Table.{command_row, field_kinds, commands, coded, kind_of, fields_of, code_of, made_command, IsMadeCommand, IsApart}
 use Rattle.reg_wire.specs.Fields.{field_bytes}
 use Rattle.reg_wire.specs.Payload.{fields_bytes, command_bytes}
-use Rattle.reg_wire.specs.Reading.{byte_at, name_at, folder_at, extension_at, source_at, display_at, entity_at, object_at, optional_moment_at, ranged_at, set_op_at, inherit_kind_at, scope_at, privilege_at, owners_at, flag_at, def_kind_at, value_at, stands, field_at, fields_at, command_at, command_of}
+use Rattle.reg_wire.specs.Reading.{byte_at, names_at, load_rows_at, name_at, folder_at, extension_at, source_at, display_at, entity_at, object_at, optional_moment_at, ranged_at, set_op_at, inherit_kind_at, scope_at, privilege_at, owners_at, flag_at, def_kind_at, value_at, stands, field_at, fields_at, command_at, command_of}
 use Rattle.reg_wire.proofs.Texts.{name_short, folder_short, extension_short, source_short, display_short}
 use Rattle.reg_wire.proofs.Exact.{IsExact, bind_some, tested_exact, optional_exact, set_op_exact, ranged_takes, ranged_again}
 use Rattle.reg_wire.proofs.Entities.{chosen, entity_exact}
 use Rattle.reg_wire.proofs.Objects.{object_short}
 use Rattle.reg_wire.proofs.Grants.{inherit_kind_exact, scope_exact, privilege_exact, byte_takes}
 use Rattle.reg_wire.proofs.Attributes.{owners_exact, flag_exact, def_kind_exact, value_exact}
+use Rattle.reg_wire.proofs.LoadLists.{names_exact, load_rows_exact}
 
 -- what the table of ops says of commands that are made of fields, and of those that are taken apart
 abbrev pub TableMakes : Type 0
@@ -93,10 +95,14 @@ field_takes (kind.Number least most) bytes x e =
     let v = bind_some (ranged_at least most bytes) (λ value. Some (field.Number value.0 least most, value.1)) x e in
     let t = ranged_takes least most bytes v.0 v.1 in
     subst (IsTaken (kind.Number least most) bytes) (same_Some (field.Number v.0.0 least most, v.0.1) x v.2) (record { is_kind = refl; parts = t.0; fits = t.1 })
+field_takes kind.Names bytes x e = taken kind.Names (λ (v : List (List ℕ)). field.Names v) names_at (λ v. refl) names_exact bytes x e
+field_takes kind.LoadRows bytes x e = taken kind.LoadRows (λ (v : List LoadRow). field.LoadRows v) load_rows_at (λ v. refl) load_rows_exact bytes x e
+field_takes kind.Table bytes x e = absurd cc
 
--- a number whose greatest value has 64 bits, or another field
+-- a number whose greatest value has 64 bits, or another field that a command may have
 abbrev is_wide : Field → Bool
 is_wide (field.Number value least most) = leb most 18446744073709551615
+is_wide (field.Table table) = false
 is_wide _ = true
 
 -- and a field is read again
@@ -118,6 +124,9 @@ field_again (field.Flag v) rest h wide = rw (flag_exact.again v rest h) refl
 field_again (field.DefKind v) rest h wide = rw (def_kind_exact.again v rest h) refl
 field_again (field.Value v) rest h wide = rw (value_exact.again v rest h) refl
 field_again (field.Number v least most) rest h wide = rw (ranged_again least most v rest h (leb-true _ _ wide)) refl
+field_again (field.Names v) rest h wide = rw (names_exact.again v rest h) refl
+field_again (field.LoadRows v) rest h wide = rw (load_rows_exact.again v rest h) refl
+field_again (field.Table v) rest h wide = absurd (false≢true wide)
 
 -- ---- fields one behind the other
 

@@ -2,8 +2,11 @@ mod Exact
 mod Texts
 mod Entities
 mod Lists
+mod Items
 mod Objects
 mod Grants
 mod Attributes
+mod LoadLists
 mod Commands
 pub mod Payloads
+mod Worked

@@ -1,9 +1,11 @@
 -- Each stamped command that is writable has one payload, and each payload is of one stamped command.
-use Rattle.std.proofs.Common.{◌≡◌, ℕ, ◌*◌, ◌^◌, ◌<◌, ◌≤◌, true, cond, eqb, List, [], ◌∷◌, ◌++◌, length, Option, Some, None, refl, sym, ap, subst, ◌∙◌, append-nil, arith, lit≤}
+use Rattle.std.proofs.Common.{◌≡◌, ℕ, ◌+◌, ◌*◌, ◌^◌, ◌<◌, ◌≤◌, true, cond, eqb, List, [], ◌∷◌, ◌++◌, length, Option, Some, None, refl, sym, ap, subst, ◌∙◌, append-nil, arith, lit≤}
 use Rattle.std.specs.List.{list_all, flat_map}
 use Rattle.std.proofs.lemmas.Bool.{and_parts, eqb-true}
 use Rattle.std.proofs.lemmas.List.{nil_from_length, length-append}
 use Rattle.std.proofs.lemmas.Option.{cond_some}
+use Rattle.reg_terms.specs.declared.command.Command.{Command}
+use Rattle.reg_terms.specs.declared.command.Command.TheVariants.{Load}
 use Rattle.reg_terms.specs.declared.command.Stamped.{Stamped}
 use Rattle.reg_terms.specs.declared.kinds.DefKind.{DefKind}
 use Rattle.reg_terms.specs.declared.kinds.DefKind.TheVariants.{Marker, Integer, Text, Timestamp}
@@ -22,11 +24,12 @@ use Rattle.reg_terms.specs.Parts.{◌>>=◌}
 use Rattle.reg_terms.specs.Table.{fields_of, code_of}
 use Rattle.reg_wire.specs.Fields.{entity_text, moment_bytes, field_bytes}
 use Rattle.reg_wire.specs.Reading.{moment_at, entity_at, command_of}
-use Rattle.reg_wire.specs.Payload.{fields_bytes, command_bytes, IsWritable, payload, stamped_at, stamped_of}
+use Rattle.reg_wire.specs.Payload.{listed, AreFew, fields_bytes, command_bytes, IsWritable, payload, stamped_at, stamped_of}
 use Rattle.reg_wire.proofs.Texts.{name_short, folder_short, extension_short, source_short, display_short}
 use Rattle.reg_wire.proofs.Exact.{bind_some, moment_exact}
 use Rattle.reg_wire.proofs.Entities.{entity_short, entity_bytes, entity_exact}
 use Rattle.reg_wire.proofs.Objects.{object_short}
+use Rattle.reg_wire.proofs.LoadLists.{names_short, load_rows_short}
 use Rattle.reg_wire.proofs.Commands.{TableMakes, TableParts, command_takes, command_again}
 
 -- ---- a payload is read again
@@ -119,7 +122,14 @@ value_short : (v : Value) → is_value v ≡ true → length (field_bytes (field
 value_short (value.Int number) h = lit≤ tt
 value_short (value.Text text) h = omega (arith, display_short text h)
 
-field_short : (f : Field) → is_field f ≡ true → length (field_bytes f) ≤ 1008
+-- how many names and rows a field lists
+abbrev items_in : Field → ℕ
+items_in (field.Names names) = length names
+items_in (field.LoadRows rows) = length rows
+items_in _ = 0
+
+-- a field has at most 1,008 bytes, and 1,101 for each name or row that it lists
+field_short : (f : Field) → is_field f ≡ true → length (field_bytes f) ≤ 1008 + 1101 * items_in f
 field_short (field.Name text) h = omega (arith, name_short text h)
 field_short (field.Folder text) h = omega (arith, folder_short text h)
 field_short (field.Extension text) h = omega (arith, extension_short text h)
@@ -137,16 +147,29 @@ field_short (field.Flag flag) h = lit≤ tt
 field_short (field.DefKind kind) h = def_kind_short kind
 field_short (field.Value v) h = value_short v h
 field_short (field.Number value least most) h = lit≤ tt
+field_short (field.Names names) h = omega (arith, names_short names h)
+field_short (field.LoadRows rows) h = omega (arith, load_rows_short rows h)
+field_short (field.Table table) h = lit≤ tt
 
-fields_short : (fs : List Field) → list_all is_field fs ≡ true → length (flat_map field_bytes fs) ≤ 1008 * length fs
+-- how many all of some fields list
+abbrev items_of : List Field → ℕ
+items_of [] = 0
+items_of (f ∷ fs) = items_in f + items_of fs
+
+fields_short : (fs : List Field) → list_all is_field fs ≡ true → length (flat_map field_bytes fs) ≤ 1008 * length fs + 1101 * items_of fs
 fields_short [] h = lit≤ tt
 fields_short (f ∷ fs) h =
     let both = and_parts _ _ h in
     omega (arith, field_short f both.0, fields_short fs both.1, length-append (field_bytes f) (flat_map field_bytes fs))
 
--- a payload has fewer than 2 ^ 32 bytes
-pub payload_short : TableParts → (stamped : Stamped) → IsWritable stamped → length (payload stamped) < 2 ^ 32
+-- the fields of a command list what the command does
+fields_list : (c : Command) → items_of (fields_of c) ≡ listed c
+fields_list (Load job created removed added) = omega arith
+fields_list _ = refl
+
+-- a payload has fewer than 2 ^ 32 bytes, where no load in it lists more than there may be
+pub payload_short : TableParts → (stamped : Stamped) → IsWritable stamped → AreFew stamped.command → length (payload stamped) < 2 ^ 32
 unfolding payload command_bytes fields_bytes has_form
-payload_short table stamped h =
+payload_short table stamped h few =
     let fields = flat_map field_bytes (fields_of stamped.command) in
-    omega (arith, entity_short stamped.by h.1, fields_short (fields_of stamped.command) h.2, (table stamped.command).few, length-append (entity_text stamped.by) (code_of stamped.command ∷ fields))
+    omega (arith, few, entity_short stamped.by h.1, fields_short (fields_of stamped.command) h.2, fields_list stamped.command, (table stamped.command).few, length-append (entity_text stamped.by) (code_of stamped.command ∷ fields))

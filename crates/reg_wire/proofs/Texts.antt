@@ -78,14 +78,18 @@ display_short text h =
 part_short : (limit : ℕ) (text : List ℕ) → is_part limit text ≡ true → length text ≤ limit
 part_short limit text h = leb-true _ _ (and_parts _ _ (and_parts _ _ h).0).1
 
-person_at_short : (text : List ℕ) (found : Option ℕ) → is_person_at text found ≡ true → length text ≤ 1000
-person_at_short text None h = absurd (false≢true h)
-person_at_short text (Some place) h =
+person_at_brief : (text : List ℕ) (found : Option ℕ) → is_person_at text found ≡ true → length text ≤ 97
+person_at_brief text None h = absurd (false≢true h)
+person_at_brief text (Some place) h =
     let both = and_parts _ _ h in
     omega (arith, part_short 32 (take place text) both.0, part_short 64 (drop (place + 1) text) both.1, length-take place text, length-drop (place + 1) text)
 
 pub source_short : (text : List ℕ) → is_source text ≡ true → length text ≤ 1000
 source_short text h = omega (arith, part_short 32 text h)
 
+-- a person's has at most 97 bytes
+pub person_brief : (text : List ℕ) → is_person text ≡ true → length text ≤ 97
+person_brief text h = person_at_brief text (position (λ b. nat_eq b 47) text) h
+
 pub person_short : (text : List ℕ) → is_person text ≡ true → length text ≤ 1000
-person_short text h = person_at_short text (position (λ b. nat_eq b 47) text) h
+person_short text h = omega (arith, person_brief text h)

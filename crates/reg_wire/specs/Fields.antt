@@ -1,6 +1,7 @@
 -- The bytes of the fields of a payload.
 use Rattle.std.specs.Prelude.{ℕ, ℤ, ◌+◌, ◌*◌, Bool, List, [], ◌∷◌, ◌++◌, length, codes, Option, Some, None}
-use Rattle.std.specs.Int.{w16, w64, cast_unsigned, from_bool, to_le_bytes}
+use Rattle.std.specs.Int.{w16, w32, w64, cast_unsigned, from_bool, to_le_bytes}
+use Rattle.std.specs.List.{flat_map}
 use Rattle.reg_base.specs.declared.entity.Entity.{Entity}
 use Rattle.reg_base.specs.declared.entity.Entity.TheVariants as entity
 use Rattle.reg_base.specs.declared.privilege.Privilege.{Privilege}
@@ -15,6 +16,7 @@ use Rattle.reg_terms.specs.declared.kinds.SetOp.{SetOp}
 use Rattle.reg_terms.specs.declared.kinds.SetOp.TheVariants.{Intersection, Complement}
 use Rattle.reg_terms.specs.declared.kinds.Value.{Value}
 use Rattle.reg_terms.specs.declared.kinds.Value.TheVariants as value
+use Rattle.reg_terms.specs.declared.lists.LoadRow.{LoadRow}
 use Rattle.reg_terms.specs.declared.field.Field.{Field}
 use Rattle.reg_terms.specs.declared.field.Field.TheVariants as field
 use Rattle.reg_terms.specs.Privileges.{code}
@@ -90,7 +92,15 @@ abbrev pub value_bytes : Value → List ℕ
 value_bytes (value.Int number) = 1 ∷ int_bytes number
 value_bytes (value.Text text) = 2 ∷ text_bytes text
 
--- the bytes of a field
+-- four bytes of count, the least first, and the items
+abbrev pub list_bytes : {A : Type 0} → (A → List ℕ) → List A → List ℕ
+list_bytes item items = to_le_bytes w32 (length items) ++ flat_map item items
+
+-- a group's name and a person's text
+abbrev pub load_row_bytes : LoadRow → List ℕ
+load_row_bytes row = text_bytes row.group ++ text_bytes row.person
+
+-- the bytes of a field; no command has a table
 abbrev pub field_bytes : Field → List ℕ
 field_bytes (field.Name text) = text_bytes text
 field_bytes (field.Folder text) = text_bytes text
@@ -109,3 +119,6 @@ field_bytes (field.Flag flag) = flag_bytes flag
 field_bytes (field.DefKind kind) = def_kind_bytes kind
 field_bytes (field.Value value) = value_bytes value
 field_bytes (field.Number value least most) = number_bytes value
+field_bytes (field.Names names) = list_bytes text_bytes names
+field_bytes (field.LoadRows rows) = list_bytes load_row_bytes rows
+field_bytes (field.Table table) = []

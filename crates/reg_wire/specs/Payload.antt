@@ -1,9 +1,11 @@
 -- The payload of a stamped command: its moment, who gave it, its op's code and its fields, one behind the other.
-use Rattle.std.specs.Prelude.{◌≡◌, ℕ, List, ◌∷◌, ◌++◌, true, ◌==◌, if◌then◌else◌, length, Option, Some, None}
+use Rattle.std.specs.Prelude.{◌≡◌, ◌≤◌, ◌+◌, ℕ, List, ◌∷◌, ◌++◌, true, ◌==◌, if◌then◌else◌, length, Option, Some, None}
 use Rattle.std.specs.List.{flat_map}
 use Rattle.reg_terms.specs.declared.command.Command.{Command}
+use Rattle.reg_terms.specs.declared.command.Command.TheVariants.{Load}
 use Rattle.reg_terms.specs.declared.command.Stamped.{Stamped}
 use Rattle.reg_terms.specs.Forms.{is_moment, is_entity, has_form}
+use Rattle.reg_terms.specs.Limits.{max_groups, max_records, max_rows}
 use Rattle.reg_terms.specs.Parts.{◌>>=◌}
 use Rattle.reg_terms.specs.Table.{fields_of, code_of}
 use Rattle.reg_wire.specs.Fields.{entity_text, field_bytes, moment_bytes, text_bytes}
@@ -24,6 +26,15 @@ payload stamped = moment_bytes stamped.at ++ (text_bytes (entity_text stamped.by
 -- a stamped command that has a payload: its moment, who gave it and each field have their forms
 abbrev pub IsWritable : Stamped → Type 0
 IsWritable stamped = (is_moment stamped.at ≡ true) × (is_entity stamped.by ≡ true) × (has_form stamped.command ≡ true)
+
+-- how many names and rows a load lists
+abbrev pub listed : Command → ℕ
+listed (Load job created removed added) = length created + length removed + length added
+listed _ = 0
+
+-- no more than the groups that may ever be made, the rows that may stand and the records that a table may have
+abbrev pub AreFew : Command → Type 0
+AreFew command = listed command ≤ max_groups + max_rows + max_records
 
 -- the stamped command of a moment and what is behind it, all of it
 unfoldable pub stamped_at : ℕ → List ℕ → Option Stamped

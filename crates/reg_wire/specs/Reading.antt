@@ -1,8 +1,8 @@
 -- Reading the fields of a payload from the front, and a command by the kinds of its fields: each reading gives a value and the bytes after it, or nothing.
 use Rattle.std.specs.Prelude.{ℕ, ℤ, zero, suc, ◌/◌, ◌%◌, ◌==◌, List, [], ◌∷◌, Bool, true, false, ◌&&◌, nat_le, nat_lt, if◌then◌else◌, length, take, drop, Option, Some, None}
 use Rattle.std.specs.List.{list_all}
-use Rattle.std.specs.Int.{Width, w16, w64, byte_len, cast_signed, from_le_bytes}
-use Rattle.reg_base.specs.Names.{is_extension, is_name, is_source}
+use Rattle.std.specs.Int.{Width, w16, w32, w64, byte_len, cast_signed, from_le_bytes}
+use Rattle.reg_base.specs.Names.{is_extension, is_name, is_person, is_source}
 use Rattle.reg_base.specs.Entities.{entity_of}
 use Rattle.reg_base.specs.declared.entity.Entity.{Entity}
 use Rattle.reg_base.specs.declared.privilege.Privilege.{Privilege}
@@ -17,6 +17,7 @@ use Rattle.reg_terms.specs.declared.kinds.SetOp.{SetOp}
 use Rattle.reg_terms.specs.declared.kinds.SetOp.TheVariants.{Intersection, Complement}
 use Rattle.reg_terms.specs.declared.kinds.Value.{Value}
 use Rattle.reg_terms.specs.declared.kinds.Value.TheVariants as value
+use Rattle.reg_terms.specs.declared.lists.LoadRow.{LoadRow}
 use Rattle.reg_terms.specs.declared.command.Command.{Command}
 use Rattle.reg_terms.specs.declared.table.CommandKind.{CommandKind}
 use Rattle.reg_terms.specs.declared.field.FieldKind.{FieldKind}
@@ -70,6 +71,10 @@ extension_at bytes = tested_at is_extension bytes
 -- a source of persons
 abbrev pub source_at : List ℕ → Option (List ℕ × List ℕ)
 source_at bytes = tested_at is_source bytes
+
+-- a person's text
+abbrev pub person_at : List ℕ → Option (List ℕ × List ℕ)
+person_at bytes = tested_at is_person bytes
 
 -- a display text
 abbrev pub display_at : List ℕ → Option (List ℕ × List ℕ)
@@ -184,6 +189,37 @@ value_at (suc (suc zero) ∷ rest) = do
   Some (value.Text text.0, text.1)
 value_at (suc (suc (suc b)) ∷ rest) = None
 
+-- ---- lists
+
+-- so many items, one behind the other
+unfoldable pub items_at : {A : Type 0} → (List ℕ → Option (A × List ℕ)) → ℕ → List ℕ → Option (List A × List ℕ)
+items_at item zero bytes = Some ([], bytes)
+items_at item (suc n) bytes = do
+  first ← item bytes
+  others ← items_at item n first.1
+  Some (first.0 ∷ others.0, others.1)
+
+-- four bytes of count, and so many items
+unfoldable pub list_at : {A : Type 0} → (List ℕ → Option (A × List ℕ)) → List ℕ → Option (List A × List ℕ)
+list_at item bytes = do
+  count ← number_at w32 bytes
+  items_at item count.0 count.1
+
+-- names of objects
+abbrev pub names_at : List ℕ → Option (List (List ℕ) × List ℕ)
+names_at bytes = list_at name_at bytes
+
+-- a row of a load: the text of a group's name, and a person's
+unfoldable pub load_row_at : List ℕ → Option (LoadRow × List ℕ)
+load_row_at bytes = do
+  group ← name_at bytes
+  person ← person_at group.1
+  Some (record { group = group.0; person = person.0 }, person.1)
+
+-- rows of a load
+abbrev pub load_rows_at : List ℕ → Option (List LoadRow × List ℕ)
+load_rows_at bytes = list_at load_row_at bytes
+
 -- ---- by the kinds of fields
 
 -- a value that was read, as a field
@@ -192,7 +228,7 @@ stands as_a found = do
   value ← found
   Some (as_a value.0, value.1)
 
--- a field of a kind
+-- a field of a kind; no command has a table
 abbrev pub field_at : FieldKind → List ℕ → Option (Field × List ℕ)
 field_at kind.Name bytes = stands (λ v. field.Name v) (name_at bytes)
 field_at kind.Folder bytes = stands (λ v. field.Folder v) (folder_at bytes)
@@ -211,6 +247,9 @@ field_at kind.Flag bytes = stands (λ v. field.Flag v) (flag_at bytes)
 field_at kind.DefKind bytes = stands (λ v. field.DefKind v) (def_kind_at bytes)
 field_at kind.Value bytes = stands (λ v. field.Value v) (value_at bytes)
 field_at (kind.Number least most) bytes = stands (λ v. field.Number v least most) (ranged_at least most bytes)
+field_at kind.Names bytes = stands (λ v. field.Names v) (names_at bytes)
+field_at kind.LoadRows bytes = stands (λ v. field.LoadRows v) (load_rows_at bytes)
+field_at kind.Table bytes = None
 
 -- fields of so many kinds
 abbrev pub fields_at : List FieldKind → List ℕ → Option (List Field × List ℕ)

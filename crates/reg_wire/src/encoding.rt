@@ -1,11 +1,12 @@
 // The payloads of stamped commands.
-ghost use Rattle.std.specs.Prelude.{◌≡◌, ◌++◌, ◌<◌, ◌^◌, true, codes, length, IfOk, OnOk};
+ghost use Rattle.std.specs.Prelude.{◌≡◌, ◌++◌, ◌<◌, ◌≤◌, ◌^◌, true, codes, length, IfOk, OnOk};
 ghost use Rattle.std.specs.List.{flat_map, list_all};
-ghost use Rattle.reg_terms.specs.Forms.{is_entity, is_field, is_value, has_form};
+ghost use Rattle.std.specs.Int.{w32, to_le_bytes};
+ghost use Rattle.reg_terms.specs.Forms.{are_load_rows, are_names, is_entity, is_field, is_load_row, is_value, has_form};
 ghost use Rattle.reg_terms.specs.Parts.{seen, seen_all};
 ghost use Rattle.reg_terms.specs.Table.{code_of};
-ghost use Rattle.reg_wire.specs.Fields.{entity_text, field_bytes, text_bytes, moment_bytes, number_bytes, optional_moment_bytes, set_op_bytes, inherit_kind_bytes, scope_bytes, privilege_bytes, owners_code, owners_bytes, flag_bytes, def_kind_bytes, int_bytes, value_bytes};
-ghost use Rattle.reg_wire.specs.Payload.{fields_bytes, command_bytes, payload, IsWritable};
+ghost use Rattle.reg_wire.specs.Fields.{entity_text, field_bytes, text_bytes, moment_bytes, number_bytes, optional_moment_bytes, set_op_bytes, inherit_kind_bytes, scope_bytes, privilege_bytes, owners_code, owners_bytes, flag_bytes, def_kind_bytes, int_bytes, value_bytes, list_bytes, load_row_bytes};
+ghost use Rattle.reg_wire.specs.Payload.{fields_bytes, command_bytes, payload, IsWritable, AreFew};
 
 use crate::fields::{
     COMPLEMENT, DEFINITION, FOLDER, GROUP, INT_VALUE, INTEGERS, INTERSECTION, MARKERS, ONE, SUB,
@@ -13,8 +14,8 @@ use crate::fields::{
 };
 use reg_base::{Entity, Moment, Name, Privilege};
 use reg_terms::{
-    Command, DefKind, FieldRef, InheritKind, Owners, Scope, SetOp, Stamped, Value, command_row,
-    fields_of, kind_of, law_commands, privilege_code,
+    Command, DefKind, FieldRef, InheritKind, LoadRow, LoadRows, Names, Owners, Scope, SetOp,
+    Stamped, Value, command_row, fields_of, kind_of, law_commands, privilege_code,
 };
 use std::alloc::{AllocError, Global};
 
@@ -169,6 +170,60 @@ fn put_value(out: &mut Vec<u8>, value: &Value) -> Result<(), AllocError>
     }
 }
 
+fn put_count(out: &mut Vec<u8>, count: usize) -> Result<(), AllocError>
+    requires { count < 2 ^ 32 }
+    ensures { OnOk result (out.new.items ≡ out.old.items ++ to_le_bytes w32 count) }
+{
+    out.extend_from_slice(&(count as u32).to_le_bytes())
+}
+
+#[tactic(auto, using(crate::proofs::Texts::name_short))]
+fn put_each_name(out: &mut Vec<u8>, names: &[Name]) -> Result<(), AllocError>
+    ensures { OnOk result (out.new.items ≡ out.old.items ++ flat_map text_bytes names.now) }
+{
+    for name in names {
+        put_text(out, name.bytes())?;
+    }
+    Ok(())
+}
+
+fn put_names(out: &mut Vec<u8>, names: &Names) -> Result<(), AllocError>
+    requires { are_names names.now ≡ true }
+    ensures { OnOk result (out.new.items ≡ out.old.items ++ list_bytes text_bytes names.now) }
+{
+    let names = names.list();
+    put_count(out, names.len())?;
+    put_each_name(out, names)
+}
+
+#[tactic(auto, using(crate::proofs::Texts::name_short, crate::proofs::Texts::person_short))]
+fn put_load_row(out: &mut Vec<u8>, row: &LoadRow) -> Result<(), AllocError>
+    requires { is_load_row row.now ≡ true }
+    ensures { OnOk result (out.new.items ≡ out.old.items ++ load_row_bytes row.now) }
+{
+    put_text(out, row.group.bytes())?;
+    put_text(out, row.person.bytes())
+}
+
+fn put_each_row(out: &mut Vec<u8>, rows: &[LoadRow]) -> Result<(), AllocError>
+    requires { list_all is_load_row rows.now ≡ true }
+    ensures { OnOk result (out.new.items ≡ out.old.items ++ flat_map load_row_bytes rows.now) }
+{
+    for row in rows {
+        put_load_row(out, row)?;
+    }
+    Ok(())
+}
+
+fn put_load_rows(out: &mut Vec<u8>, rows: &LoadRows) -> Result<(), AllocError>
+    requires { are_load_rows rows.now ≡ true }
+    ensures { OnOk result (out.new.items ≡ out.old.items ++ list_bytes load_row_bytes rows.now) }
+{
+    let rows = rows.list();
+    put_count(out, rows.len())?;
+    put_each_row(out, rows)
+}
+
 #[tactic(auto, using(crate::proofs::Texts::name_short, crate::proofs::Texts::folder_short, crate::proofs::Texts::extension_short, crate::proofs::Texts::source_short, crate::proofs::Texts::display_short, crate::proofs::Objects::object_short))]
 fn put_field(out: &mut Vec<u8>, field: &FieldRef<'_>) -> Result<(), AllocError>
     requires { list_all is_field (seen field.now) ≡ true }
@@ -193,6 +248,8 @@ fn put_field(out: &mut Vec<u8>, field: &FieldRef<'_>) -> Result<(), AllocError>
         FieldRef::DefKind(kind) => put_def_kind(out, *kind),
         FieldRef::Value(value) => put_value(out, value),
         FieldRef::Number { value, .. } => put_number(out, *value),
+        FieldRef::Names(names) => put_names(out, names),
+        FieldRef::LoadRows(rows) => put_load_rows(out, rows),
     }
 }
 
@@ -246,13 +303,13 @@ fn payload(alloc: Global, stamped: &Stamped) -> Result<Vec<u8>, AllocError>
     Ok(out)
 }
 
-/// The payload of a stamped command; `is_writable` says which have one. The only error is out of
-/// memory.
+/// The payload of a stamped command; `is_writable` says which have one. It is shorter than 2^32 bytes
+/// where no load in it lists more than may stand. The only error is out of memory.
 #[tactic(auto, using(crate::proofs::Payloads::payload_short))]
 pub fn encode(alloc: Global, stamped: &Stamped) -> Result<Vec<u8>, AllocError>
     requires { IsWritable stamped.now }
     ensures value { IfOk result (λ v. v.items ≡ payload stamped.now) }
-    ensures short { IfOk result (λ v. length v.items < 2 ^ 32) }
+    ensures short { IfOk result (λ v. AreFew stamped.now.command → length v.items < 2 ^ 32) }
 {
     law_commands();
     payload(alloc, stamped)

@@ -1,11 +1,11 @@
 // Reading the fields of a payload from the front: each function gives a value and the bytes after it.
 ghost use Rattle.std.specs.Prelude.{◌≡◌};
-ghost use Rattle.std.specs.Int.{w16, w64};
+ghost use Rattle.std.specs.Int.{w16, w32, w64};
 ghost use Rattle.reg_wire.specs.Steps.{Gives};
-ghost use Rattle.reg_wire.specs.Reading.{byte_at, number_at, text_at, name_at, folder_at, extension_at, source_at, display_at, entity_at, moment_at, ranged_at, object_at, optional_moment_at, set_op_at, inherit_kind_at, scope_at, privilege_at, owners_of, owners_at, flag_at, def_kind_at, int_at, value_at};
+ghost use Rattle.reg_wire.specs.Reading.{byte_at, number_at, text_at, name_at, folder_at, extension_at, source_at, person_at, display_at, entity_at, moment_at, ranged_at, object_at, optional_moment_at, set_op_at, inherit_kind_at, scope_at, privilege_at, owners_of, owners_at, flag_at, def_kind_at, int_at, value_at};
 
 use crate::fault::ReadFault;
-use reg_base::{Entity, Moment, Name, Privilege, Text, is_extension, is_source};
+use reg_base::{Entity, Moment, Name, Privilege, Text, is_extension, is_person, is_source};
 use reg_terms::{
     DefKind, InheritKind, MAX_DISPLAY, Owners, Scope, SetOp, Value, is_folder_text, is_object_text,
     privilege_coded,
@@ -67,6 +67,19 @@ fn u16_at(bytes: &[u8]) -> Result<(u16, &[u8]), ReadFault>
     }
     let (front, rest) = bytes.split_at(2);
     let number = u16::from_le_bytes([front[0], front[1]]);
+    Ok((number, rest))
+}
+
+/// A number of four bytes, the least first.
+#[tactic(auto, unfolding(crate::specs::Reading::number_at))]
+pub fn u32_at(bytes: &[u8]) -> Result<(u32, &[u8]), ReadFault>
+    ensures { Gives (λ x. (x.0, x.1.now)) result (number_at w32 bytes.now) }
+{
+    if bytes.len() < 4 {
+        return Err(ReadFault::Malformed);
+    }
+    let (front, rest) = bytes.split_at(4);
+    let number = u32::from_le_bytes([front[0], front[1], front[2], front[3]]);
     Ok((number, rest))
 }
 
@@ -152,6 +165,22 @@ pub fn source_at(alloc: Global, bytes: &[u8]) -> Result<(Text, &[u8]), ReadFault
     match Text::of(alloc, text)? {
         Some(source) => Ok((source, rest)),
         // no source comes here, since its bytes are ASCII
+        None => Err(ReadFault::Malformed),
+    }
+}
+
+/// The text of a person.
+#[tactic(auto, using(reg_base::proofs::Persons::person_utf8), unfolding(crate::specs::Reading::tested_at))]
+pub fn person_at(alloc: Global, bytes: &[u8]) -> Result<(Text, &[u8]), ReadFault>
+    ensures { Gives (λ x. (x.0, x.1.now)) result (person_at bytes.now) }
+{
+    let (text, rest) = text_at(bytes)?;
+    if !is_person(text) {
+        return Err(ReadFault::Malformed);
+    }
+    match Text::of(alloc, text)? {
+        Some(person) => Ok((person, rest)),
+        // no person comes here, since its bytes are ASCII
         None => Err(ReadFault::Malformed),
     }
 }

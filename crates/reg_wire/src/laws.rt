@@ -1,7 +1,7 @@
 // What holds of payloads, for crates above to cite: each law is the clause of a function that does nothing.
 ghost use Rattle.std.specs.Prelude.{◌≡◌, ◌<◌, ◌^◌, ℕ, List, Some, length};
 ghost use Rattle.reg_terms.specs.declared.command.Stamped.{Stamped};
-ghost use Rattle.reg_wire.specs.Payload.{payload, stamped_of, IsWritable};
+ghost use Rattle.reg_wire.specs.Payload.{payload, stamped_of, AreFew, IsWritable};
 
 use reg_terms::law_commands;
 
@@ -19,9 +19,10 @@ pub fn read_is_payload()
     law_commands();
 }
 
-/// A payload has fewer than 2^32 bytes.
+/// A payload has fewer than 2^32 bytes, where no load in it lists more groups, rows and records than
+/// there may be.
 pub fn payload_is_short()
-    ensures { (stamped : Stamped) → IsWritable stamped → length (payload stamped) < 2 ^ 32 }
+    ensures { (stamped : Stamped) → IsWritable stamped → AreFew stamped.command → length (payload stamped) < 2 ^ 32 }
 {
     law_commands();
 }

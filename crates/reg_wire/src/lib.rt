@@ -7,7 +7,8 @@
 //! below it. A privilege is its code. Of a definition the owners are one byte, the sum of 1 for folders, 2 for groups
 //! and 4 for subjects, and not 0; what holds is 1, and what doesn't 0; the kind of its values is 1 for markers, 2 for
 //! integers, 3 for texts and 4 for timestamps. A value is 1 and a whole number (eight bytes, the least first, in two's
-//! complement), or 2 and a text of at most 255 bytes.
+//! complement), or 2 and a text of at most 255 bytes. The lists of a load are each a count (four bytes, the least first)
+//! and so many items: a name is its text, and a row its group's text and its person's.
 #![tactic(auto)]
 
 mod decoding;
@@ -15,6 +16,7 @@ mod encoding;
 mod fault;
 mod fields;
 mod laws;
+mod load_lists;
 mod reading;
 mod writable;
 

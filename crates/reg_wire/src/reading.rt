@@ -9,6 +9,7 @@ use crate::fields::{
     name_at, object_at, optional_moment_at, owners_at, privilege_at, ranged_at, scope_at,
     set_op_at, source_at, value_at,
 };
+use crate::load_lists::{load_rows_at, names_at};
 use reg_terms::{Command, CommandKind, Field, FieldKind, command_coded, command_row, made_command};
 use std::alloc::Global;
 use std::collections::VecDeque;
@@ -85,6 +86,16 @@ fn field_at(alloc: Global, kind: FieldKind, bytes: &[u8]) -> Result<(Field, &[u8
             Ok((value, rest)) => Ok((Field::Number { value, least, most }, rest)),
             Err(fault) => Err(fault),
         },
+        FieldKind::Names => match names_at(alloc, bytes) {
+            Ok((names, rest)) => Ok((Field::Names(names), rest)),
+            Err(fault) => Err(fault),
+        },
+        FieldKind::LoadRows => match load_rows_at(alloc, bytes) {
+            Ok((rows, rest)) => Ok((Field::LoadRows(rows), rest)),
+            Err(fault) => Err(fault),
+        },
+        // no command has a table
+        FieldKind::Table => Err(ReadFault::Malformed),
     }
 }
 

@@ -5,7 +5,7 @@ use Rattle.clap.specs.declared.parser.matches.Found.{Found}
 use Rattle.clap.specs.declared.error.Error.{Error}
 use Rattle.clap.specs.declared.error.kind.ErrorKind.TheVariants as kind
 use Rattle.clap.proofs.OnLiterals.{clap_on_literals}
-use Rattle.reg_words.specs.Words.{bare, members, history, serve, is_none, read_by}
+use Rattle.reg_words.specs.Words.{bare, members, history, serve, load, sample, is_none, read_by}
 use Rattle.reg_words.specs.declared.task.Task.{Task}
 
 pub bare_is_simple : (name : Text) → is_simple_and_free (bare name) ≡ true
@@ -23,6 +23,14 @@ history_is_simple = refl
 pub serve_is_simple : is_simple_and_free serve ≡ true
 unfolding clap_on_literals
 serve_is_simple = refl
+
+pub load_is_simple : is_simple_and_free load ≡ true
+unfolding clap_on_literals
+load_is_simple = refl
+
+pub sample_is_simple : is_simple_and_free sample ≡ true
+unfolding clap_on_literals
+sample_is_simple = refl
 
 -- an error that isn't want of memory
 pub some_kind : (kinds : Kinds) (e : Error) → HasKind kinds e → kind_of e ≢ kind.OutOfMemory → kinds ≢ []

@@ -1,5 +1,5 @@
 -- Numbers in words.
-use Rattle.std.specs.Prelude.{◌&&◌, ℕ, List, Bool, Option, Some, None, if◌then◌else◌, length, nat_le}
+use Rattle.std.specs.Prelude.{◌&&◌, ℕ, List, Bool, Option, Some, None, if◌then◌else◌, length, nat_le, option_and_then}
 use Rattle.std.specs.Char.{is_ascii_digit}
 use Rattle.std.specs.List.{list_all}
 use Rattle.std.specs.Str.Parse.{digits_value}
@@ -15,6 +15,18 @@ is_number_in least most text = are_digits text && (nat_le least (digits_value 10
 -- that number
 abbrev pub number_in : ℕ → ℕ → List ℕ → Option ℕ
 number_in least most text = if is_number_in least most text then Some (digits_value 10 text) else None
+
+-- the seed that a word names
+abbrev pub seed_in : List ℕ → Option ℕ
+seed_in word = number_in 0 18446744073709551615 word
+
+-- a size: from 2 to 500
+abbrev pub sized : ℕ → Option ℕ
+sized number = if nat_le 2 number && nat_le number 500 then Some number else None
+
+-- the size that a word names
+abbrev pub size_in : List ℕ → Option ℕ
+size_in word = option_and_then sized (number_in 0 18446744073709551615 word)
 
 -- the port that a word names
 abbrev pub port_in : List ℕ → Option ℕ

@@ -5,7 +5,7 @@ use Rattle.std.specs.Str.{bytes_eq}
 use Rattle.clap.specs.Words.{App, Kinds, Row, Rule, Text, fault_of, first_of, matches_of, new_app, new_rule, with_rule}
 use Rattle.clap.specs.Simple.{on_top}
 use Rattle.clap.specs.declared.builder.action.ArgAction.TheVariants.{Set}
-use Rattle.reg_words.specs.Numbers.{connections_in, port_in}
+use Rattle.reg_words.specs.Numbers.{connections_in, port_in, seed_in, size_in}
 use Rattle.reg_words.specs.declared.task.Question.TheVariants as question
 use Rattle.reg_words.specs.declared.task.Task.{Task}
 use Rattle.reg_words.specs.declared.task.Task.TheVariants as task
@@ -42,6 +42,14 @@ history = with_word (codes "name") (bare (codes "history"))
 abbrev pub serve : App
 serve = with_option (codes "connections") (with_word (codes "port") (bare (codes "serve")))
 
+-- `load JOB`
+abbrev pub load : App
+load = with_word (codes "job") (bare (codes "load"))
+
+-- `sample SEED SIZE`
+abbrev pub sample : App
+sample = with_word (codes "size") (with_word (codes "seed") (bare (codes "sample")))
+
 -- what `members` asks, by what it found
 abbrev pub members_in : List Row → Option Task
 members_in rows = option_map (λ name. task.Ask (question.Members name (first_of (codes "at") rows))) (first_of (codes "name") rows)
@@ -49,6 +57,18 @@ members_in rows = option_map (λ name. task.Ask (question.Members name (first_of
 -- what `history` asks
 abbrev pub history_in : List Row → Option Task
 history_in rows = option_map (λ name. task.Ask (question.History name)) (first_of (codes "name") rows)
+
+-- what `load` asks
+abbrev pub load_in : List Row → Option Task
+load_in rows = option_map (λ job. task.Load job) (first_of (codes "job") rows)
+
+-- what `sample` asks, by its words
+abbrev pub sample_of : Text → Text → Option Task
+sample_of seed size = option_and_then (λ seed. option_map (λ size. task.Sample seed size) (size_in size)) (seed_in seed)
+
+-- the same by what it found
+abbrev pub sample_in : List Row → Option Task
+sample_in rows = option_and_then (λ seed. option_and_then (λ size. sample_of seed size) (first_of (codes "size") rows)) (first_of (codes "seed") rows)
 
 -- what `serve` asks, by its words
 abbrev pub serve_of : Text → Option Text → Option Task
@@ -79,7 +99,9 @@ task_by word words =
     else (if bytes_eq word (codes "check") then read_bare (codes "check") task.Check words
     else (if bytes_eq word (codes "members") then read_by members members_in words
     else (if bytes_eq word (codes "history") then read_by history history_in words
-    else None)))))
+    else (if bytes_eq word (codes "load") then read_by load load_in words
+    else (if bytes_eq word (codes "sample") then read_by sample sample_in words
+    else None)))))))
 
 -- what the words ask for
 abbrev pub task_of : List Text → Option Task

@@ -1,7 +1,7 @@
 // Simple commands for `clap`: how they are made, and what they find.
 ghost use Rattle.std.specs.Prelude.{◌≡◌, ◌≢◌, [], true, IfOk, MatchOption, map, string_bytes};
 ghost use Rattle.clap.specs.Words.{app_of, fault_of, first_of, found_of, is_simple_and_free, matches_of, rows_of};
-ghost use Rattle.reg_words.specs.Words.{bare, with_word, with_option, members, history, serve};
+ghost use Rattle.reg_words.specs.Words.{bare, with_word, with_option, members, history, serve, load, sample};
 
 use clap::error::ErrorKind;
 use clap::{Arg, ArgAction, ArgMatches, Command};
@@ -63,6 +63,23 @@ pub fn serve<'a>(alloc: Global) -> Result<Command<'a>, AllocError>
     let command = bare(alloc, "serve");
     let command = with_word(alloc, command, "port")?;
     with_option(alloc, command, "connections")
+}
+
+/// `load JOB`
+pub fn load<'a>(alloc: Global) -> Result<Command<'a>, AllocError>
+    ensures { IfOk result (λ c. app_of c ≡ load) }
+{
+    let command = bare(alloc, "load");
+    with_word(alloc, command, "job")
+}
+
+/// `sample SEED SIZE`
+pub fn sample<'a>(alloc: Global) -> Result<Command<'a>, AllocError>
+    ensures { IfOk result (λ c. app_of c ≡ sample) }
+{
+    let command = bare(alloc, "sample");
+    let command = with_word(alloc, command, "seed")?;
+    with_word(alloc, command, "size")
 }
 
 /// What a command finds in the words, of which the first is its own. None where it doesn't take

@@ -1,7 +1,8 @@
 // Numbers in words.
-ghost use Rattle.std.specs.Prelude.{◌≡◌, ◌≤◌};
-ghost use Rattle.reg_words.specs.Numbers.{connections_in, number_in, port_in};
+ghost use Rattle.std.specs.Prelude.{◌≡◌};
+ghost use Rattle.reg_words.specs.Numbers.{connections_in, number_in, port_in, seed_in, size_in};
 
+use crate::task::Size;
 use reg_base::Text;
 
 /// How many connections are served at most.
@@ -9,23 +10,44 @@ const MOST_CONNECTIONS: u64 = 1_000_000;
 
 /// The number from `least` to `most` that 1 to 20 digits give; None for any other text.
 fn number_in(text: &[u8], least: u64, most: u64) -> Option<u64>
-    requires { most ≤ 1000000 }
     ensures { result ≡ number_in least most text.now }
 {
     if text.is_empty() || text.len() > 20 {
         return None;
     }
-    let mut number: u64 = 0;
+    let (lowest, highest) = (u128::from(least), u128::from(most));
+    let mut number: u128 = 0;
     for digit in text {
         if !digit.is_ascii_digit() {
             return None;
         }
-        number = number * 10 + u64::from(*digit - b'0');
-        if number > most {
+        number = number * 10 + u128::from(*digit - b'0');
+        if number > highest {
             return None;
         }
     }
-    if number < least { None } else { Some(number) }
+    if number < lowest {
+        None
+    } else {
+        Some(number as u64)
+    }
+}
+
+/// The seed that a word names: a number below 2^64.
+pub fn seed_in(word: &Text) -> Option<u64>
+    ensures { result ≡ seed_in word.now }
+{
+    number_in(word.bytes(), 0, u64::MAX)
+}
+
+/// The size that a word names: a number from 2 to 500.
+pub fn size_in(word: &Text) -> Option<Size>
+    ensures { result ≡ size_in word.now }
+{
+    match number_in(word.bytes(), 0, u64::MAX) {
+        Some(number) => Size::new(number),
+        None => None,
+    }
 }
 
 /// The port that a word names: a number from 0 to 65,535.

@@ -1,5 +1,49 @@
 // What the words ask for.
+ghost use Rattle.std.specs.Prelude.{◌≡◌, ◌≤◌};
+ghost use Rattle.reg_words.specs.Numbers.{sized};
+
 use reg_base::Text;
+use std::marker::Model;
+
+/// How large a sample is: from 2 to 500. Contracts see the number.
+#[derive(Clone, Copy, Debug)]
+pub struct Size {
+    number: u64,
+}
+
+impl Model for Size {
+    ghost use Rattle.std.specs.Prelude.{ℕ, ◌≤◌};
+
+    ghost Value = { ℕ };
+
+    ghost view = { λ s. s.number };
+
+    ghost invariant = { λ s. (2 ≤ s.number) × (s.number ≤ 500) };
+
+    ghost inverse = { λ n. record { number = n } };
+}
+
+impl Size {
+    /// The size of this number. None where it is less than 2 or greater than 500.
+    pub fn new(number: u64) -> Option<Size>
+        ensures { result ≡ sized number }
+    {
+        if number >= 2 && number <= 500 {
+            Some(Size { number })
+        } else {
+            None
+        }
+    }
+
+    /// The number.
+    pub fn number(self) -> u64
+        ensures number { result ≡ self }
+        ensures least { 2 ≤ result }
+        ensures most { result ≤ 500 }
+    {
+        self.number
+    }
+}
 
 /// A question in the words of its caller: whether its texts are names and moments isn't asked yet.
 #[derive(Debug, Drop)]
@@ -23,4 +67,8 @@ pub enum Task {
     Check,
     /// Answer one question.
     Ask(Question),
+    /// Run a job over a table, which is the input. Whether the job's text is a name isn't asked yet.
+    Load { job: Text },
+    /// Put the requests of a seed and a size to a registry that keeps nothing.
+    Sample { seed: u64, size: Size },
 }

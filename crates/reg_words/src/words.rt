@@ -1,10 +1,10 @@
 // From the words to what they ask for.
 ghost use Rattle.std.specs.Prelude.{◌≡◌, IfOk, map, string_bytes};
 ghost use Rattle.clap.specs.Words.{found_of, rows_of};
-ghost use Rattle.reg_words.specs.Words.{history, history_in, members, members_in, read_bare, read_by, serve, serve_in, serve_of, task_by, task_of};
+ghost use Rattle.reg_words.specs.Words.{history, history_in, load, load_in, members, members_in, read_bare, read_by, sample, sample_in, sample_of, serve, serve_in, serve_of, task_by, task_of};
 
-use crate::commands::{bare, found, history, members, serve, value};
-use crate::numbers::{connections_in, port_in};
+use crate::commands::{bare, found, history, load, members, sample, serve, value};
+use crate::numbers::{connections_in, port_in, seed_in, size_in};
 use crate::task::{Question, Task};
 use clap::ArgMatches;
 use reg_base::Text;
@@ -45,6 +45,39 @@ fn history_in(alloc: Global, matches: &ArgMatches) -> Result<Option<Task>, Alloc
         return Ok(None);
     };
     Ok(Some(Task::Ask(Question::History { name })))
+}
+
+/// What `load` asks.
+fn load_in(alloc: Global, matches: &ArgMatches) -> Result<Option<Task>, AllocError>
+    ensures { IfOk result (λ asked. asked ≡ load_in (rows_of (found_of matches.now))) }
+{
+    let Some(job) = value(alloc, matches, "job")? else {
+        return Ok(None);
+    };
+    Ok(Some(Task::Load { job }))
+}
+
+/// What `sample` asks, by its words.
+fn sample_of(seed: &Text, size: &Text) -> Option<Task>
+    ensures { result ≡ sample_of seed.now size.now }
+{
+    match (seed_in(seed), size_in(size)) {
+        (Some(seed), Some(size)) => Some(Task::Sample { seed, size }),
+        _ => None,
+    }
+}
+
+/// What `sample` asks, by what it found.
+fn sample_in(alloc: Global, matches: &ArgMatches) -> Result<Option<Task>, AllocError>
+    ensures { IfOk result (λ asked. asked ≡ sample_in (rows_of (found_of matches.now))) }
+{
+    let Some(seed) = value(alloc, matches, "seed")? else {
+        return Ok(None);
+    };
+    let Some(size) = value(alloc, matches, "size")? else {
+        return Ok(None);
+    };
+    Ok(sample_of(&seed, &size))
 }
 
 /// What `serve` asks, by its words.
@@ -90,6 +123,28 @@ fn read_history(alloc: Global, words: &[String]) -> Result<Option<Task>, AllocEr
     }
 }
 
+/// Reads the words of `load JOB`.
+fn read_load(alloc: Global, words: &[String]) -> Result<Option<Task>, AllocError>
+    ensures { IfOk result (λ asked. asked ≡ read_by load load_in (map string_bytes words.now)) }
+{
+    let command = load(alloc)?;
+    match found(command, words)? {
+        Some(matches) => load_in(alloc, &matches),
+        None => Ok(None),
+    }
+}
+
+/// Reads the words of `sample SEED SIZE`.
+fn read_sample(alloc: Global, words: &[String]) -> Result<Option<Task>, AllocError>
+    ensures { IfOk result (λ asked. asked ≡ read_by sample sample_in (map string_bytes words.now)) }
+{
+    let command = sample(alloc)?;
+    match found(command, words)? {
+        Some(matches) => sample_in(alloc, &matches),
+        None => Ok(None),
+    }
+}
+
 /// Reads the words of `serve PORT [--connections N]`.
 fn read_serve(alloc: Global, words: &[String]) -> Result<Option<Task>, AllocError>
     ensures { IfOk result (λ asked. asked ≡ read_by serve serve_in (map string_bytes words.now)) }
@@ -112,6 +167,8 @@ fn task_by(alloc: Global, word: &str, words: &[String]) -> Result<Option<Task>, 
         "check" => read_bare(alloc, "check", Task::Check, words),
         "members" => read_members(alloc, words),
         "history" => read_history(alloc, words),
+        "load" => read_load(alloc, words),
+        "sample" => read_sample(alloc, words),
         _ => Ok(None),
     }
 }

@@ -1,9 +1,9 @@
 use Rattle.std.proofs.Common.{◌≡◌, ◌<◌, ◌∙◌, ◌^◌, ◌+◌, List, map, sym, subst, rules}
 use Rattle.std.specs.List.{AllByRecursion}
+use Rattle.reg_terms.specs.declared.rows.PersonRow.{PersonRow}
+use Rattle.reg_facts.specs.Events.{row_comes, row_goes}
 use Rattle.reg_load.specs.Finding.{first_grants, numbered_groups}
 use Rattle.reg_load.specs.LoadChecks.{added_rows, removed_rows}
-use Rattle.reg_load.specs.Loads.{row_comes, row_goes}
-use Rattle.reg_load.specs.declared.rows.PersonRow.{PersonRow}
 use Rattle.reg_load.proofs.Found.{coming_small, events_are, going_small, put_together}
 use Rattle.reg_load.proofs.LoadSuits.{checks_told, room_told}
 use Rattle.reg_load.proofs.events.load_events.Goals as goal

@@ -1,7 +1,7 @@
 use Rattle.std.proofs.Common.{◌≡◌, ◌++◌, ◌<◌, ◌^◌, drop, map}
 use Rattle.std.specs.List.{AllByRecursion}
-use Rattle.reg_load.specs.Loads.{row_goes}
-use Rattle.reg_load.specs.declared.rows.PersonRow.{PersonRow}
+use Rattle.reg_terms.specs.declared.rows.PersonRow.{PersonRow}
+use Rattle.reg_facts.specs.Events.{row_goes}
 use Rattle.reg_load.proofs.events.push_going.Given as goal
 
 abbrev pub invariant-loop-row : goal.invariant-loop-row

@@ -1,6 +1,6 @@
 use Rattle.std.proofs.Common.{◌≡◌, ◌∷◌, ◌∙◌, ◌+◌, ap, drop, get_or, false, refl, rules}
 use Rattle.std.proofs.lemmas.List.{drop_more}
-use Rattle.reg_load.specs.Loads.{comes_twice}
+use Rattle.reg_load.specs.PersonRows.{comes_twice}
 use Rattle.reg_load.specs.Sets.{holds}
 use Rattle.reg_load.proofs.Found.{none_seen, twice_next}
 use Rattle.reg_load.proofs.row_set.comes_twice.Goals as goal

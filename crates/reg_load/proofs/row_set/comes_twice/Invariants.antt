@@ -1,6 +1,6 @@
 use Rattle.std.proofs.Common.{◌≡◌, ◌||◌, drop}
 use Rattle.std.specs.List.{list_any}
-use Rattle.reg_load.specs.Loads.{comes_twice}
+use Rattle.reg_load.specs.PersonRows.{comes_twice}
 use Rattle.reg_load.specs.Sets.{holds}
 use Rattle.reg_load.proofs.row_set.comes_twice.Given as goal
 

@@ -1,6 +1,6 @@
 use Rattle.std.proofs.Common.{◌≡◌, drop}
 use Rattle.std.specs.List.{list_all}
-use Rattle.reg_load.specs.Loads.{stands}
+use Rattle.reg_load.specs.PersonRows.{stands}
 use Rattle.reg_load.proofs.standing.all_stand.Given as goal
 
 -- all so far, so it is up to the rest

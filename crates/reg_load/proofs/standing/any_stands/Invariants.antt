@@ -1,6 +1,6 @@
 use Rattle.std.proofs.Common.{◌≡◌, drop}
 use Rattle.std.specs.List.{list_any}
-use Rattle.reg_load.specs.Loads.{stands}
+use Rattle.reg_load.specs.PersonRows.{stands}
 use Rattle.reg_load.proofs.standing.any_stands.Given as goal
 
 -- none so far, so it is one of the rest

@@ -1,3 +1,4 @@
+use Rattle.std.proofs.Common.{refl}
 use Rattle.reg_run.specs.World.{net_of, world}
 use Rattle.reg_run.proofs.perform.perform.Goals as goal
 
@@ -16,3 +17,10 @@ returns-in-Ask-clause-did g c = rw c.in-Ask.is (c.ask_over.ensures.did (world g.
 
 pub returns-in-Serve-clause-did : goal.returns-in-Serve-clause-did
 returns-in-Serve-clause-did g c = rw c.in-Serve.is (c.serve_over.ensures.did (world g.S.Source g.K.Sink g.D.Disk g.C.Clock c.args.input.now c.args.out.now c.args.disk c.args.clock.now (net_of g.L.Listener c.args.net.now)))
+
+pub returns-in-Load-clause-did : goal.returns-in-Load-clause-did
+returns-in-Load-clause-did g c = rw c.in-Load.is (c.load_over.ensures.did (net_of g.L.Listener c.args.net.now))
+
+pub returns-in-Sample-clause-did : goal.returns-in-Sample-clause-did
+returns-in-Sample-clause-did g c =
+    rw c.in-Sample.is (record { printed = c.print_sample.ensures; input = (refl, refl); clock = refl; net = refl; held = (refl, refl); disk = (refl, g.met.D.Disk.only_now c.args.disk) })

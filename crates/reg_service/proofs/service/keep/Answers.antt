@@ -1,5 +1,6 @@
 use Rattle.std.proofs.Common.{refl, ◌∙◌}
-use Rattle.reg_service.proofs.Keeping.{kept_same, stopped_at, size_one, served_one, kept_ok, kept_err, would_keep, acknowledged_one}
+use Rattle.reg_service.proofs.Keeping.{kept_same, stopped_at, served_one, kept_ok, kept_err, would_keep, acknowledged_one}
+use Rattle.reg_service.proofs.Loads.{few_listed}
 use Rattle.reg_service.proofs.service.keep.Goals as goal
 
 -- there was no memory to write the command down
@@ -11,7 +12,8 @@ returns-in_default-applied-clause-kept g c = stopped_at g.K.Keeper c.args.machin
 
 -- its payload fits a frame
 pub append-requires-clause-size : goal.append-requires-clause-size
-append-requires-clause-size g c = size_one c.deref.result.now c.args.stamped (c.deref.ensures.value ∙ c.in-Ok.ensures.value) (c.payload_is_short.ensures c.args.stamped c.requires.writable)
+append-requires-clause-size g c =
+    rw c.deref.ensures.value (c.in-Ok.ensures.short (few_listed c.args.machine.history c.args.machine.clock c.args.stamped.by c.args.stamped.command (c.law_loads_few.ensures c.args.stamped.by) c.requires.accepted))
 
 -- it was kept
 pub invariant_of-result-in-Ok-append : goal.invariant_of-result-in-Ok-append

@@ -16,15 +16,15 @@ too_large least most text i inside large =
     let all : most < digits_value 10 text = omega (arith, digits_value_more 10 text i inside, digits_value-take-le 10 text (i + 1) (omega arith)) in
     sym (cond-false (is_number_in least most text) (Some (digits_value 10 text)) None (and_right (are_digits text) _ (and_right (nat_le least (digits_value 10 text)) _ (lt-leb _ _ all))))
 
-pub returns-then-number-most : goal.returns-then-number-most
-returns-then-number-most c =
+pub returns-then-number-highest : goal.returns-then-number-highest
+returns-then-number-highest c =
     let digit : digit_value (get_or c.args.text.now c.loop-digit.digit-index 0) ≡ c.from.result = grind (arith, nat_tests) in
-    too_large c.args.least c.args.most c.args.text.now _ c.loop-digit-test.true (omega (arith, digit, c.loop-digit.invariant.value, c.if-number-most.true))
+    too_large c.args.least c.args.most c.args.text.now _ c.loop-digit-test.true (omega (arith, digit, c.loop-digit.invariant.value, c.if-number-highest.true))
 
 pub loop-digit-preserved : goal.loop-digit-preserved
 loop-digit-preserved c =
     let digit : digit_value (get_or c.args.text.now c.loop-digit.digit-index 0) ≡ c.from.result = grind (arith, nat_tests) in record {
       value = omega (arith, digits_value_more 10 c.args.text.now _ c.loop-digit-test.true, c.loop-digit.invariant.value);
       digits = list_all_more is_ascii_digit c.args.text.now _ 0 c.loop-digit-test.true ∙ and_from _ _ c.loop-digit.invariant.digits (sym c.if-not-is_ascii_digit.ensures.value);
-      small = c.if-number-most.false;
+      small = omega (arith, c.if-number-highest.false);
     }

@@ -1,12 +1,14 @@
 use Rattle.std.proofs.Common.{◌≡◌, ◌∙◌, ℕ, ap, refl, subst, max, Ok}
 use Rattle.reg_machine.specs.History.{State}
-use Rattle.reg_service.specs.Kept.{KeepsNext, LeavesKeeper}
+use Rattle.reg_base.specs.Entities.{entity_of}
+use Rattle.reg_service.specs.Kept.{IsLoaded, KeepsNext, LeavesKeeper}
 use Rattle.reg_terms.specs.declared.request.Op.TheVariants as op
 use Rattle.reg_service.specs.Turn.{turn, requested, at_moment, GoesOn}
 use Rattle.reg_view.specs.AtClock.{told}
 use Rattle.reg_service.specs.Opening.{Served}
 use Rattle.reg_service.proofs.Forms.{command_form}
 use Rattle.reg_service.proofs.Keeping.{stopped_at, served_later, query_goes_on}
+use Rattle.reg_service.proofs.Loads.{command_unloaded, load_form, load_goes_on, query_unloaded}
 use Rattle.reg_service.proofs.service.Service.request.Goals as goal
 
 -- there was no memory to move the clock
@@ -59,3 +61,45 @@ asked-requires g c = served_later c.self.inside.machine c.in-Ok.machine _ _ _ c.
 
 pub commanded-requires-clause-served : goal.commanded-requires-clause-served
 commanded-requires-clause-served g c = served_later c.self.inside.machine c.in-Ok.machine _ _ _ c.self.invariant (rw c.clock.ensures at c.later_of-now.ensures.no_earlier) c.in-Ok.ensures
+
+-- a load is carried out at the later moment
+pub returns-in-Load-clause-history : goal.returns-in-Load-clause-history
+returns-in-Load-clause-history g c =
+    let moved : c.in-Ok.machine ≡ at_moment c.self.inside.machine c.args.at = c.in-Ok.ensures ∙ ap (λ (n : ℕ). let s : State = record { history = c.self.inside.machine.history; clock = n } in s) (c.later_of-now.ensures.value ∙ ap (λ (n : ℕ). max n c.args.at) c.clock.ensures) in
+    subst (λ (v : Served g.row.K.Denot). GoesOn v.state c.args.at c.load_by.result) c.self.view_is
+    (load_goes_on c.self.inside.machine c.in-Ok.machine c.args.at (entity_of c.args.request.by) c.in-Load.job c.in-Load.table c.load_by.result.0 c.load_by.result.1 moved c.load_by.ensures.turn)
+
+pub returns-in-Load-clause-kept : goal.returns-in-Load-clause-kept
+returns-in-Load-clause-kept g c =
+    let later : State = at_moment c.self.inside.machine c.args.at in
+    let moved : c.in-Ok.machine ≡ later = c.in-Ok.ensures ∙ ap (λ (n : ℕ). let s : State = record { history = c.self.inside.machine.history; clock = n } in s) (c.later_of-now.ensures.value ∙ ap (λ (n : ℕ). max n c.args.at) c.clock.ensures) in
+    let kept : KeepsNext g.K.Keeper c.self.inside.machine.history (requested later c.args.request.by (op.Load c.in-Load.job c.in-Load.table)).1.history c.self.inside.keeper c.load_by.result.1 =
+    subst (λ (m : State). KeepsNext g.K.Keeper m.history (requested m c.args.request.by (op.Load c.in-Load.job c.in-Load.table)).1.history c.self.inside.keeper c.load_by.result.1) moved c.load_by.ensures.kept in
+    subst (λ (v : Served g.row.K.Denot). KeepsNext g.K.Keeper v.state.history (requested (at_moment v.state c.args.at) c.args.request.by c.args.request.op).1.history v.keeper c.load_by.result.1) c.self.view_is (rw c.in-Load.is kept)
+
+-- and is no query
+pub returns-in-Load-clause-asked : goal.returns-in-Load-clause-asked
+returns-in-Load-clause-asked g c is = absurd (rw c.in-Load.is at is)
+
+-- it is answered as a load, and nothing else is
+pub returns-in-Load-clause-acknowledged : goal.returns-in-Load-clause-acknowledged
+returns-in-Load-clause-acknowledged g c n id is = absurd (c.load_by.ensures.unnumbered n id is)
+
+pub returns-in-Load-clause-loaded : goal.returns-in-Load-clause-loaded
+returns-in-Load-clause-loaded g c n counts is =
+    let same : c.in-Ok.machine.history ≡ c.self.inside.machine.history = ap (λ (s : State). s.history) c.in-Ok.ensures in
+    let kept : IsLoaded g.K.Keeper c.in-Ok.machine.history n c.load_by.result.1 = c.load_by.ensures.loaded n counts is in
+    subst (λ (v : Served g.row.K.Denot). IsLoaded g.K.Keeper v.state.history n c.load_by.result.1) c.self.view_is (rw same at kept)
+
+pub returns-in-Command-clause-loaded : goal.returns-in-Command-clause-loaded
+returns-in-Command-clause-loaded g c n counts is = absurd (command_unloaded c.in-Ok.machine (entity_of c.args.request.by) c.in-Command.command c.commanded.result.0 c.commanded.result.1 n counts c.commanded.ensures.turn is)
+
+pub returns-in-Query-clause-loaded : goal.returns-in-Query-clause-loaded
+returns-in-Query-clause-loaded g c n counts is =
+    absurd (query_unloaded c.in-Ok.machine (told c.in-Ok.machine.history c.in-Ok.machine.clock c.args.request.by c.in-Query.query) c.asked.result.0 c.asked.result.1 n counts c.asked.ensures.turn is)
+
+pub load_by-requires-clause-served : goal.load_by-requires-clause-served
+load_by-requires-clause-served g c = served_later c.self.inside.machine c.in-Ok.machine _ _ _ c.self.invariant (rw c.clock.ensures at c.later_of-now.ensures.no_earlier) c.in-Ok.ensures
+
+pub load_by-requires-clause-form : goal.load_by-requires-clause-form
+load_by-requires-clause-form g c = load_form c.in-Load.job c.in-Load.table (rw c.in-Load.is at c.requires)

@@ -1,9 +1,9 @@
 use Rattle.reg_machine.specs.History.{facts}
 use Rattle.reg_machine.proofs.Allowed.{Laws, all_hold, can_edit}
-use Rattle.reg_machine.proofs.machine.Machine.events_of.Goals as goal
+use Rattle.reg_machine.proofs.machine.Machine.law_allowed.Goals as goal
 
-pub events_of-requires : goal.events_of-requires
-events_of-requires g c =
+pub returns-clause-suits : goal.returns-clause-suits
+returns-clause-suits g c =
     let laws : Laws (facts c.args.self.now.history c.args.self.now.clock) = record {
       sound = rw c.facts-facts.ensures at c.law_sound.ensures;
       held = rw c.facts-facts.ensures at c.law_held.ensures;
@@ -14,8 +14,9 @@ events_of-requires g c =
       owners = rw c.facts-facts.ensures at c.law_owners.ensures.owners;
       new_groups = rw c.facts-facts.ensures at c.law_new_group.ensures;
       jobs_go = rw c.facts-facts.ensures at c.law_job_delete.ensures;
+      loads = rw c.facts-facts.ensures at c.law_load.ensures;
     } in
-    rw (c.facts-facts.ensures, c.clock.ensures) (can_edit c.args.self.now.history c.args.self.now.clock c.args.by.now c.args.command.now laws c.requires.allowed c.requires.form)
+    can_edit c.args.self.now.history c.args.self.now.clock c.args.by.now c.args.command.now laws c.requires.allowed c.requires.form
 
 pub returns-clause-hold : goal.returns-clause-hold
 returns-clause-hold g c =
@@ -29,5 +30,6 @@ returns-clause-hold g c =
       owners = rw c.facts-facts.ensures at c.law_owners.ensures.owners;
       new_groups = rw c.facts-facts.ensures at c.law_new_group.ensures;
       jobs_go = rw c.facts-facts.ensures at c.law_job_delete.ensures;
+      loads = rw c.facts-facts.ensures at c.law_load.ensures;
     } in
     all_hold c.args.self.now.history c.args.self.now.clock c.args.by.now c.args.command.now laws c.requires.allowed c.requires.form
