@@ -8,7 +8,7 @@ use reg_facts::{AttrValue, AttrValues, Facts, Object, Value};
 use std::alloc::{AllocError, Global};
 
 /// Why a definition refuses an owner or a value.
-#[derive(Clone, Copy, Debug, PartialEq, Eq)]
+#[derive(Clone, Copy, PartialEq, Eq)]
 pub enum AttrFault {
     /// The definition doesn't suit owners of this kind.
     WrongOwner,

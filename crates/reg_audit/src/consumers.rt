@@ -10,7 +10,7 @@ use std::alloc::{AllocError, Global};
 
 /// What a step does to a consumer: it is added with a place, or one that is there has read up to a
 /// number.
-#[derive(Debug, Drop)]
+#[derive(Drop)]
 pub struct ConsumerNote {
     pub name: Text,
     pub place: u64,

@@ -3,7 +3,7 @@ use reg_base::Text;
 use reg_terms::Object;
 
 /// An object that goes, and the name that it had.
-#[derive(Debug, Drop)]
+#[derive(Drop)]
 pub struct Gone {
     pub object: Object,
     pub name: Text,

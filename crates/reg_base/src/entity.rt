@@ -9,7 +9,7 @@ use crate::text::Text;
 use std::alloc::{AllocError, Global};
 
 /// An entity.
-#[derive(Debug, Drop)]
+#[derive(Drop)]
 pub enum Entity {
     /// A person, by the text `source/id`.
     Person(Text),

@@ -5,7 +5,7 @@ use std::alloc::{AllocError, Global};
 use std::marker::Model;
 
 /// Bytes that are UTF-8. Contracts see their list.
-#[derive(Debug, Drop)]
+#[derive(Drop)]
 pub struct Text {
     string: String,
 }

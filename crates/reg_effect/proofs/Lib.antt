@@ -6,7 +6,6 @@ pub mod Deep
 pub mod Apart
 pub mod Graphs
 pub mod Leaving
-pub mod Walks
 pub mod Passes
 pub mod Walking
 pub mod Costs

@@ -1,5 +1,5 @@
 -- Who is a member after memberships were turned.
-use Rattle.std.proofs.Common.{◌≡◌, ◌==◌, ◌&&◌, ◌||◌, ℕ, List, [], ◌∷◌, Bool, true, false, max, if◌then◌else◌, refl, inl, inr}
+use Rattle.std.proofs.Common.{◌≡◌, ◌==◌, ◌&&◌, ℕ, List, [], ◌∷◌, Bool, true, false, max, if◌then◌else◌, refl, inl, inr}
 use Rattle.std.proofs.lemmas.Bool.{cases_Bool, or_cases, and_parts, eqb-true}
 use Rattle.reg_graph.specs.Sets.{holds}
 use Rattle.reg_effect.specs.declared.live.Live.{Live}

@@ -117,7 +117,7 @@ impl Live {
 }
 
 /// One change of live data.
-#[derive(Clone, Copy, Debug)]
+#[derive(Clone, Copy)]
 pub enum Change {
     /// The group gets a row of the member.
     RowOn {
@@ -157,7 +157,7 @@ impl Change {
 }
 
 /// The effective memberships that a change begins and ends, each in order by group and person.
-#[derive(Debug, Drop)]
+#[derive(Drop)]
 pub struct Delta {
     pub began: Pairs,
     pub ended: Pairs,

@@ -53,6 +53,14 @@ impl Marks {
         Ok(())
     }
 
+    /// Takes a pair out, where it is there. Takes no memory.
+    pub(crate) fn remove(&mut self, g: GroupId, s: SubjectId)
+        ensures { (x y : ℕ) → holds x y self.new
+            ≡ (not ((x == g) && (y == s)) && holds x y self.old) }
+    {
+        self.pairs.remove(&(g, s));
+    }
+
     /// Whether both have the same pairs.
     pub(crate) fn same(&self, other: &Marks) -> bool
         ensures { IsTrue result → self.now ≡ other.now }
@@ -82,6 +90,19 @@ impl Marks {
     {
         let mut pairs = Pairs::new(self.alloc);
         for pair in &self.pairs {
+            pairs.push(*pair)?;
+        }
+        Ok(pairs)
+    }
+
+    /// The pairs that either has, in order.
+    pub(crate) fn union(&self, other: &Marks) -> Result<Pairs, AllocError>
+        ensures each { IfOk result (λ p. (x y : ℕ) → holds x y p
+            ≡ (holds x y self.now || holds x y other.now)) }
+        ensures ordered { IfOk result (λ p. IsStrictlySortedBy pair_cmp p) }
+    {
+        let mut pairs = Pairs::new(self.alloc);
+        for pair in self.pairs.union(&other.pairs) {
             pairs.push(*pair)?;
         }
         Ok(pairs)

@@ -6,7 +6,7 @@ use std::alloc::{AllocError, Global};
 use std::marker::Model;
 
 /// A list of pairs of a group and a person. Contracts see the list.
-#[derive(Debug, Drop)]
+#[derive(Drop)]
 pub struct Pairs {
     items: Vec<(GroupId, SubjectId)>,
 }

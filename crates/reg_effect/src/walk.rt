@@ -60,7 +60,6 @@ fn test<L: Ledger>(
 }
 
 /// Brings one person's membership of one group up to date, and says whether it changed.
-#[tactic(auto, using(crate::proofs::Walks::set_one, crate::proofs::Walks::keep_one))]
 fn update<L: Ledger>(
     live: &Live,
     below: &[GroupId],
@@ -79,19 +78,18 @@ fn update<L: Ledger>(
     ensures ended { OnOk result ((y q : ℕ) → holds y q ended.new ≡ ((((y == g) && (q == s)) && ends (holds g s sets.old) (level (λ h. holds h s sets.old) live.now g s)) || holds y q ended.old)) }
     ensures cost { steps.new ≤ steps.old + leaving (edges live.now) g + 2 }
 {
-    let is = test(live, below, sets, g, s, steps);
-    let was = sets.has(g, s, steps);
-    if is && !was {
-        sets.add(g, s, steps)?;
-        began.add(g, s)?;
-        return Ok(true);
+    if test(live, below, sets, g, s, steps) {
+        let lacked = sets.add(g, s, steps)?;
+        if lacked {
+            began.add(g, s)?;
+        }
+        return Ok(lacked);
     }
-    if was && !is {
-        sets.remove(g, s, steps);
+    let had = sets.remove(g, s, steps);
+    if had {
         ended.add(g, s)?;
-        return Ok(true);
     }
-    Ok(false)
+    Ok(had)
 }
 
 /// Brings the persons' memberships of a group up to date, and gives those that changed.

@@ -13,7 +13,7 @@ use std::alloc::{AllocError, Global};
 use std::marker::Model;
 
 /// What an assignment is found by: an owner's are listed by id.
-#[derive(Clone, Copy, Debug)]
+#[derive(Clone, Copy)]
 pub struct AssignKey {
     pub owner: Object,
     pub attribute: AttrId,
@@ -52,7 +52,7 @@ impl LinkedRow for AssignKey {
 }
 
 /// The same key, found by owner and attribute together.
-#[derive(Clone, Copy, Debug)]
+#[derive(Clone, Copy)]
 pub struct ByPair {
     pub key: AssignKey,
 }
@@ -76,7 +76,7 @@ impl Row for ByPair {
 }
 
 /// The keys of assignments. Contracts see the list of them, in the order in which they were added.
-#[derive(Debug, Drop)]
+#[derive(Drop)]
 pub struct AssignIndex {
     keys: LinkedTable<AssignKey>,
     pairs: Table<ByPair>,

@@ -16,7 +16,7 @@ use std::collections::BTreeMap;
 use std::marker::Model;
 
 /// The assignments. Contracts see the list of them, by id.
-#[derive(Debug, Drop)]
+#[derive(Drop)]
 pub struct AssignMap {
     rows: BTreeMap<AssignId, AssignRow>,
     /// How many values they have.

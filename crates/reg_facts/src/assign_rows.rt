@@ -18,7 +18,7 @@ use std::alloc::{AllocError, Global};
 use std::marker::Model;
 
 /// The assignments. Contracts see the list of them, by id.
-#[derive(Debug, Drop)]
+#[derive(Drop)]
 pub struct AssignRows {
     rows: AssignMap,
     /// The same assignments by owner, by owner and attribute, and by attribute.

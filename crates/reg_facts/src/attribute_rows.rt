@@ -14,7 +14,7 @@ use std::alloc::{AllocError, Global};
 use std::marker::Model;
 
 /// An attribute, found by its definition.
-#[derive(Clone, Copy, Debug)]
+#[derive(Clone, Copy)]
 pub struct Defined {
     pub definition: AttrDefId,
     pub attribute: AttrId,
@@ -39,7 +39,7 @@ impl Row for Defined {
 }
 
 /// The attributes. Contracts see the list of them, by id.
-#[derive(Debug, Drop)]
+#[derive(Drop)]
 pub struct AttributeRows {
     list: Vec<AttributeRow>,
     /// The same attributes by their definitions.

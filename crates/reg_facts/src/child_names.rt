@@ -12,7 +12,7 @@ use std::alloc::{AllocError, Global};
 use std::collections::BTreeMap;
 
 /// The names of what stands directly in a folder, those of each kind in the order of their bytes.
-#[derive(Debug, Drop)]
+#[derive(Drop)]
 pub struct ChildNames {
     pub attributes: Texts,
     pub definitions: Texts,

@@ -13,7 +13,7 @@ use std::alloc::{AllocError, Global};
 use std::marker::Model;
 
 /// The grants. Contracts see the list of them, in the order in which they were made.
-#[derive(Debug, Drop)]
+#[derive(Drop)]
 pub struct GrantRows {
     rows: LinkedTable<GrantRow>,
 }

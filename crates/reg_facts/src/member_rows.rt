@@ -13,7 +13,7 @@ use std::alloc::{AllocError, Global};
 use std::marker::Model;
 
 /// The immediate memberships. Contracts see the list of them, in the order in which they were added.
-#[derive(Debug, Drop)]
+#[derive(Drop)]
 pub struct MemberRows {
     rows: Table<MemberRow>,
     /// Those whose member is a group, by that group.

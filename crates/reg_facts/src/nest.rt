@@ -8,7 +8,7 @@ use reg_table::{Row, Table};
 use std::alloc::AllocError;
 
 /// A group that is a member of another, found by the first.
-#[derive(Clone, Copy, Debug)]
+#[derive(Clone, Copy)]
 pub struct Nest {
     pub nested: GroupId,
     pub group: GroupId,

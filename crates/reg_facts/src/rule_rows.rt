@@ -19,7 +19,7 @@ use std::alloc::{AllocError, Global};
 use std::marker::Model;
 
 /// The rules. Contracts see the list of them, by id.
-#[derive(Debug, Drop)]
+#[derive(Drop)]
 pub struct RuleRows {
     list: Vec<RuleRow>,
     /// The same rules by what they are looked up by, and by the groups that they name beside that.

@@ -29,7 +29,7 @@ use std::marker::Model;
 use std::mem;
 
 /// The lists. Contracts see the record of them.
-#[derive(Debug, Drop)]
+#[derive(Drop)]
 pub struct Tables {
     pub folder_rows: Vec<FolderRow>,
     pub group_rows: Vec<GroupRow>,

@@ -15,7 +15,7 @@ use std::convert::From;
 use std::marker::Model;
 
 /// Why an edge isn't added.
-#[derive(Clone, Copy, Debug, PartialEq, Eq)]
+#[derive(Clone, Copy, PartialEq, Eq)]
 pub enum EdgeFault {
     /// The group to which the edge would go is the one from which it comes, or depends on it.
     Circular(GroupId),

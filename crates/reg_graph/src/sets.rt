@@ -53,23 +53,26 @@ impl Sets {
         self.pairs.contains(&(g, s))
     }
 
-    /// Adds the subject to the group, which may have it already: one step. Out of memory the sets
-    /// stay as they were.
+    /// Adds the subject to the group, and says whether the group lacked it before: one step. Out
+    /// of memory the sets stay as they were.
     pub fn add<L: Ledger>(
         &mut self,
         g: GroupId,
         s: SubjectId,
         steps: &mut Steps<L>,
-    ) -> Result<(), AllocError>
+    ) -> Result<bool, AllocError>
+        ensures lacked { IfOk result (λ b. b ≡ not (holds g s self.old)) }
         ensures added { OnOk result ((x y : ℕ) → holds x y self.new
             ≡ (((x == g) && (y == s)) || holds x y self.old)) }
         ensures err { OnErr result (self.new ≡ self.old) }
         ensures cost { steps.new ≡ steps.old + 1 }
     {
         steps.tick(); // one subject added
-        self.turned.insert((s, g))?;
+        if !self.turned.insert((s, g))? {
+            return Ok(false); // a pair that one set has is in the other too
+        }
         match self.pairs.insert((g, s)) {
-            Ok(_) => Ok(()),
+            Ok(lacked) => Ok(lacked),
             Err(_) => {
                 // Only a pair that was in neither set can be refused.
                 self.turned.remove(&(s, g));
@@ -78,15 +81,19 @@ impl Sets {
         }
     }
 
-    /// Takes the subject out of the group, which may lack it: one step, no memory.
-    pub fn remove<L: Ledger>(&mut self, g: GroupId, s: SubjectId, steps: &mut Steps<L>)
+    /// Takes the subject out of the group, and says whether the group had it: one step, no memory.
+    pub fn remove<L: Ledger>(&mut self, g: GroupId, s: SubjectId, steps: &mut Steps<L>) -> bool
+        ensures had { result ≡ holds g s self.old }
         ensures removed { (x y : ℕ) → holds x y self.new
             ≡ (not ((x == g) && (y == s)) && holds x y self.old) }
         ensures cost { steps.new ≡ steps.old + 1 }
     {
         steps.tick(); // one subject removed
-        self.pairs.remove(&(g, s));
+        if !self.pairs.remove(&(g, s)) {
+            return false; // a pair that one set lacks isn't in the other either
+        }
         self.turned.remove(&(s, g));
+        true
     }
 
     /// The subjects of the group, by id, each once: a step for each. Out of memory no more steps

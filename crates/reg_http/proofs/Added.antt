@@ -1,3 +1,4 @@
+-- A route that is added to the table of routes is added as it is read.
 use Rattle.std.proofs.Common.{◌≡◌, Result, Ok, Err}
 use Rattle.matchit.specs.Rows.{RowsOf}
 use Rattle.matchit.specs.Route.{Scan}

@@ -11,7 +11,7 @@ use serde_json::Value;
 use std::alloc::{AllocError, Global};
 
 /// Why data weren't taken apart.
-#[derive(Debug, Drop)]
+#[derive(Drop)]
 pub enum TakeFault {
     /// There was no memory.
     Memory,

@@ -24,8 +24,8 @@ use Rattle.reg_facts.specs.Naming.{group_id, resolve}
 use Rattle.reg_facts.specs.Sound.{has_group, IsSound, RowStands}
 use Rattle.reg_facts.proofs.Noted.{as_group_is, group_stands}
 use Rattle.reg_load.specs.Finding.{first_grants, number_of, numbered_groups}
-use Rattle.reg_load.specs.LoadChecks.{added_rows, created_id, created_number, first_fault, first_missing, first_taken, load_checks, load_group, load_row, no_number, of_target, removed_rows, room_checks}
-use Rattle.reg_load.specs.declared.faults.LoadFault.TheVariants.{FullGrant, FullRecord}
+use Rattle.reg_load.specs.LoadChecks.{added_rows, created_id, created_number, first_fault, first_missing, first_taken, is_elsewhere, load_checks, load_group, load_row, no_number, of_target, removed_rows, room_checks}
+use Rattle.reg_load.specs.declared.faults.LoadFault.TheVariants.{FullGrant, FullRecord, Taken}
 use Rattle.reg_load.specs.Loading.{AreNames, CanLoad}
 use Rattle.reg_load.specs.PersonRows.{comes_twice, is_one_of, same_row, stands}
 use Rattle.reg_load.specs.declared.created.CreatedNames.{CreatedNames}
@@ -80,6 +80,20 @@ taken_first p f names none = same_taken p (λ text. false) f none names ∙ sym 
 -- a name that is free and was not seen is seen from then on
 pub taken_next : (p q : List ℕ → Bool) (f : Lists) (name : List ℕ) (names : List (List ℕ)) (all : Option (List ℕ)) → ((text : List ℕ) → q text ≡ (bytes_eq name text || p text)) → is_some (resolve name f) ≡ false → p name ≡ false → taken_by p f (name ∷ names) ≡ all → taken_by q f names ≡ all
 taken_next p q f name names all put free new h = same_taken q (λ text. bytes_eq name text || p text) f put names ∙ (rw (free, new) at h)
+
+-- the same where the names seen are those with a number
+pub numbered_next : (old new : List ℕ → Option ℕ) (f : Lists) (name : List ℕ) (n : ℕ) (names : List (List ℕ)) (all : Option (List ℕ)) → ((text : List ℕ) → new text ≡ (if bytes_eq name text then Some n else old text)) → is_some (resolve name f) ≡ false → is_some (old name) ≡ false
+    → taken_by (λ text. is_some (old text)) f (name ∷ names) ≡ all → taken_by (λ text. is_some (new text)) f names ≡ all
+numbered_next old new f name n names all put free fresh h = taken_next (λ text. is_some (old text)) (λ text. is_some (new text)) f name names all (λ text. ap is_some (put text) ∙ seen (bytes_eq name text) (old text)) free fresh h
+  where
+    seen : (b : Bool) (o : Option ℕ) → is_some (if b then Some n else o) ≡ (b || is_some o)
+    seen true o = refl
+    seen false o = refl
+
+-- the fault where a created name is taken
+pub taken_told : (job : JobRow) (created : List (List ℕ)) (removed added : List LoadRow) (f : Lists) (object : List ℕ) → first_missing job (created_number created f) f added ≡ None → is_elsewhere job f created ≡ false → first_taken [] f created ≡ Some object → Some (Taken object) ≡ first_fault (load_checks job created removed added f)
+unfolding load_checks
+taken_told job created removed added f object found home taken = rw (found, home, taken) refl
 
 -- ---- rows that come twice
 

@@ -1,6 +1,7 @@
 -- What the code's maps and sets hold, and what is found by them.
 use Rattle.std.specs.Prelude.{ℕ, ◌+◌, ◌++◌, List, [], ◌∷◌, Option, map}
-use Rattle.std.specs.BTreeMap.{get_by_text}
+use Rattle.std.specs.HashMap.{get_by}
+use Rattle.std.specs.Str.{bytes_eq}
 use Rattle.reg_base.specs.NameParts.{extension_of}
 use Rattle.reg_terms.specs.declared.event.Event.{Event}
 use Rattle.reg_terms.specs.declared.event.Event.TheVariants.{GroupMade}
@@ -14,8 +15,8 @@ use Rattle.reg_facts.specs.Naming.{home_id}
 use Rattle.reg_load.specs.declared.created.CreatedNames.{CreatedNames}
 
 -- the number that an index has for a name
-abbrev pub number_of : CreatedNames → List ℕ → Option ℕ
-number_of names text = get_by_text names.numbers text
+unfoldable pub number_of : CreatedNames → List ℕ → Option ℕ
+number_of names text = get_by (λ k. bytes_eq text k.now) names.numbers
 
 -- a grant, written on a group
 abbrev pub on_group : ℕ → GrantRow → GrantRow

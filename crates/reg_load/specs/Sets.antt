@@ -6,7 +6,7 @@ use Rattle.reg_load.specs.declared.row_set.RowSet.{RowSet}
 
 -- whether a group and a person are one of some pairs
 abbrev pub in_pairs : ℕ → ℕ → List (ℕ × ℕ) → Bool
-in_pairs g s pairs = list_any (λ (p : ℕ × ℕ). (p.0 == g) && (p.1 == s)) pairs
+in_pairs g s pairs = list_any (λ (p : ℕ × ℕ). (g == p.0) && (s == p.1)) pairs
 
 -- whether a set has a row
 abbrev pub holds : RowSet → PersonRow → Bool

@@ -48,7 +48,7 @@ fn first_taken(facts: &Facts, alloc: Global, created: &[Name]) -> Result<Option<
             let object = Text::new(alloc, name.as_str())?;
             return Ok(Some(object));
         }
-        seen.insert(alloc, name.as_str(), 0)?;
+        seen.insert(name.as_str(), 0)?;
     }
     Ok(None)
 }

@@ -8,25 +8,27 @@ ghost use Rattle.reg_load.specs.Loading.{AreNames};
 
 use reg_base::Name;
 use std::alloc::{AllocError, Global};
-use std::collections::BTreeMap;
+use std::collections::HashMap;
 
-/// The number of each created name: an ordered map, so that finding one costs a logarithm.
-#[derive(Debug, Drop)]
-pub(crate) struct CreatedNames {
-    numbers: BTreeMap<String, u64>,
+/// The number of each created name, found by the name's hash. It borrows the names.
+#[derive(Drop)]
+pub(crate) struct CreatedNames<'a> {
+    numbers: HashMap<&'a str, u64>,
 }
 
-impl CreatedNames {
+impl<'a> CreatedNames<'a> {
     /// No name. It takes no memory.
-    pub(crate) fn new(alloc: Global) -> CreatedNames
+    #[tactic(auto, unfolding(crate::specs::Finding::number_of))]
+    pub(crate) fn new(alloc: Global) -> CreatedNames<'a>
         ensures { (text : List ℕ) → number_of result text ≡ None }
     {
         CreatedNames {
-            numbers: BTreeMap::new(alloc),
+            numbers: HashMap::new(alloc),
         }
     }
 
     /// The number of this name.
+    #[tactic(auto, unfolding(crate::specs::Finding::number_of))]
     pub(crate) fn number(&self, name: &str) -> Option<u64>
         ensures { result ≡ number_of self.now name.now }
     {
@@ -34,42 +36,36 @@ impl CreatedNames {
     }
 
     /// Gives a name this number.
-    pub(crate) fn insert(
-        &mut self,
-        alloc: Global,
-        name: &str,
-        number: u64,
-    ) -> Result<(), AllocError>
+    pub(crate) fn insert(&mut self, name: &'a str, number: u64) -> Result<(), AllocError>
         ensures { OnOk result ((other : List ℕ) → number_of self.new other ≡ (if bytes_eq name.now other then Some number else number_of self.old other)) }
     {
-        let key = String::from_str(alloc, name)?;
-        self.numbers.insert(key, number)?;
+        self.numbers.insert(name, number)?;
         Ok(())
     }
 
     /// Gives a name this number, if it has none.
-    fn add(&mut self, alloc: Global, name: &str, number: u64) -> Result<(), AllocError>
+    fn add(&mut self, name: &'a str, number: u64) -> Result<(), AllocError>
         ensures { OnOk result ((other : List ℕ) → number_of self.new other ≡ option_or (number_of self.old other) (if bytes_eq name.now other then Some number else None)) }
     {
         if self.number(name).is_some() {
             return Ok(());
         }
-        self.insert(alloc, name, number)
+        self.insert(name, number)
     }
 
     /// Names numbered one after another, each as where it comes first.
     pub(crate) fn of(
         alloc: Global,
         first: u64,
-        created: &[Name],
-    ) -> Result<CreatedNames, AllocError>
+        created: &'a [Name],
+    ) -> Result<CreatedNames<'a>, AllocError>
         requires { first ≤ 2 ^ 32 }
         ensures { IfOk result (λ names. (text : List ℕ) → number_of names text ≡ created_id created.now first text) }
     {
         let mut names = CreatedNames::new(alloc);
         let mut next = first;
         for name in created {
-            names.add(alloc, name.as_str(), next)?;
+            names.add(name.as_str(), next)?;
             next += 1;
         }
         Ok(names)

@@ -88,6 +88,7 @@ fn push_going(events: &mut Vec<Event>, rows: &[PersonRow]) -> Result<(), AllocEr
     requires { AllByRecursion (λ (row : PersonRow). row.group < 2 ^ 32) rows.now }
     ensures { OnOk result (events.new.items ≡ events.old.items ++ map row_goes rows.now) }
 {
+    events.reserve(rows.len())?;
     for row in rows {
         events.push(Event::RowRemoved {
             group: group_of(row),
@@ -102,6 +103,7 @@ fn push_coming(events: &mut Vec<Event>, at: Moment, rows: &[PersonRow]) -> Resul
     requires { AllByRecursion (λ (row : PersonRow). row.group < 2 ^ 32) rows.now }
     ensures { OnOk result (events.new.items ≡ events.old.items ++ map (row_comes at) rows.now) }
 {
+    events.reserve(rows.len())?;
     for row in rows {
         let row = MemberRow {
             group: group_of(row),

@@ -57,6 +57,26 @@ fn load_group(facts: &Facts, job: &JobRow, created: &CreatedNames, name: &Name) 
     }
 }
 
+/// The number of the group of a name, where that of the row before is known. A table mostly comes
+/// group by group, so it is mostly the same.
+fn next_group(
+    facts: &Facts,
+    job: &JobRow,
+    created: &CreatedNames,
+    before: &Name,
+    number: Option<u64>,
+    name: &Name,
+) -> Option<u64>
+    requires { number ≡ load_group job.now (number_of created.now) facts.now before.now }
+    ensures { result ≡ load_group job.now (number_of created.now) facts.now name.now }
+{
+    if before.as_str() == name.as_str() {
+        number
+    } else {
+        load_group(facts, job, created, name)
+    }
+}
+
 /// A text that isn't found.
 fn missing(alloc: Global, text: &str) -> Result<Result<Vec<PersonRow>, Text>, AllocError>
     ensures { IfOk result (λ found. found ≡ Err text.now) }
@@ -66,7 +86,7 @@ fn missing(alloc: Global, text: &str) -> Result<Result<Vec<PersonRow>, Text>, Al
 }
 
 /// Rows of a load by numbers, or else the first text in them that isn't found. Each row costs a
-/// walk along its group's name and a search for its person.
+/// search for its person, and a walk along its group's name where the row before has another one.
 pub(crate) fn find_rows(
     facts: &Facts,
     alloc: Global,
@@ -78,9 +98,16 @@ pub(crate) fn find_rows(
         (λ all. (first_missing job.now (number_of created.now) facts.now rows.now ≡ None) × (all.items ≡ map (load_row job.now (number_of created.now) facts.now) rows.now))
         (λ text. first_missing job.now (number_of created.now) facts.now rows.now ≡ Some text)) }
 {
-    let mut found = Vec::new(alloc);
+    let Some(first) = rows.first() else {
+        return Ok(Ok(Vec::new(alloc)));
+    };
+    let mut found = Vec::with_capacity(alloc, rows.len())?;
+    let mut name = &first.group;
+    let mut number = load_group(facts, job, created, name);
     for row in rows {
-        let Some(group) = load_group(facts, job, created, &row.group) else {
+        number = next_group(facts, job, created, name, number, &row.group);
+        name = &row.group;
+        let Some(group) = number else {
             return missing(alloc, row.group.as_str());
         };
         let Some(person) = facts.subject_id(row.person.as_str()) else {

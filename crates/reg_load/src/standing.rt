@@ -12,12 +12,11 @@ fn stands(facts: &Facts, row: &PersonRow) -> bool
     ensures { result ≡ stands facts.now.rows row.now }
 {
     facts.law_sound();
-    let _made = facts.made();
-    match u32::try_from(row.group) {
-        Ok(number) => facts.has_row(GroupId::new(number), &Member::Person(row.person)),
-        // no group has such a number
-        Err(_) => false,
+    if row.group > u64::from(facts.made().groups) {
+        // the group is yet to be made
+        return false;
     }
+    facts.has_row(GroupId::new(row.group as u32), &Member::Person(row.person))
 }
 
 /// Whether one of these rows stands. It takes no memory.

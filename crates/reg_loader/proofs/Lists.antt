@@ -1,7 +1,8 @@
 -- Lists in which each stands once, and what stands among some.
 use Rattle.std.proofs.Common.{◌≡◌, ◌<◌, ◌≤◌, ◌+◌, ℕ, Bool, true, false, cond, ◌||◌, ◌==◌, List, [], ◌∷◌, ◌++◌, length, fold, filter, refl, sym, ap, ◌∙◌, arith, inl, inr, map, append-nil, length-append, get_or, take, Option, None, Some}
-use Rattle.std.specs.List.{list_any, position_or_len, AllByRecursion, filter_map, cons_option}
+use Rattle.std.specs.List.{list_any, position, position_or_len, AllByRecursion, filter_map, cons_option}
 use Rattle.std.proofs.lemmas.Bool.{cases_Bool, and_from, and_parts, eq-eqb, or_left, or_right, eqb-true}
+use Rattle.std.proofs.lemmas.Grind.{common_steps}
 use Rattle.std.proofs.lemmas.List.{map-append, take_more}
 use Rattle.std.proofs.lemmas.List.Folds.{list_any-append}
 use Rattle.std.proofs.lemmas.List.Sums.{fold_push, length-filter, count_by-le-length}
@@ -128,6 +129,24 @@ module _ {A B : Type 0} (see : A → B) (same : A → A → Bool) (eq : B → B 
     | inl here ↦ rw (agrees a b, here) refl
     | inr other ↦ rw (agrees a b, other) (ap (λ n. 1 + n) (place_seen a xs))
   ]
+
+-- what a test of how they are seen finds among keys
+module _ {A B : Type 0} (see : A → B) (test : B → Bool) where
+  pub any_found : (xs : List A) → list_any (λ a. test (see a)) xs ≡ list_any test (map see xs)
+  any_found [] = refl
+  any_found (a ∷ xs) = rw (any_found xs) refl
+
+  place_mapped : (xs : List A) → position_or_len (λ a. test (see a)) xs ≡ position_or_len test (map see xs)
+  place_mapped [] = refl
+  place_mapped (a ∷ xs) = elim (cases_Bool (test (see a))) [
+    | inl here ↦ rw here refl
+    | inr other ↦ rw other (ap (λ n. 1 + n) (place_mapped xs))
+  ]
+
+  pub place_found : (xs : List A) (i : ℕ) → position (λ a. test (see a)) xs ≡ Some i → i ≡ position_or_len test (map see xs)
+  place_found xs i at =
+      let first : position_or_len (λ a. test (see a)) xs ≡ i = grind (arith, common_steps) in
+      sym first ∙ place_mapped xs
 
 -- what passes a test, with one more behind
 module _ {R : Type 0} (test : R → Bool) (rows : List R) (row : R) where

@@ -11,7 +11,7 @@ use reg_facts::{Facts, JobRow, Object};
 use std::alloc::{AllocError, Global};
 
 /// What a record names as its group.
-#[derive(Clone, Copy, Debug)]
+#[derive(Clone, Copy)]
 pub(crate) enum Mention {
     /// No group of the job.
     Bad,

@@ -6,7 +6,7 @@ use reg_terms::{LoadCounts, LoadRows, Names};
 use std::alloc::AllocError;
 
 /// What a load would do to the groups of a job, and what the records of its table say.
-#[derive(Debug, Drop)]
+#[derive(Drop)]
 pub struct Plan {
     /// The groups that are made, in the order of first mention.
     pub created: Names,
@@ -45,7 +45,7 @@ impl Plan {
 }
 
 /// Why a load does nothing.
-#[derive(Clone, Copy, Debug, PartialEq, Eq)]
+#[derive(Clone, Copy, PartialEq, Eq)]
 pub enum PlanFault {
     /// The job's one group is a composite.
     IsComposite,

@@ -6,7 +6,7 @@ use std::alloc::{AllocError, Global};
 use std::marker::Model;
 
 /// A record of a table: the texts in the columns that a load reads.
-#[derive(Debug, Drop)]
+#[derive(Drop)]
 pub struct TableRow {
     /// What stands under `GROUP_NAME`; None where the load is of one group.
     pub group: Option<Text>,
@@ -17,7 +17,7 @@ pub struct TableRow {
 }
 
 /// The rows of a table, in the order of its records. Contracts see the list.
-#[derive(Debug, Drop)]
+#[derive(Drop)]
 pub struct Table {
     rows: Vec<TableRow>,
 }
@@ -59,7 +59,7 @@ impl Table {
 }
 
 /// Why bytes aren't read as a table.
-#[derive(Clone, Copy, Debug, PartialEq, Eq)]
+#[derive(Clone, Copy, PartialEq, Eq)]
 pub enum TableFault {
     /// This record, where the header is number 0, has another number of fields than the header, or
     /// a field that isn't UTF-8; it is the first such record. Number 0 also where there is no

@@ -4,6 +4,7 @@ ghost use Rattle.std.specs.List.{position_or_len};
 ghost use Rattle.std.specs.Str.{bytes_eq};
 ghost use Rattle.indexmap.specs.IndexSet.{insert_key};
 ghost use Rattle.reg_loader.specs.declared.tables.TableRow.{TableRow as RowSeen};
+ghost use Rattle.reg_loader.specs.Mentions.{group_text, mention as means};
 ghost use Rattle.reg_loader.specs.Plan.{is_among, number, same_key};
 ghost use Rattle.reg_loader.specs.Walks.{IsWalkedBy, with_mention};
 
@@ -12,7 +13,7 @@ use crate::keys::Key;
 use crate::mentions::{Mention, group_text, mention_of, person_in};
 use indexmap::IndexSet;
 use reg_base::SubjectId;
-use reg_facts::{Facts, JobRow};
+use reg_facts::{Facts, JobRow, Object};
 use std::alloc::{AllocError, Global};
 
 /// What the records of a table name, so far.
@@ -33,6 +34,10 @@ fn place_of(alloc: Global, names: &mut IndexSet<String>, text: &str) -> Result<u
     ensures place { IfOk result (λ place. place ≡ position_or_len (bytes_eq text.now) (map (λ t. string_bytes t) names.old.keys)) }
     ensures small { IfOk result (λ place. place < 2 ^ 63) }
 {
+    if let Some(place) = names.get_index_of(text) {
+        let _count = names.len();
+        return Ok(place);
+    }
     let key = String::from_str(alloc, text)?;
     let (place, _) = names.insert_full(key)?;
     let _count = names.len();
@@ -94,20 +99,21 @@ impl Walked {
         Ok(())
     }
 
-    /// Takes the next record.
+    /// Takes the next record, with what it names as its group.
     fn take(
         &mut self,
         alloc: Global,
         facts: &Facts,
         job: &JobRow,
         row: &TableRow,
+        mention: Mention,
     ) -> Result<(), AllocError>
+        requires mention { mention ≡ means job.now.target (group_text row.now) facts.now }
         requires unknown { self.old.unknown < 2 ^ 64 - 1 }
         requires repeated { self.old.repeated < 2 ^ 64 - 1 }
         requires bad_group { self.old.bad_group < 2 ^ 64 - 1 }
         ensures { OnOk result ((rows : List RowSeen) → IsWalkedBy job.now facts.now rows self.old → IsWalkedBy job.now facts.now (rows ++ row.now ∷ []) self.new) }
     {
-        let mention = mention_of(alloc, facts, &job.target, group_text(row))?;
         let group = number_of(alloc, facts, &mut self.names, mention, group_text(row))?;
         let Some(group) = group else {
             self.bad_group += 1;
@@ -121,6 +127,26 @@ impl Walked {
     }
 }
 
+/// What a text means, where what the text before it means is known. A table mostly comes group by
+/// group, so it is mostly the same.
+fn next_mention(
+    alloc: Global,
+    facts: &Facts,
+    target: &Object,
+    before: &str,
+    mention: Mention,
+    text: &str,
+) -> Result<Mention, AllocError>
+    requires { mention ≡ means target.now before.now facts.now }
+    ensures { IfOk result (λ m. m ≡ means target.now text.now facts.now) }
+{
+    if before == text {
+        Ok(mention)
+    } else {
+        mention_of(alloc, facts, target, text)
+    }
+}
+
 /// Walks the records of a table in order.
 pub(crate) fn walk(
     alloc: Global,
@@ -131,8 +157,13 @@ pub(crate) fn walk(
     ensures { IfOk result (λ walked. IsWalkedBy job.now facts.now rows.now walked) }
 {
     let mut walked = Walked::new(alloc);
+    let mut text = "";
+    let mut mention = mention_of(alloc, facts, &job.target, text)?;
     for row in rows {
-        walked.take(alloc, facts, job, row)?;
+        let next = next_mention(alloc, facts, &job.target, text, mention, group_text(row))?;
+        mention = next;
+        text = group_text(row);
+        walked.take(alloc, facts, job, row, next)?;
     }
     Ok(walked)
 }

@@ -44,7 +44,7 @@ use std::marker::Model;
 use std::sync::ledger::Ledger;
 
 /// There was no memory, and the machine is gone.
-#[derive(Clone, Copy, Debug, PartialEq, Eq)]
+#[derive(Clone, Copy, PartialEq, Eq)]
 pub struct Spent;
 
 impl From<AllocError> for Spent {

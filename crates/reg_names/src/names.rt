@@ -9,7 +9,7 @@ use reg_facts::{Command, Facts};
 
 /// The index of names. The facts keep the one index that there is, in step with their lists at each
 /// event, so this holds nothing of its own, and is in step with every facts.
-#[derive(Clone, Copy, Debug)]
+#[derive(Clone, Copy)]
 pub struct Names;
 
 impl Names {

@@ -63,7 +63,7 @@ impl Source for SureSource {
 }
 
 /// Takes all bytes and keeps none. No write and no flush fails.
-#[derive(Clone, Copy, Debug, PartialEq, Eq)]
+#[derive(Clone, Copy, PartialEq, Eq)]
 pub struct SureSink;
 
 impl SureSink {

@@ -13,7 +13,7 @@ use std::collections::BTreeMap;
 use std::marker::Model;
 
 /// From when until when an assignment stood.
-#[derive(Clone, Copy, Debug)]
+#[derive(Clone, Copy)]
 pub(crate) struct AssignLife {
     pub(crate) id: AssignId,
     pub(crate) attribute: AttrId,

@@ -13,7 +13,7 @@ use std::alloc::{AllocError, Global};
 use std::marker::Model;
 
 /// From when until when a value stood in an assignment.
-#[derive(Debug, Drop)]
+#[derive(Drop)]
 pub(crate) struct ValueLife {
     assign: AssignId,
     /// Of two values the one that was added later has the greater number.
@@ -54,7 +54,7 @@ impl ValueLife {
 }
 
 /// A value that stands: its assignment and its number.
-#[derive(Clone, Copy, Debug)]
+#[derive(Clone, Copy)]
 pub(crate) struct Standing {
     assign: AssignId,
     number: u64,

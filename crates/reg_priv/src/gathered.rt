@@ -16,7 +16,7 @@ use std::marker::Model;
 type Place = (u32, u32, u32);
 
 /// Grants by their places. Contracts see the list of them in order.
-#[derive(Debug, Drop)]
+#[derive(Drop)]
 pub struct Gathered {
     grants: BTreeMap<Place, (Privilege, Holder)>,
 }

@@ -7,7 +7,7 @@ use reg_effect::Kept;
 use reg_facts::{Facts, Holder};
 
 /// Who may call: GrouperSystem, or a person.
-#[derive(Clone, Copy, Debug)]
+#[derive(Clone, Copy)]
 pub enum Who {
     System,
     Person(SubjectId),

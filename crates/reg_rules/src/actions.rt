@@ -7,7 +7,7 @@ use reg_base::{GroupId, Moment, RuleId, SubjectId};
 use reg_facts::{Facts, Member, MemberRow, RuleForm};
 
 /// What a rule did to a person's immediate membership of a group: took it away, or gave it an end.
-#[derive(Clone, Copy, Debug)]
+#[derive(Clone, Copy)]
 pub enum Action {
     Removed {
         rule: RuleId,

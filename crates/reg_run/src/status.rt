@@ -6,7 +6,7 @@ use reg_outside::{Sink, write_whole};
 use std::alloc::{AllocError, Global};
 
 /// How a run ends.
-#[derive(Clone, Copy, Debug, PartialEq, Eq)]
+#[derive(Clone, Copy, PartialEq, Eq)]
 pub enum End {
     Done,
     /// The words are none of the program's.

@@ -18,7 +18,7 @@ pub enum Ended {
 }
 
 /// Why no more connections are served.
-#[derive(Clone, Copy, Debug, PartialEq, Eq)]
+#[derive(Clone, Copy, PartialEq, Eq)]
 pub enum Ceased {
     /// A call of the listener failed.
     Listener,

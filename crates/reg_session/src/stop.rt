@@ -5,7 +5,7 @@ ghost use Rattle.reg_session.specs.Stops.{stop_of};
 use reg_service::Cause;
 
 /// Why a session stopped.
-#[derive(Clone, Copy, Debug, PartialEq, Eq)]
+#[derive(Clone, Copy, PartialEq, Eq)]
 pub enum Stop {
     /// There was no memory to go on.
     Memory,

@@ -6,7 +6,7 @@ use crate::{Row, Table};
 use std::alloc::AllocError;
 
 /// The link of a row, and the row's key.
-#[derive(Clone, Copy, Debug)]
+#[derive(Clone, Copy)]
 pub struct Linked<L, K> {
     pub link: L,
     pub key: K,

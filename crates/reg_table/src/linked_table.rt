@@ -13,7 +13,7 @@ use std::collections::btree_map::Values;
 use std::marker::Model;
 
 /// Rows, no two of one key. Contracts see the list of them, in the order in which they were added.
-#[derive(Debug, Drop)]
+#[derive(Drop)]
 pub struct LinkedTable<R: LinkedRow> {
     rows: Table<R>,
     /// The links of those that have one.

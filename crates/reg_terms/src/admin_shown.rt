@@ -11,14 +11,14 @@ use std::alloc::{AllocError, Global};
 use std::marker::Model;
 
 /// A reader of the change log, and the number of the last entry that it has acknowledged.
-#[derive(Debug, Drop)]
+#[derive(Drop)]
 pub struct ConsumerShown {
     pub consumer: Text,
     pub place: u64,
 }
 
 /// A list of consumers. Contracts see the list.
-#[derive(Debug, Drop)]
+#[derive(Drop)]
 pub struct ConsumersShown {
     items: Vec<ConsumerShown>,
 }
@@ -60,7 +60,7 @@ impl ConsumersShown {
 }
 
 /// A group that is gone, with the name that it had last.
-#[derive(Debug, Drop)]
+#[derive(Drop)]
 pub struct GoneShown {
     /// The moment at which it was deleted.
     pub ended: Moment,
@@ -68,7 +68,7 @@ pub struct GoneShown {
 }
 
 /// A list of groups that are gone. Contracts see the list.
-#[derive(Debug, Drop)]
+#[derive(Drop)]
 pub struct GonesShown {
     items: Vec<GoneShown>,
 }
@@ -110,7 +110,7 @@ impl GonesShown {
 }
 
 /// A loader job.
-#[derive(Debug, Drop)]
+#[derive(Drop)]
 pub struct JobShown {
     pub job: Text,
     /// In percent.
@@ -123,7 +123,7 @@ pub struct JobShown {
 }
 
 /// A list of loader jobs. Contracts see the list.
-#[derive(Debug, Drop)]
+#[derive(Drop)]
 pub struct JobsShown {
     items: Vec<JobShown>,
 }
@@ -165,7 +165,7 @@ impl JobsShown {
 }
 
 /// What a rule does, with names in place of ids.
-#[derive(Debug, Drop)]
+#[derive(Drop)]
 pub enum FormShown {
     RemoveLost {
         check: Text,
@@ -189,14 +189,14 @@ pub enum FormShown {
 }
 
 /// A rule.
-#[derive(Debug, Drop)]
+#[derive(Drop)]
 pub struct RuleShown {
     pub id: RuleId,
     pub form: FormShown,
 }
 
 /// A list of rules. Contracts see the list.
-#[derive(Debug, Drop)]
+#[derive(Drop)]
 pub struct RulesShown {
     items: Vec<RuleShown>,
 }

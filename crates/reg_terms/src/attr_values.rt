@@ -8,7 +8,7 @@ use std::alloc::{AllocError, Global};
 use std::marker::Model;
 
 /// A list of values. Contracts see the list.
-#[derive(Debug, Drop)]
+#[derive(Drop)]
 pub struct AttrValues {
     items: Vec<AttrValue>,
 }

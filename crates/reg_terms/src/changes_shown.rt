@@ -9,7 +9,7 @@ use std::alloc::{AllocError, Global};
 use std::marker::Model;
 
 /// A time in which a person was an effective member, with the person's text.
-#[derive(Debug, Drop)]
+#[derive(Drop)]
 pub struct SpanShown {
     /// The moment at which it began.
     pub from: Moment,
@@ -19,7 +19,7 @@ pub struct SpanShown {
 }
 
 /// A list of times in which persons were effective members. Contracts see the list.
-#[derive(Debug, Drop)]
+#[derive(Drop)]
 pub struct SpansShown {
     items: Vec<SpanShown>,
 }
@@ -61,7 +61,7 @@ impl SpansShown {
 }
 
 /// An entry of the change log, with names in place of ids.
-#[derive(Debug, Drop)]
+#[derive(Drop)]
 pub struct EntryShown {
     pub at: Moment,
     /// The text of the member or of the holder of a privilege; empty where the entry has none.
@@ -76,7 +76,7 @@ pub struct EntryShown {
 }
 
 /// A list of entries of the change log. Contracts see the list.
-#[derive(Debug, Drop)]
+#[derive(Drop)]
 pub struct EntriesShown {
     items: Vec<EntryShown>,
 }

@@ -4,7 +4,7 @@ ghost use Rattle.reg_terms.specs.declared.entry_kinds.EntryKind.{EntryKind};
 ghost use Rattle.reg_terms.specs.EntryWords.{word_of, kind_worded};
 
 /// What was changed, or which effective membership began or ended.
-#[derive(Clone, Copy, Debug, PartialEq, Eq)]
+#[derive(Clone, Copy, PartialEq, Eq)]
 pub enum EntryKind {
     FolderAdd,
     FolderRename,

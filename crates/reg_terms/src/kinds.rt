@@ -5,7 +5,7 @@ ghost use Rattle.reg_terms.specs.Kinds.{same_member, same_object, same_holder, s
 use reg_base::{AttrDefId, AttrId, FolderId, GroupId, Moment, SubjectId, Text};
 
 /// What stands in the registry under an id.
-#[derive(Clone, Copy, Debug, PartialEq, Eq, PartialOrd, Ord)]
+#[derive(Clone, Copy, PartialEq, Eq, PartialOrd, Ord)]
 pub enum Object {
     Folder(FolderId),
     Group(GroupId),
@@ -81,7 +81,7 @@ impl Object {
 }
 
 /// The member of an immediate membership.
-#[derive(Clone, Copy, Debug, PartialEq, Eq, PartialOrd, Ord)]
+#[derive(Clone, Copy, PartialEq, Eq, PartialOrd, Ord)]
 pub enum Member {
     Person(SubjectId),
     Group(GroupId),
@@ -110,7 +110,7 @@ impl Member {
 }
 
 /// Who holds a privilege.
-#[derive(Clone, Copy, Debug, PartialEq, Eq, PartialOrd, Ord)]
+#[derive(Clone, Copy, PartialEq, Eq, PartialOrd, Ord)]
 pub enum Holder {
     Everyone,
     Person(SubjectId),
@@ -141,7 +141,7 @@ impl Holder {
 }
 
 /// How a composite group is made of its two factors.
-#[derive(Clone, Copy, Debug, PartialEq, Eq)]
+#[derive(Clone, Copy, PartialEq, Eq)]
 pub enum SetOp {
     /// Who is in both.
     Intersection,
@@ -150,7 +150,7 @@ pub enum SetOp {
 }
 
 /// How far an inherit reaches: objects directly in its folder, or at any depth below it.
-#[derive(Clone, Copy, Debug, PartialEq, Eq, PartialOrd, Ord)]
+#[derive(Clone, Copy, PartialEq, Eq, PartialOrd, Ord)]
 pub enum Scope {
     One,
     Sub,
@@ -169,7 +169,7 @@ impl Scope {
 }
 
 /// The kind of objects for which an inherit gives its privilege.
-#[derive(Clone, Copy, Debug, PartialEq, Eq, PartialOrd, Ord)]
+#[derive(Clone, Copy, PartialEq, Eq, PartialOrd, Ord)]
 pub enum InheritKind {
     Folder,
     Group,
@@ -190,7 +190,7 @@ impl InheritKind {
 }
 
 /// The kind of values that attributes of a definition take.
-#[derive(Clone, Copy, Debug, PartialEq, Eq)]
+#[derive(Clone, Copy, PartialEq, Eq)]
 pub enum DefKind {
     Marker,
     Integer,
@@ -199,7 +199,7 @@ pub enum DefKind {
 }
 
 /// The kinds of owner that a definition suits.
-#[derive(Clone, Copy, Debug, PartialEq, Eq)]
+#[derive(Clone, Copy, PartialEq, Eq)]
 pub struct Owners {
     pub folder: bool,
     pub group: bool,
@@ -207,7 +207,7 @@ pub struct Owners {
 }
 
 /// A value of an assignment.
-#[derive(Debug, Drop)]
+#[derive(Drop)]
 pub enum AttrValue {
     Int(i64),
     Text(Text),
@@ -215,14 +215,14 @@ pub enum AttrValue {
 }
 
 /// A value as a request gives it.
-#[derive(Debug, Drop)]
+#[derive(Drop)]
 pub enum Value {
     Int(i64),
     Text(Text),
 }
 
 /// What a rule does (`docs/REGISTRY.md`).
-#[derive(Clone, Copy, Debug)]
+#[derive(Clone, Copy)]
 pub enum RuleForm {
     RemoveLost {
         check: GroupId,

@@ -7,7 +7,7 @@ use std::alloc::{AllocError, Global};
 use std::marker::Model;
 
 /// A list of names. Contracts see the list.
-#[derive(Debug, Drop)]
+#[derive(Drop)]
 pub struct Names {
     items: Vec<Name>,
 }
@@ -48,7 +48,7 @@ impl Names {
 }
 
 /// A row of a load: a person in a group.
-#[derive(Debug, Drop)]
+#[derive(Drop)]
 pub struct LoadRow {
     /// The group's name.
     pub group: Name,
@@ -57,7 +57,7 @@ pub struct LoadRow {
 }
 
 /// A list of rows of a load. Contracts see the list.
-#[derive(Debug, Drop)]
+#[derive(Drop)]
 pub struct LoadRows {
     items: Vec<LoadRow>,
 }

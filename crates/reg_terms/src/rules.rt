@@ -7,7 +7,7 @@ use reg_base::{FolderId, GroupId};
 
 /// What a rule is looked up by: the group whose lost members it watches, the group to which it lets
 /// only some be added, or the folder in which it watches for new groups.
-#[derive(Clone, Copy, Debug, PartialEq, Eq, PartialOrd, Ord)]
+#[derive(Clone, Copy, PartialEq, Eq, PartialOrd, Ord)]
 pub enum RuleKey {
     Check(GroupId),
     Owner(GroupId),

@@ -11,7 +11,7 @@ use std::alloc::{AllocError, Global};
 use std::marker::Model;
 
 /// The factors of a composite group, by their names.
-#[derive(Debug, Drop)]
+#[derive(Drop)]
 pub struct FactorsShown {
     pub kind: SetOp,
     pub left: Text,
@@ -19,7 +19,7 @@ pub struct FactorsShown {
 }
 
 /// An immediate membership, with the text of its member.
-#[derive(Debug, Drop)]
+#[derive(Drop)]
 pub struct RowShown {
     /// From this moment on it counts.
     pub from: Moment,
@@ -29,7 +29,7 @@ pub struct RowShown {
 }
 
 /// A list of immediate memberships. Contracts see the list.
-#[derive(Debug, Drop)]
+#[derive(Drop)]
 pub struct RowsShown {
     items: Vec<RowShown>,
 }
@@ -71,14 +71,14 @@ impl RowsShown {
 }
 
 /// A privilege that is granted, with the text of its holder.
-#[derive(Debug, Drop)]
+#[derive(Drop)]
 pub struct GrantShown {
     pub holder: Text,
     pub privilege: Privilege,
 }
 
 /// A list of grants. Contracts see the list.
-#[derive(Debug, Drop)]
+#[derive(Drop)]
 pub struct GrantsShown {
     items: Vec<GrantShown>,
 }
@@ -120,7 +120,7 @@ impl GrantsShown {
 }
 
 /// An attribute that is assigned to an owner, with its values in the order in which they were added.
-#[derive(Debug, Drop)]
+#[derive(Drop)]
 pub struct AssignShown {
     /// The attribute's name.
     pub attribute: Text,
@@ -129,7 +129,7 @@ pub struct AssignShown {
 }
 
 /// A list of assignments. Contracts see the list.
-#[derive(Debug, Drop)]
+#[derive(Drop)]
 pub struct AssignsShown {
     items: Vec<AssignShown>,
 }
@@ -171,7 +171,7 @@ impl AssignsShown {
 }
 
 /// A list of privileges. Contracts see the list.
-#[derive(Debug, Drop)]
+#[derive(Drop)]
 pub struct Privileges {
     items: Vec<Privilege>,
 }

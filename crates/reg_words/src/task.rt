@@ -6,7 +6,7 @@ use reg_base::Text;
 use std::marker::Model;
 
 /// How large a sample is: from 2 to 500. Contracts see the number.
-#[derive(Clone, Copy, Debug)]
+#[derive(Clone, Copy)]
 pub struct Size {
     number: u64,
 }
@@ -46,7 +46,7 @@ impl Size {
 }
 
 /// A question in the words of its caller: whether its texts are names and moments isn't asked yet.
-#[derive(Debug, Drop)]
+#[derive(Drop)]
 pub enum Question {
     /// The members of a group, now or at a moment.
     Members { name: Text, at: Option<Text> },
@@ -55,7 +55,7 @@ pub enum Question {
 }
 
 /// What the words ask for.
-#[derive(Debug, Drop)]
+#[derive(Drop)]
 pub enum Task {
     /// Begin a journal.
     Init,

@@ -6,7 +6,7 @@ use Rattle.reg_load.proofs.Found.{none_seen, twice_next}
 use Rattle.reg_load.proofs.row_set.comes_twice.Goals as goal
 
 pub loop-row-init : goal.loop-row-init
-loop-row-init c = rw (none_seen (holds c.new-seen.result) c.new-seen.ensures c.args.rows.now) refl
+loop-row-init c = rw (none_seen (holds c.in_ok-seen.seen) c.in_ok-seen.ensures c.args.rows.now) refl
 
 -- a row that wasn't seen is seen from then on
 pub loop-row-preserved : goal.loop-row-preserved

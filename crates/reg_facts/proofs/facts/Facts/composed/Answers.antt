@@ -7,8 +7,8 @@ use Rattle.reg_facts.proofs.facts.Facts.composed.Goals as goal
 
 pub finished-requires : goal.finished-requires
 finished-requires c = on_ok c.push_composite-done.result c.push_composite-done.ensures (λ done.
-    let is : c.push_composite-done.new.self ≡ happened (Composed c.args.row) c.args.self = rw c.self.view_is at done in
+    let is : c.push_composite-done.new.self ≡ happened (Composed c.args.row) c.args.self = rw (c.deref_mut.ensures.value, c.self.view_is) at done in
     rw is (composed_indexed c.self.inside.subject_index c.self.inside.children c.args.row c.args.self (rw c.self.view_is at c.self.invariant) c.requires))
 
 pub returns : goal.returns
-returns c = on_finished c.push_composite-done.result c.finished.result c.push_composite-done.new.self (happened (Composed c.args.row) c.args.self) c.finished.ensures.made c.finished.ensures.facts (rw c.self.view_is at c.push_composite-done.ensures)
+returns c = on_finished c.push_composite-done.result c.finished.result c.push_composite-done.new.self (happened (Composed c.args.row) c.args.self) c.finished.ensures.made c.finished.ensures.facts (rw (c.deref_mut.ensures.value, c.self.view_is) at c.push_composite-done.ensures)

@@ -8,10 +8,10 @@ use Rattle.reg_facts.proofs.facts.Facts.definition_gone.Goals as goal
 -- the maps find what the lists hold after the event
 pub invariant_of-facts : goal.invariant_of-facts
 invariant_of-facts c =
-    let is : c.delete_definition.new.self ≡ happened (DefinitionGone c.args.id) c.args.self = rw c.facts.view_is at c.delete_definition.ensures in
+    let is : c.delete_definition.new.self ≡ happened (DefinitionGone c.args.id) c.args.self = rw (c.deref_mut.ensures.value, c.facts.view_is) at c.delete_definition.ensures in
     rw is (definition_gone_indexed c.facts.inside.subject_index c.facts.inside.children c.take.new.self c.args.id _ c.args.self
-    (rw c.facts.view_is at c.facts.invariant) c.requires (rw c.facts.view_is at c.the_place-place.ensures) (λ x y. rw (← c.number.ensures) (c.take.ensures x y)))
+    (rw c.facts.view_is at c.facts.invariant) c.requires (rw (c.deref.ensures, c.facts.view_is) at c.the_place-place.ensures) (λ x y. rw (← c.number.ensures) (c.take.ensures x y)))
 
 -- ids of sound facts ascend
 pub delete_definition-requires : goal.delete_definition-requires
-delete_definition-requires c = definitions_ascend _ c.facts.invariant.sound
+delete_definition-requires c = rw c.deref_mut.ensures.value (definitions_ascend _ c.facts.invariant.sound)

@@ -8,9 +8,9 @@ use Rattle.reg_facts.proofs.facts.Facts.definition_made.Goals as goal
 -- the maps find what the lists hold, the new object too
 pub finished-requires : goal.finished-requires
 finished-requires c = on_both c.put-put.result c.push_definition.result c.both-done.result c.both-done.ensures c.put-put.ensures c.push_definition.ensures (λ put done.
-    let is : c.push_definition.new.self ≡ happened (DefinitionMade c.args.row) c.args.self = rw c.self.view_is at done in
+    let is : c.push_definition.new.self ≡ happened (DefinitionMade c.args.row) c.args.self = rw (c.deref_mut.ensures.value, c.self.view_is) at done in
     rw is (definition_made_indexed c.self.inside.subject_index c.self.inside.children c.put-put.new.self c.args.row c.args.self
     (rw c.self.view_is at c.self.invariant) c.requires (λ x y. rw (← c.number.ensures, ← c.as_str.ensures) (put x y))))
 
 pub returns : goal.returns
-returns c = on_finished c.both-done.result c.finished.result c.push_definition.new.self (happened (DefinitionMade c.args.row) c.args.self) c.finished.ensures.made c.finished.ensures.facts (on_both c.put-put.result c.push_definition.result c.both-done.result c.both-done.ensures c.put-put.ensures (rw c.self.view_is at c.push_definition.ensures) (λ put done. done))
+returns c = on_finished c.both-done.result c.finished.result c.push_definition.new.self (happened (DefinitionMade c.args.row) c.args.self) c.finished.ensures.made c.finished.ensures.facts (on_both c.put-put.result c.push_definition.result c.both-done.result c.both-done.ensures c.put-put.ensures (rw (c.deref_mut.ensures.value, c.self.view_is) at c.push_definition.ensures) (λ put done. done))

@@ -7,8 +7,8 @@ use Rattle.reg_facts.proofs.facts.Facts.grant_added.Goals as goal
 
 pub finished-requires : goal.finished-requires
 finished-requires c = on_ok c.push_grant-done.result c.push_grant-done.ensures (λ done.
-    let is : c.push_grant-done.new.self ≡ happened (GrantAdded c.args.row) c.args.self = rw c.self.view_is at done in
+    let is : c.push_grant-done.new.self ≡ happened (GrantAdded c.args.row) c.args.self = rw (c.deref_mut.ensures.value, c.self.view_is) at done in
     rw is (grant_added_indexed c.self.inside.subject_index c.self.inside.children c.args.row c.args.self (rw c.self.view_is at c.self.invariant) c.requires))
 
 pub returns : goal.returns
-returns c = on_finished c.push_grant-done.result c.finished.result c.push_grant-done.new.self (happened (GrantAdded c.args.row) c.args.self) c.finished.ensures.made c.finished.ensures.facts (rw c.self.view_is at c.push_grant-done.ensures)
+returns c = on_finished c.push_grant-done.result c.finished.result c.push_grant-done.new.self (happened (GrantAdded c.args.row) c.args.self) c.finished.ensures.made c.finished.ensures.facts (rw (c.deref_mut.ensures.value, c.self.view_is) at c.push_grant-done.ensures)

@@ -6,5 +6,5 @@ use Rattle.reg_facts.proofs.facts.Facts.grant_removed.Goals as goal
 
 pub invariant_of-facts : goal.invariant_of-facts
 invariant_of-facts c =
-    let is : c.remove_grant.new.self ≡ happened (GrantRemoved c.args.row.now) c.args.self = rw c.facts.view_is at c.remove_grant.ensures in
+    let is : c.remove_grant.new.self ≡ happened (GrantRemoved c.args.row.now) c.args.self = rw (c.deref_mut.ensures.value, c.facts.view_is) at c.remove_grant.ensures in
     rw is (grant_removed_indexed c.facts.inside.subject_index c.facts.inside.children c.args.row.now c.args.self (rw c.facts.view_is at c.facts.invariant) c.requires)

@@ -10,8 +10,8 @@ pub invariant_of-facts : goal.invariant_of-facts
 invariant_of-facts c =
     let is : c.delete_group.new.self ≡ happened (GroupGone c.args.id) c.args.self = search rules in
     rw is (group_gone_indexed c.facts.inside.subject_index c.facts.inside.children c.take.new.self c.args.id _ c.args.self
-    (rw c.facts.view_is at c.facts.invariant) c.requires (rw c.facts.view_is at c.the_place-place.ensures) (λ x y. rw (← c.number.ensures) (c.take.ensures x y)))
+    (rw c.facts.view_is at c.facts.invariant) c.requires (rw (c.deref.ensures, c.facts.view_is) at c.the_place-place.ensures) (λ x y. rw (← c.number.ensures) (c.take.ensures x y)))
 
 -- ids of sound facts ascend
 pub delete_group-requires : goal.delete_group-requires
-delete_group-requires c = groups_ascend _ c.facts.invariant.sound
+delete_group-requires c = rw c.deref_mut.ensures.value (groups_ascend _ c.facts.invariant.sound)

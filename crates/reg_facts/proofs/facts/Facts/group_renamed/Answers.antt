@@ -9,10 +9,10 @@ use Rattle.reg_facts.proofs.facts.Facts.group_renamed.Goals as goal
 -- the maps find what the lists hold after the event
 pub finished-requires : goal.finished-requires
 finished-requires c = on_ok c.put-done.result c.put-done.ensures (λ put.
-    let is : c.rename_group.new.self ≡ happened (GroupRenamed c.args.id c.args.extension) c.args.self = rw c.self.view_is at c.rename_group.ensures in
+    let is : c.rename_group.new.self ≡ happened (GroupRenamed c.args.id c.args.extension) c.args.self = rw (c.deref_mut.ensures.value, c.self.view_is) at c.rename_group.ensures in
     rw is (group_renamed_indexed c.self.inside.subject_index c.self.inside.children c.take.new.self c.put-done.new.self c.args.id c.args.extension _ c.args.self
-    (rw c.self.view_is at c.self.invariant) c.requires (rw c.self.view_is at c.the_place-place.ensures) (λ x y. rw (← c.number.ensures) (c.take.ensures x y)) (λ x y. rw (← c.number-2.ensures, ← c.as_str.ensures) (put x y))))
+    (rw c.self.view_is at c.self.invariant) c.requires (rw (c.deref.ensures, c.self.view_is) at c.the_place-place.ensures) (λ x y. rw (← c.number.ensures) (c.take.ensures x y)) (λ x y. rw (← c.number-2.ensures, ← c.as_str.ensures) (put x y))))
 
 -- ids of sound facts ascend
 pub rename_group-requires : goal.rename_group-requires
-rename_group-requires c = groups_ascend _ c.self.invariant.sound
+rename_group-requires c = rw c.deref_mut.ensures.value (groups_ascend _ c.self.invariant.sound)

@@ -7,8 +7,8 @@ use Rattle.reg_facts.proofs.facts.Facts.row_added.Goals as goal
 
 pub finished-requires : goal.finished-requires
 finished-requires c = on_ok c.push_row-done.result c.push_row-done.ensures (λ done.
-    let is : c.push_row-done.new.self ≡ happened (RowAdded c.args.row) c.args.self = rw c.self.view_is at done in
+    let is : c.push_row-done.new.self ≡ happened (RowAdded c.args.row) c.args.self = rw (c.deref_mut.ensures.value, c.self.view_is) at done in
     rw is (row_added_indexed c.self.inside.subject_index c.self.inside.children c.args.row c.args.self (rw c.self.view_is at c.self.invariant) c.requires))
 
 pub returns : goal.returns
-returns c = on_finished c.push_row-done.result c.finished.result c.push_row-done.new.self (happened (RowAdded c.args.row) c.args.self) c.finished.ensures.made c.finished.ensures.facts (rw c.self.view_is at c.push_row-done.ensures)
+returns c = on_finished c.push_row-done.result c.finished.result c.push_row-done.new.self (happened (RowAdded c.args.row) c.args.self) c.finished.ensures.made c.finished.ensures.facts (rw (c.deref_mut.ensures.value, c.self.view_is) at c.push_row-done.ensures)

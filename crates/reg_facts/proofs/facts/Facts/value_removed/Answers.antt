@@ -6,5 +6,5 @@ use Rattle.reg_facts.proofs.facts.Facts.value_removed.Goals as goal
 
 pub invariant_of-facts : goal.invariant_of-facts
 invariant_of-facts c =
-    let is : c.remove_value.new.self ≡ happened (ValueRemoved c.args.id c.args.value.now) c.args.self = rw c.facts.view_is at c.remove_value.ensures in
+    let is : c.remove_value.new.self ≡ happened (ValueRemoved c.args.id c.args.value.now) c.args.self = rw (c.deref_mut.ensures.value, c.facts.view_is) at c.remove_value.ensures in
     rw is (value_removed_indexed c.facts.inside.subject_index c.facts.inside.children c.args.id c.args.value.now c.args.self (rw c.facts.view_is at c.facts.invariant) c.requires)

@@ -1,5 +1,5 @@
 use Rattle.std.proofs.Common.{rules, ◌<◌, ◌^◌}
-use Rattle.reg_graph.proofs.Kept.{updates_add}
+use Rattle.reg_graph.proofs.Kept.{holds_is, updates_add}
 use Rattle.reg_graph.proofs.Turned.{turned_add, turned_back}
 use Rattle.reg_graph.proofs.sets.Sets.add.Goals as goal
 
@@ -19,3 +19,6 @@ invariant_of-self-in-Err g c =
 
 pub returns-in-Ok-clause-added : goal.returns-in-Ok-clause-added
 returns-in-Ok-clause-added g c = rw (← c.self.view_is) (updates_add _ _ _ _ c.in-Ok.ensures.updates.0)
+
+pub returns-in-Ok-clause-lacked : goal.returns-in-Ok-clause-lacked
+returns-in-Ok-clause-lacked g c = rw (← c.self.view_is, ← (holds_is c.args.g c.args.s c.self.inside.pairs.keys)) c.in-Ok.ensures.added

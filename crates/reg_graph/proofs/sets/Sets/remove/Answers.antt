@@ -2,8 +2,8 @@ use Rattle.reg_graph.proofs.Kept.{updates_remove}
 use Rattle.reg_graph.proofs.Turned.{turned_remove}
 use Rattle.reg_graph.proofs.sets.Sets.remove.Goals as goal
 
-pub invariant_of-self : goal.invariant_of-self
-invariant_of-self g c =
+pub invariant_of-self-2 : goal.invariant_of-self-2
+invariant_of-self-2 g c =
     turned_remove c.args.g c.args.s _ _ _ _ _ _ c.self.invariant c.remove.ensures.keys c.remove.ensures.ordered c.remove.ensures.updates.0
     c.remove-2.ensures.keys c.remove-2.ensures.ordered c.remove-2.ensures.updates.0
 
