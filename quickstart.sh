@@ -114,8 +114,8 @@ all=$(crates)
 jobs=$(side_by_side)
 
 echo "== Step 1 of 3: prove the program and the crates that it stands on, $all in all."
-echo "   From nothing this takes one to two hours (a whole run was never timed); with nothing changed"
-echo "   since, less than one. Here at most $jobs are proved at a time."
+echo "   From nothing this takes about 70 minutes on four processors and 90 on two, put together from the crates'"
+echo "   own times in docs/GATE.md; with nothing changed since, less than one. Here at most $jobs are proved at a time."
 prove
 echo "   All are proved, after $(minutes) minutes."
 
