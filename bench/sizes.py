@@ -164,6 +164,8 @@ def of_size(rows):
         told("adding", rows, run, count)
         told("opening", rows, place.opened(), count)
         told("members", rows, *place.asked(questions(rows), b'{"members":'))
+        if rows == SIZES[-1]:
+            return  # the registry is full: one membership more is refused
         changes = in_and_out(group(0, max(1, rows // 2000)), person(1), ASKED)
         told("changing", rows, *place.asked(changes, b'{"number":'))
 
