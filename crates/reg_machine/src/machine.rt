@@ -42,9 +42,11 @@ use reg_names::Names;
 use std::alloc::{AllocError, AllocFailed, Global};
 use std::marker::Model;
 use std::sync::ledger::Ledger;
+use thiserror::Error;
 
 /// There was no memory, and the machine is gone.
-#[derive(Clone, Copy, PartialEq, Eq)]
+#[derive(Clone, Copy, Debug, PartialEq, Eq, Error)]
+#[error("out of memory, and the machine is gone")]
 pub struct Spent;
 
 impl From<AllocError> for Spent {
