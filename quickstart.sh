@@ -7,7 +7,7 @@ cd "$(dirname "$0")" || exit 1
 top=$(pwd)
 program=$top/crates/registry/out/registry
 
-# GB of memory for each check: the largest took 2.6 (docs/GATE.md).
+# GB of memory for each check: two take more, up to 5.4, but not at one time (docs/GATE.md).
 each=3
 
 stop() {
@@ -37,7 +37,7 @@ crates() {
 
 # how many checks may run side by side
 side_by_side() {
-    processors=$(getconf _NPROCESSORS_ONLN)
+    processors=$(nproc)
     free=$(awk '/^MemAvailable/ { print int($2 / 1048576) }' /proc/meminfo)
     room=$((free / each))
     [ "$room" -lt "$processors" ] && processors=$room

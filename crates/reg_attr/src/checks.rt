@@ -6,15 +6,19 @@ ghost use Rattle.reg_attr.specs.Checks.{beside, check_assign, check_value};
 use reg_base::{AssignId, AttrDefId};
 use reg_facts::{AttrValue, AttrValues, Facts, Object, Value};
 use std::alloc::{AllocError, Global};
+use thiserror::Error;
 
 /// Why a definition refuses an owner or a value.
-#[derive(Clone, Copy, PartialEq, Eq)]
+#[derive(Clone, Copy, Debug, PartialEq, Eq, Error)]
 pub enum AttrFault {
     /// The definition doesn't suit owners of this kind.
+    #[error("the definition doesn't suit owners of this kind")]
     WrongOwner,
     /// The definition doesn't take the value: it isn't of its kind.
+    #[error("the value isn't of the definition's kind")]
     WrongValue,
     /// A value stands, and the definition isn't for many.
+    #[error("a value stands, and the definition isn't for many")]
     Single,
 }
 

@@ -90,7 +90,7 @@ fn privilege_line(
         kind,
         object: Some(object),
         entity: Some(holder),
-        number: privilege_code(privilege) as u64,
+        number: privilege_code(privilege) as u32,
     }
 }
 
@@ -115,7 +115,7 @@ fn inherit_line(at: Moment, kind: EntryKind, row: &InheritRow) -> Line
 }
 
 /// An entry with a number alone.
-fn number_line(at: Moment, kind: EntryKind, number: u64) -> Line
+fn number_line(at: Moment, kind: EntryKind, number: u32) -> Line
     ensures { result ≡ number_line at kind number }
 {
     Line {
@@ -131,14 +131,14 @@ fn number_line(at: Moment, kind: EntryKind, number: u64) -> Line
 fn rule_line(at: Moment, kind: EntryKind, id: RuleId) -> Line
     ensures { result ≡ number_line at kind id }
 {
-    number_line(at, kind, id.number() as u64)
+    number_line(at, kind, id.number())
 }
 
 /// An entry of a loader job.
 fn job_line(at: Moment, kind: EntryKind, id: JobId) -> Line
     ensures { result ≡ number_line at kind id }
 {
-    number_line(at, kind, id.number() as u64)
+    number_line(at, kind, id.number())
 }
 
 /// The owner of an assignment, if that stands.
@@ -158,7 +158,7 @@ fn owner_line(at: Moment, kind: EntryKind, owner: Option<Object>, assign: Assign
         kind,
         object: owner,
         entity: None,
-        number: assign.number() as u64,
+        number: assign.number(),
     }
 }
 
@@ -230,7 +230,7 @@ fn acted_line(at: Moment, kind: EntryKind, rule: RuleId, group: GroupId, person:
         kind,
         object: Some(Object::Group(group)),
         entity: Some(Holder::Person(person)),
-        number: rule.number() as u64,
+        number: rule.number(),
     }
 }
 

@@ -11,11 +11,12 @@ use reg_terms::Object;
 use std::alloc::{AllocError, Global};
 use std::collections::BTreeMap;
 
-/// When each object was made and, if it went, when: an ordered map by object. The root folder, which
-/// was there before all steps, isn't in it.
+/// When each object was made and, if it went, when: two ordered maps by object, since most of what
+/// was made stands. The root folder, which was there before all steps, isn't in them.
 #[derive(Drop)]
 pub(crate) struct Lives {
-    lives: BTreeMap<Object, (Moment, Option<Moment>)>,
+    made: BTreeMap<Object, Moment>,
+    gone: BTreeMap<Object, Moment>,
 }
 
 /// The life of an object before all steps.
@@ -29,20 +30,14 @@ fn first_life(object: &Object) -> Option<(Moment, Option<Moment>)>
     }
 }
 
-/// The life of an object that was made at a moment and went at another.
-fn life_until(made: Moment, gone: Moment) -> (Moment, Option<Moment>)
-    ensures { result ≡ (made, Some gone) }
-{
-    (made, Some(gone))
-}
-
 impl Lives {
     /// Nothing was made but the root. Takes no memory.
     pub(crate) fn start(alloc: Global) -> Lives
         ensures { (o : Object) → life_in result o ≡ first_life o }
     {
         Lives {
-            lives: BTreeMap::new(alloc),
+            made: BTreeMap::new(alloc),
+            gone: BTreeMap::new(alloc),
         }
     }
 
@@ -50,7 +45,10 @@ impl Lives {
     pub(crate) fn life(&self, object: &Object) -> Option<(Moment, Option<Moment>)>
         ensures { result ≡ life_in self.now object.now }
     {
-        self.lives.get(object).copied().or(first_life(object))
+        match self.made.get(object) {
+            Some(made) => Some((*made, self.gone.get(object).copied())),
+            None => first_life(object),
+        }
     }
 
     /// When the object was made, if it was. Takes no memory.
@@ -64,7 +62,8 @@ impl Lives {
     fn begin(&mut self, object: Object, at: Moment) -> Result<(), AllocError>
         ensures { OnOk result ((o : Object) → life_in self.new o ≡ (if same_object object o then Some (at, None) else life_in self.old o)) }
     {
-        self.lives.insert(object, (at, None))?;
+        self.gone.remove(&object);
+        self.made.insert(object, at)?;
         Ok(())
     }
 
@@ -73,7 +72,8 @@ impl Lives {
         ensures { OnOk result ((o : Object) → life_in self.new o ≡ (if same_object object o then option_map (λ l. (l.0, Some at)) (life_in self.old o) else life_in self.old o)) }
     {
         if let Some(made) = self.made(&object) {
-            self.lives.insert(object, life_until(made, at))?;
+            self.made.insert(object, made)?;
+            self.gone.insert(object, at)?;
         }
         Ok(())
     }

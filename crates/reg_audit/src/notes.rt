@@ -83,7 +83,7 @@ fn add_line(
     kind: EntryKind,
     object: Option<Object>,
     entity: Option<Holder>,
-    number: u64,
+    number: u32,
 ) -> Result<(), AllocError>
     ensures { OnOk result (lines.new.items ≡ lines.old.items ++ record { at = at; kind = kind; object = object; entity = entity; number = number } ∷ []) }
 {

@@ -12,14 +12,24 @@ use reg_base::GroupId;
 use std::alloc::{AllocError, AllocFailed, Global};
 use std::collections::BTreeSet;
 use std::convert::From;
+use std::fmt;
 use std::marker::Model;
+use thiserror::Error;
 
 /// Why an edge isn't added.
-#[derive(Clone, Copy, PartialEq, Eq)]
+#[derive(Clone, Copy, PartialEq, Eq, Error)]
 pub enum EdgeFault {
     /// The group to which the edge would go is the one from which it comes, or depends on it.
+    #[error("an edge to group {} would close a circle", .0.number())]
     Circular(GroupId),
+    #[error("out of memory")]
     NoMemory,
+}
+
+impl fmt::Debug for EdgeFault {
+    fn fmt<W: fmt::Write>(&self, f: &mut fmt::Formatter<W>) -> fmt::Result {
+        fmt::Display::fmt(self, f)
+    }
 }
 
 impl From<AllocError> for EdgeFault {

@@ -4,13 +4,16 @@ ghost use Rattle.std.specs.Prelude.{◌≡◌};
 use reg_base::Text;
 use reg_terms::Refusal;
 use std::alloc::{AllocError, Global};
+use thiserror::Error;
 
 /// Why a request wasn't read.
-#[derive(Drop)]
+#[derive(Debug, Drop, Error)]
 pub enum ReadFault {
     /// There was no memory.
+    #[error("out of memory")]
     Memory,
     /// The line is no request.
+    #[error(transparent)]
     Refused(Refusal),
 }
 

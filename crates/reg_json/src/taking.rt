@@ -9,13 +9,16 @@ use reg_base::{Moment, Name, Text};
 use reg_terms::Texts;
 use serde_json::Value;
 use std::alloc::{AllocError, Global};
+use thiserror::Error;
 
 /// Why data weren't taken apart.
-#[derive(Drop)]
+#[derive(Debug, Drop, Error)]
 pub enum TakeFault {
     /// There was no memory.
+    #[error("out of memory")]
     Memory,
     /// The data are no reply's.
+    #[error("the data are no reply's")]
     Unlike,
 }
 

@@ -2,8 +2,10 @@
 ghost use Rattle.std.specs.Prelude.{◌≡◌, [], ◌∷◌, ◌++◌, OnOk, OnErr};
 
 use reg_base::Text;
+use reg_terms::MAX_RECORDS;
 use std::alloc::{AllocError, Global};
 use std::marker::Model;
+use thiserror::Error;
 
 /// A record of a table: the texts in the columns that a load reads.
 #[derive(Drop)]
@@ -59,14 +61,17 @@ impl Table {
 }
 
 /// Why bytes aren't read as a table.
-#[derive(Clone, Copy, PartialEq, Eq)]
+#[derive(Clone, Copy, Debug, PartialEq, Eq, Error)]
 pub enum TableFault {
     /// This record, where the header is number 0, has another number of fields than the header, or
     /// a field that isn't UTF-8; it is the first such record. Number 0 also where there is no
     /// header, or a column is missing.
+    #[error("record {row} doesn't suit the header, which is record 0")]
     Bad { row: u64 },
     /// No record is bad, and there are more than `MAX_RECORDS` under the header.
+    #[error("more than {MAX_RECORDS} records")]
     TooMany,
+    #[error("out of memory")]
     NoMemory,
 }
 

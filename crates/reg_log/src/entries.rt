@@ -25,8 +25,8 @@ pub struct Line {
     pub kind: EntryKind,
     pub object: Option<Object>,
     pub entity: Option<Holder>,
-    pub number: u64,
+    pub number: u32,
 }
 
 // A long log stays in memory.
-const _: () = prove!(size_of::<Line>() <= 64);
+const _: () = prove!(size_of::<Line>() <= 40);

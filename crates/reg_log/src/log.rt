@@ -43,7 +43,7 @@ fn put(
         kind: line.kind,
         object,
         entity,
-        number: line.number,
+        number: u64::from(line.number),
     })?;
     Ok(())
 }
@@ -66,7 +66,7 @@ impl ChangeLog {
         kind: EntryKind,
         object: Option<Object>,
         entity: Option<Holder>,
-        number: u64,
+        number: u32,
     ) -> Result<u64, AllocError>
         ensures number { IfOk result (λ seq. seq ≡ length self.new) }
         ensures added { OnOk result (self.new ≡ self.old ++ (record { at = at; kind = kind; object = object; entity = entity; number = number }) ∷ []) }

@@ -32,6 +32,7 @@ ghost use Rattle.reg_machine.specs.Owners.{may_lose};
 ghost use Rattle.reg_machine.specs.Past.{log, steps};
 ghost use Rattle.reg_machine.specs.Recording.{carried_steps};
 
+use crate::history::History;
 use crate::recorded::{Recorded, carried_on, passed_on};
 use reg_base::{Entity, GroupId, Moment, Steps};
 use reg_demand::refused;
@@ -42,9 +43,11 @@ use reg_names::Names;
 use std::alloc::{AllocError, AllocFailed, Global};
 use std::marker::Model;
 use std::sync::ledger::Ledger;
+use thiserror::Error;
 
 /// There was no memory, and the machine is gone.
-#[derive(Clone, Copy, PartialEq, Eq)]
+#[derive(Clone, Copy, Debug, PartialEq, Eq, Error)]
+#[error("out of memory, and the machine is gone")]
 pub struct Spent;
 
 impl From<AllocError> for Spent {
@@ -62,17 +65,18 @@ impl<T: Drop> From<AllocFailed<T>> for Spent {
 /// A history with one command more.
 fn push_stamped(
     alloc: Global,
-    stamped: Vec<Stamped>,
+    stamped: History,
     at: Moment,
     by: &Entity,
     command: Command,
-) -> Result<Vec<Stamped>, Spent>
-    ensures { IfOk result (λ v. v.items ≡ stamped.items ++ (record { at = at; by = by.now; command = command }) ∷ []) }
+) -> Result<History, Spent>
+    ensures { IfOk result (λ h. h.commands.items ≡ stamped.commands.items ++ (record { at = at; by = by.now; command = command }) ∷ []) }
 {
     let by = by.copy(alloc)?;
-    let mut stamped = stamped;
-    stamped.push(Stamped { at, by, command })?;
-    Ok(stamped)
+    let one = Stamped { at, by, command };
+    let after = stamped.then(&one);
+    drop(one);
+    after.ok_or(Spent)
 }
 
 /// The registry: its history and its clock, and what they give: the facts, the effective
@@ -80,7 +84,7 @@ fn push_stamped(
 /// the dates to come. Contracts see history and clock.
 #[derive(Drop)]
 pub struct Machine<K: Kept> {
-    stamped: Vec<Stamped>,
+    stamped: History,
     pub(crate) recorded: Box<Recorded<K>>,
 }
 
@@ -90,9 +94,9 @@ impl<K: Kept> Model for Machine<K> {
 
     ghost Value = { State };
 
-    ghost view = { λ m. record { history = m.stamped.items; clock = m.recorded.value.current.clock } };
+    ghost view = { λ m. record { history = m.stamped.commands.items; clock = m.recorded.value.current.clock } };
 
-    ghost invariant = { λ m. IsRecorded m.stamped.items (recording m.recorded.value.current m.recorded.value.audit) };
+    ghost invariant = { λ m. IsRecorded m.stamped.commands.items (recording m.recorded.value.current m.recorded.value.audit) };
 }
 
 impl<K: Kept> Machine<K> {
@@ -105,16 +109,16 @@ impl<K: Kept> Machine<K> {
     {
         let recorded = Recorded::start(alloc)?;
         Ok(Machine {
-            stamped: Vec::new(alloc),
+            stamped: History::new(),
             recorded,
         })
     }
 
-    /// The accepted commands, in order.
-    pub fn history(&self) -> &[Stamped]
-        ensures { result.now ≡ self.now.history }
+    /// How many commands were accepted.
+    pub fn commands(&self) -> usize
+        ensures { result ≡ length self.now.history }
     {
-        &self.stamped
+        self.stamped.len()
     }
 
     /// Each command of the history isn't refused at its moment after those before it, and the

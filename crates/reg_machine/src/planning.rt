@@ -121,7 +121,7 @@ impl<K: Kept> Machine<K> {
     fn too_many(&self, alloc: Global) -> Result<Refusal, AllocError>
         ensures { IfOk result (λ reason. reason ≡ too_many self.now.history) }
     {
-        if self.history().len() >= MAX_HISTORY {
+        if self.commands() >= MAX_HISTORY {
             let kind = Text::new(alloc, "history")?;
             return Ok(Refusal::Full {
                 kind,

@@ -111,7 +111,7 @@ pub fn sample(alloc: Global, seed: u64, size: u64) -> Result<Summary, AllocError
     Ok(Summary {
         requests: count(size),
         refused: tally.refused,
-        commands: machine.history().len() as u64,
+        commands: machine.commands() as u64,
         entries: machine.log().last(),
         earlier: tally.earlier,
         latest: tally.latest,

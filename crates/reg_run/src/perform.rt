@@ -134,7 +134,7 @@ pub(crate) fn print<K: Sink>(out: &mut K, bytes: &[u8]) -> Result<(), Failed>
 fn check_line(alloc: Global, machine: &Machine<Incremental>) -> Result<Vec<u8>, AllocError>
     ensures { IfOk result (λ v. v.items ≡ check_line machine.now) }
 {
-    let count = machine.history().len();
+    let count = machine.commands();
     let mut line = format!(in alloc; "commands {count} moment ")?.into_bytes();
     line.extend_from_slice(&machine.clock().text())?;
     line.push(b'\n')?;

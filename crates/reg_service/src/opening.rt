@@ -156,18 +156,18 @@ fn take_record(
     }
 }
 
-/// The machine of these records.
-pub fn replay(alloc: Global, records: &Records) -> Result<Machine<Incremental>, OpenFault>
-    ensures ok { IfOk result (λ m. judged start records.now ≡ Ok m) }
-    ensures damaged { IfErr result (λ e. (at : ℕ) → e ≡ Damaged at → judged start records.now ≡ Err at) }
+/// The machine of these records, each of which is let go once it is taken.
+pub fn replay(alloc: Global, records: Records) -> Result<Machine<Incremental>, OpenFault>
+    ensures ok { IfOk result (λ m. judged start records ≡ Ok m) }
+    ensures damaged { IfErr result (λ e. (at : ℕ) → e ≡ Damaged at → judged start records ≡ Err at) }
     ensures fault { IsErrOf result OpenFault.Fault → ⊥ }
 {
     let Ok(mut machine) = Machine::start(alloc) else {
         return Err(OpenFault::NoMemory);
     };
-    for item in records.list() {
-        let (place, payload) = item;
-        machine = take_record(alloc, machine, *place, payload.bytes())?;
+    let mut records = records;
+    'records: while let Some((place, payload)) = records.take_first() {
+        machine = take_record(alloc, machine, place, payload.bytes())?;
     }
     Ok(machine)
 }

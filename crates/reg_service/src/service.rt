@@ -131,7 +131,7 @@ fn keep<K: Keeper>(
     };
     match keeper.append(&payload) {
         Ok(()) => {
-            let number = machine.history().len() as u64;
+            let number = machine.commands() as u64;
             (
                 Reply::Number { number, id },
                 Next::Go(Service { machine, keeper }),
@@ -311,7 +311,7 @@ impl<K: Keeper> Service<K> {
         ensures given_back { IfErr result (λ e. e.1 ≡ keeper) }
     {
         read_is_payload();
-        match replay(alloc, &records) {
+        match replay(alloc, records) {
             Ok(machine) => Ok(Service { machine, keeper }),
             Err(fault) => Err((fault, keeper)),
         }

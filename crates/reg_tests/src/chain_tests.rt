@@ -132,7 +132,7 @@ fn a_long_chain_of_groups_is_kept_and_remembered(rt: HostRuntime) -> Result<(), 
     let alloc = rt.alloc();
     let service = chained(alloc)?;
     let machine = service.machine();
-    assert_eq!(rt; machine.history().len() as u64, LAST);
+    assert_eq!(rt; machine.commands() as u64, LAST);
     assert_eq!(rt; machine.log().last(), 504_400);
     let members = machine.kept().members(GroupId::new(200))?;
     assert_eq!(rt; members.len(), 2_000);

@@ -42,11 +42,15 @@ fn acknowledged<K: Keeper>(keeper: &mut K) -> u64
 }
 
 /// The payloads are the first so many that were appended.
-fn expect_first(rt: &impl Abort, records: &Records, count: u64) {
-    assert_eq!(rt; records.list().len() as u64, count);
-    for (n, (_, payload)) in records.list().iter().enumerate() {
-        assert!(rt; payload.bytes().iter().all(|byte| *byte as usize == n));
+fn expect_first(rt: &impl Abort, records: Records, count: u64) {
+    let mut records = records;
+    for n in 0..count {
+        let Some((_, payload)) = records.take_first() else {
+            panic!(rt; "a record is lost");
+        };
+        assert!(rt; payload.bytes().iter().all(|byte| u64::from(*byte) == n));
     }
+    assert!(rt; records.take_first().is_none());
 }
 
 /// A journal begins with four calls. Then each append takes six: three writes, a sync, the write
@@ -60,7 +64,7 @@ fn each_stop_of_ten_appends_opens(rt: HostRuntime) -> Result<(), Fail> {
         let disk = journal.into_disk();
         let records = opened(alloc, disk.bytes())?;
         let is_open = stop % 6 == 5;
-        expect_first(&rt, &records, stop / 6 + u64::from(is_open));
+        expect_first(&rt, records, stop / 6 + u64::from(is_open));
     }
     Ok(())
 }

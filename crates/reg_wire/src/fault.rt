@@ -2,13 +2,16 @@
 ghost use Rattle.std.specs.Prelude.{◌≡◌};
 
 use std::alloc::AllocError;
+use thiserror::Error;
 
 /// Why bytes weren't read.
-#[derive(Drop)]
+#[derive(Debug, Drop, Error)]
 pub enum ReadFault {
     /// There was no memory.
+    #[error("out of memory")]
     Memory,
     /// The bytes are no payload.
+    #[error("the bytes are no payload")]
     Malformed,
 }
 

@@ -4,4 +4,4 @@ use Rattle.reg_machine.proofs.AssignsTold.{assigns_told}
 use Rattle.reg_machine.proofs.machine.Machine.assigns_at.Goals as goal
 
 pub returns : goal.returns
-returns g c = c.in_ok-rows.ensures ∙ assigns_told c.self.inside.stamped.items (recording c.self.inside.recorded.value.current c.self.inside.recorded.value.audit) c.args.self.now c.self.invariant c.self.view_is c.past-past.result.now (rw (c.audit.ensures, c.deref.ensures) at c.past-past.ensures.assigns) c.args.t c.args.owner c.requires
+returns g c = c.in_ok-rows.ensures ∙ assigns_told c.self.inside.stamped.commands.items (recording c.self.inside.recorded.value.current c.self.inside.recorded.value.audit) c.args.self.now c.self.invariant c.self.view_is c.past-past.result.now (rw (c.audit.ensures, c.deref.ensures) at c.past-past.ensures.assigns) c.args.t c.args.owner c.requires

@@ -3,4 +3,4 @@ use Rattle.reg_machine.proofs.PastTold.{life_told}
 use Rattle.reg_machine.proofs.machine.Machine.life.Goals as goal
 
 pub returns : goal.returns
-returns g c = life_told c.self.inside.stamped.items (recording c.self.inside.recorded.value.current c.self.inside.recorded.value.audit) c.args.self.now c.self.invariant c.self.view_is c.args.object c.life.result (rw (c.audit.ensures, c.deref.ensures) at c.life.ensures)
+returns g c = life_told c.self.inside.stamped.commands.items (recording c.self.inside.recorded.value.current c.self.inside.recorded.value.audit) c.args.self.now c.self.invariant c.self.view_is c.args.object c.life.result (rw (c.audit.ensures, c.deref.ensures) at c.life.ensures)

@@ -7,20 +7,20 @@ use Rattle.reg_machine.proofs.Recording.{next_follows, next_recorded}
 use Rattle.reg_machine.proofs.machine.Machine.pass_date.Goals as goal
 
 pub passed_on-requires-clause-due : goal.passed_on-requires-clause-due
-passed_on-requires-clause-due g c = due_now c.self.inside.stamped.items c.args.date (Some c.args.date) c.self.inside.recorded.value.current c.args.self c.self.invariant.in_step c.self.view_is c.requires
+passed_on-requires-clause-due g c = due_now c.self.inside.stamped.commands.items c.args.date (Some c.args.date) c.self.inside.recorded.value.current c.args.self c.self.invariant.in_step c.self.view_is c.requires
 
 -- nothing was noted later than the date
 pub passed_on-requires-clause-noted : goal.passed_on-requires-clause-noted
 passed_on-requires-clause-noted g c =
-    let first : due c.self.inside.recorded.value.current.clock c.args.date c.self.inside.recorded.value.current.facts.rows ≡ Some c.args.date = due_now c.self.inside.stamped.items c.args.date (Some c.args.date) c.self.inside.recorded.value.current c.args.self c.self.invariant.in_step c.self.view_is c.requires in
-    (rw (c.audit.ensures, c.deref.ensures) at c.law_follows.ensures) (steps c.self.inside.stamped.items c.self.inside.recorded.value.current.clock) (date_step c.self.inside.recorded.value.current.clock c.args.date c.self.inside.recorded.value.current.facts) c.self.invariant.audit (next_follows c.self.inside.stamped.items c.args.date (recording c.self.inside.recorded.value.current c.self.inside.recorded.value.audit) c.self.invariant first)
+    let first : due c.self.inside.recorded.value.current.clock c.args.date c.self.inside.recorded.value.current.facts.rows ≡ Some c.args.date = due_now c.self.inside.stamped.commands.items c.args.date (Some c.args.date) c.self.inside.recorded.value.current c.args.self c.self.invariant.in_step c.self.view_is c.requires in
+    (rw (c.audit.ensures, c.deref.ensures) at c.law_follows.ensures) (steps c.self.inside.stamped.commands.items c.self.inside.recorded.value.current.clock) (date_step c.self.inside.recorded.value.current.clock c.args.date c.self.inside.recorded.value.current.facts) c.self.invariant.audit (next_follows c.self.inside.stamped.commands.items c.args.date (recording c.self.inside.recorded.value.current c.self.inside.recorded.value.audit) c.self.invariant first)
 
 -- the machine stays in step
 pub invariant_of-result : goal.invariant_of-result
 invariant_of-result g c =
-    let first : due c.self.inside.recorded.value.current.clock c.args.date c.self.inside.recorded.value.current.facts.rows ≡ Some c.args.date = due_now c.self.inside.stamped.items c.args.date (Some c.args.date) c.self.inside.recorded.value.current c.args.self c.self.invariant.in_step c.self.view_is c.requires in
-    next_recorded c.self.inside.stamped.items c.args.date (recording c.self.inside.recorded.value.current c.self.inside.recorded.value.audit) (recording c.in_ok-recorded.recorded.value.current c.in_ok-recorded.recorded.value.audit) c.self.invariant first c.in_ok-recorded.ensures.moved c.in_ok-recorded.ensures.recorded c.in_ok-recorded.ensures.sound
+    let first : due c.self.inside.recorded.value.current.clock c.args.date c.self.inside.recorded.value.current.facts.rows ≡ Some c.args.date = due_now c.self.inside.stamped.commands.items c.args.date (Some c.args.date) c.self.inside.recorded.value.current c.args.self c.self.invariant.in_step c.self.view_is c.requires in
+    next_recorded c.self.inside.stamped.commands.items c.args.date (recording c.self.inside.recorded.value.current c.self.inside.recorded.value.audit) (recording c.in_ok-recorded.recorded.value.current c.in_ok-recorded.recorded.value.audit) c.self.invariant first c.in_ok-recorded.ensures.moved c.in_ok-recorded.ensures.recorded c.in_ok-recorded.ensures.sound
 
 -- the steps of the date
 pub returns-clause-cost : goal.returns-clause-cost
-returns-clause-cost g c = date_steps c.self.inside.stamped.items c.args.date c.args.steps.now c.passed_on.new.steps c.self.inside.recorded.value.current c.args.self c.self.invariant.in_step c.self.view_is c.in_ok-recorded.ensures.cost
+returns-clause-cost g c = date_steps c.self.inside.stamped.commands.items c.args.date c.args.steps.now c.passed_on.new.steps c.self.inside.recorded.value.current c.args.self c.self.invariant.in_step c.self.view_is c.in_ok-recorded.ensures.cost

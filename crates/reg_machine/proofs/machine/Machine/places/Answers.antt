@@ -3,4 +3,4 @@ use Rattle.reg_machine.proofs.PastTold.{places_told}
 use Rattle.reg_machine.proofs.machine.Machine.places.Goals as goal
 
 pub returns : goal.returns
-returns g c = places_told c.self.inside.stamped.items (recording c.self.inside.recorded.value.current c.self.inside.recorded.value.audit) c.args.self.now c.self.invariant c.self.view_is c.places.result.now (rw (c.audit.ensures, c.deref.ensures) at c.places.ensures)
+returns g c = places_told c.self.inside.stamped.commands.items (recording c.self.inside.recorded.value.current c.self.inside.recorded.value.audit) c.args.self.now c.self.invariant c.self.view_is c.places.result.now (rw (c.audit.ensures, c.deref.ensures) at c.places.ensures)
