@@ -1,7 +1,8 @@
 #!/bin/sh
 # Proves the program and every crate that it stands on, lowest first, each with as many processors as there
-# are, builds the program, and runs the session of README.md. It needs the kit's command rt on the PATH, and
-# 8 GB of memory. What is proved is kept: a second run takes less than a minute before the session.
+# are, builds the program, and runs the session of README.md. It needs the kit's command rt on the PATH; what
+# memory a crate takes is in docs/GATE.md. JOBS sets another number of processors, for a machine with little
+# memory. What is proved is kept: a second run takes less than a minute before the session.
 set -u
 cd "$(dirname "$0")" || exit 1
 top=$(pwd)
@@ -42,7 +43,7 @@ prove() {
     for crate in $(crates); do
         told=$((told + 1))
         echo "   $told of $all, after $(minutes) minutes: $crate"
-        (cd "crates/$crate" && rt lib --jobs "$(nproc)") > "$log" 2>&1 < /dev/null || {
+        (cd "crates/$crate" && rt lib --jobs "${JOBS:-$(nproc)}") > "$log" 2>&1 < /dev/null || {
             grep -v ': proved$' "$log" | tail -20 >&2
             stop "$crate was not proved"
         }
@@ -74,8 +75,9 @@ began=$(date +%s)
 all=$(crates | wc -l)
 
 echo "== Step 1 of 3: prove the crates that the program stands on, $all in all."
-echo "   From nothing this takes about 70 minutes on four processors and 90 on two, put together from the crates'"
-echo "   own times in docs/GATE.md; with nothing changed since, less than one."
+echo "   From nothing this takes about 90 minutes on two processors: the first 14 crates took 32, the rest is"
+echo "   put together from docs/GATE.md. On four it takes less, and wasn't timed. With nothing changed since it"
+echo "   takes less than one."
 prove
 echo "   All are proved, after $(minutes) minutes."
 
