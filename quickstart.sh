@@ -1,8 +1,8 @@
 #!/bin/sh
-# Proves the program and every crate that it stands on, lowest first, each with as many processors as there
-# are, builds the program, and runs the session of README.md. It needs the kit's command rt on the PATH; what
-# memory a crate takes is in docs/GATE.md. JOBS sets another number of processors, for a machine with little
-# memory. What is proved is kept: a second run takes less than a minute before the session.
+# Proves the program and every crate that it stands on, side by side, builds the program, and runs the session
+# of README.md. It needs the kit's command rt on the PATH; what memory a crate takes is in docs/GATE.md. What is
+# proved is kept on this machine: a second run, and the gate, prove none of it again. RT_JOBS=N in the environment
+# takes N processors in place of all; some 6 GB lie in TMPDIR, or /tmp, until it ends.
 set -u
 cd "$(dirname "$0")" || exit 1
 top=$(pwd)
@@ -17,36 +17,25 @@ minutes() {
     echo $((($(date +%s) - began) / 60))
 }
 
-# the crates that the program stands on, each behind those that it stands on itself
-crates() {
-    awk -F: '
-        /^[a-z]/ { split($1, name, " "); below[name[1]] = $2 }
-        END {
-            todo = "registry"
-            while (split(todo, next_ones, " ") > 0) {
-                todo = ""
-                for (i in next_ones) if (next_ones[i] in below && !(next_ones[i] in seen)) {
-                    seen[next_ones[i]] = 1; todo = todo " " below[next_ones[i]]
-                }
-            }
-            for (one in seen) {
-                print one, one
-                count = split(below[one], those, " ")
-                for (i = 1; i <= count; i++) if (those[i] in seen) print those[i], one
-            }
-        }' crates.txt | tsort | grep -v '^registry$'
+# The gate's own command, over what the program stands on: neither the gate's wrong bodies, which prove a crate
+# twice, nor its worked examples and tests.
+copy() {
+    mkdir "$copy"
+    tar -c --exclude='crates/*/out' --exclude='crates/*/must-fail' --exclude=crates/worked \
+        --exclude=crates/reg_tests HANDLES crates | tar -x -C "$copy" || return 1
+    grep -v -e '^worked:' -e '^reg_tests:' crates.txt > "$copy/crates.txt"
 }
 
-# proves the crates one after another, and says how far it is
-prove() {
-    told=0
-    for crate in $(crates); do
-        told=$((told + 1))
-        echo "   $told of $all, after $(minutes) minutes: $crate"
-        (cd "crates/$crate" && rt lib --jobs "${JOBS:-$(nproc)}") > "$log" 2>&1 < /dev/null || {
-            grep -v ': proved$' "$log" | tail -20 >&2
-            stop "$crate was not proved"
-        }
+# says how far it is: each crate that is proved, by the lines of the gate
+told() {
+    count=0
+    while read -r line; do
+        case $line in
+            "rt: "*" proved" | "rt: "*" is kept: "*)
+                count=$((count + 1))
+                crate=${line#rt: }
+                echo "   $count of $all, after $(minutes) minutes: ${crate%% *}" ;;
+        esac
     done
 }
 
@@ -70,26 +59,23 @@ command -v rt > /dev/null || stop "the kit's command rt is not on the PATH"
 folder=$(mktemp -d) || stop "no folder for the session"
 trap 'rm -rf "$folder"' EXIT
 trap 'exit 130' INT TERM
-log=$folder/log
+log=$folder/log copy=$folder/copy
 began=$(date +%s)
-all=$(crates | wc -l)
 
-echo "== Step 1 of 3: prove the crates that the program stands on, $all in all."
-echo "   From nothing this takes about 90 minutes on two processors: the first 14 crates took 32, the rest is"
-echo "   put together from docs/GATE.md. On four it takes less, and wasn't timed. With nothing changed since it"
-echo "   takes less than one."
-prove
-echo "   All are proved, after $(minutes) minutes."
-
-echo "== Step 2 of 3: prove and build the program."
-(cd crates/registry && rt run -- "$folder/journal" init) > "$log" 2>&1 || {
-    cat "$log" >&2
-    stop "the program was not built"
+copy || stop "the crates were not copied to $copy"
+all=$(grep -c '^[a-z]' "$copy/crates.txt")
+echo "== Step 1 of 2: prove the program and the crates that it stands on, $all in all, and build it."
+echo "   TIMES"
+(cd "$copy" && PYTHONUNBUFFERED=1 rt ci 2>&1) | tee "$log" | told
+tail -1 "$log" | grep -q ', 0 failed$' || {
+    grep -v ': proved$' "$log" | tail -20 >&2
+    stop "not all of it was proved"
 }
-echo "   It is built, after $(minutes) minutes."
-rm -f "$folder/journal"
+mkdir -p "${program%/*}" && cp "$copy/crates/registry/out/registry" "$program" || stop "the program was not built"
+rm -rf "$copy"
+echo "   All are proved, and the program is built, after $(minutes) minutes."
 
-echo "== Step 3 of 3: the session of README.md. Its journal outlives each run of the program."
+echo "== Step 2 of 2: the session of README.md. Its journal outlives each run of the program."
 session > "$folder/session.sh"
 (
     cd "$folder" || exit 1

@@ -72,6 +72,7 @@ impl Lives {
         ensures { OnOk result ((o : Object) → life_in self.new o ≡ (if same_object object o then option_map (λ l. (l.0, Some at)) (life_in self.old o) else life_in self.old o)) }
     {
         if let Some(made) = self.made(&object) {
+            // The root stands in no map before it goes.
             self.made.insert(object, made)?;
             self.gone.insert(object, at)?;
         }

@@ -1,3 +1,4 @@
 mod Firsts
+mod Members
 mod Placing
 pub mod Worked

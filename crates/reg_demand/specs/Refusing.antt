@@ -7,6 +7,8 @@ use Rattle.reg_base.specs.declared.privilege.Privilege.TheVariants.{View}
 use Rattle.reg_terms.specs.Privileges.{line_of}
 use Rattle.reg_terms.specs.declared.command.Command.{Command}
 use Rattle.reg_terms.specs.declared.command.Command.TheVariants.{FolderAdd, FolderRename, FolderMove, FolderDelete, SubjectAdd, GroupAdd, GroupRename, GroupMove, GroupDelete, MemberAdd, MemberRemove, MemberWindow, CompositeSet, CompositeClear, GrantAdd, GrantRemove, InheritAdd, InheritRemove, AttrdefAdd, AttrdefDelete, AttrAdd, AttrDelete, AssignAdd, AssignRemove, ValueAdd, ValueRemove, RuleRemoveLost, RuleEndLost, RuleVeto, RuleOnCreate, RuleDelete, JobSimple, JobList, JobDelete, Load, ConsumerAdd, ConsumerAck}
+use Rattle.reg_terms.specs.declared.kinds.Member.{Member}
+use Rattle.reg_terms.specs.declared.kinds.Member.TheVariants as member
 use Rattle.reg_terms.specs.declared.kinds.Object.{Object}
 use Rattle.reg_terms.specs.declared.kinds.Object.TheVariants as object
 use Rattle.reg_terms.specs.declared.refusal.Refusal.{Refusal}
@@ -60,6 +62,12 @@ no_group L f c group = (is_unseen L f c (group_id group f), NotFound group)
 abbrev pub is_hidden : Live → Lists → Who → Option Object → Bool
 is_hidden L f c None = true
 is_hidden L f c (Some o) = not (visible L f c o)
+
+-- the object that a member is
+abbrev pub as_object : Option Member → Option Object
+as_object None = None
+as_object (Some (member.Person s)) = Some (object.Subject s)
+as_object (Some (member.Group g)) = Some (object.Group g)
 
 -- no definition that the caller sees has the name
 abbrev pub no_definition : Live → Lists → Who → List ℕ → Check

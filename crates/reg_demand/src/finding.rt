@@ -2,7 +2,7 @@
 ghost use Rattle.std.specs.Prelude.{◌≡◌, ◌&&◌, not, IfOk};
 ghost use Rattle.reg_base.specs.Entities.{entity_of};
 ghost use Rattle.reg_facts.specs.Edits.{has_member, member_of, the_id};
-ghost use Rattle.reg_demand.specs.Refusing.{is_hidden, is_internal, is_missing, is_missing_object, is_unseen, named_text, names_internal, row_stands};
+ghost use Rattle.reg_demand.specs.Refusing.{as_object, is_hidden, is_internal, is_missing, is_missing_object, is_unseen, named_text, names_internal, row_stands};
 
 use reg_base::{Entity, GroupId, Privilege, Text};
 use reg_effect::Kept;
@@ -72,6 +72,33 @@ pub fn is_missing<K: Kept>(facts: &Facts, kept: &K, who: &Who, entity: &Entity) 
     ensures { result ≡ is_missing (K.held kept.now) facts.now who.now entity.now }
 {
     !is_internal(entity) && is_hidden(facts, kept, who, &facts.entity_object(entity))
+}
+
+/// The object that a member is.
+fn as_object(found: &Option<Member>) -> Option<Object>
+    ensures { result ≡ as_object found.now }
+{
+    match found {
+        Some(Member::Person(id)) => Some(Object::Subject(*id)),
+        Some(Member::Group(id)) => Some(Object::Group(*id)),
+        None => None,
+    }
+}
+
+/// Whether an entity, which names this member if any, is no person that stands, and no group that
+/// the caller sees.
+#[tactic(auto, using(crate::proofs::Members::same))]
+pub fn is_missing_member<K: Kept>(
+    facts: &Facts,
+    kept: &K,
+    who: &Who,
+    entity: &Entity,
+    found: &Option<Member>,
+) -> bool
+    requires { found.now ≡ member_of entity.now facts.now }
+    ensures { result ≡ is_missing (K.held kept.now) facts.now who.now entity.now }
+{
+    !is_internal(entity) && is_hidden(facts, kept, who, &as_object(found))
 }
 
 /// Whether a member that was found is an immediate member of a group.

@@ -20,3 +20,4 @@ mod subjects;
 
 pub use attributes::barred_attributes;
 pub use barring::{barred, refused};
+pub use memberships::refused_member;

@@ -1,6 +1,7 @@
 //! What a reader gives of the bytes of a connection.
 
 use reg_base::Bytes;
+use thiserror::Error;
 
 /// A whole message.
 #[derive(Drop)]
@@ -15,17 +16,22 @@ pub struct Call {
 }
 
 /// Why a head isn't taken. Each closes the connection.
-#[derive(Clone, Copy, Drop)]
+#[derive(Clone, Copy, Debug, Drop, Error)]
 pub enum HeadFault {
     /// More than 64 fields, or no end in 16,384 bytes.
+    #[error("the head of the request is longer than it may be")]
     HeadTooLong,
     /// No head of HTTP/1.0 or 1.1, or its `Host` or `Content-Length` is wrong.
+    #[error("the head of the request has no form that HTTP knows")]
     BadHead,
     /// A `Transfer-Encoding` stands.
+    #[error("the body is sent in a coding")]
     Coding,
     /// The body has more than 8,388,608 bytes.
+    #[error("the body is longer than it may be")]
     TooLong,
     /// A POST without `Content-Length`.
+    #[error("the body's length isn't told")]
     NoLength,
 }
 

@@ -4,6 +4,7 @@ ghost use Rattle.reg_loader.specs.Plan.{counts_of};
 
 use reg_terms::{LoadCounts, LoadRows, Names};
 use std::alloc::AllocError;
+use thiserror::Error;
 
 /// What a load would do to the groups of a job, and what the records of its table say.
 #[derive(Drop)]
@@ -45,12 +46,15 @@ impl Plan {
 }
 
 /// Why a load does nothing.
-#[derive(Clone, Copy, PartialEq, Eq)]
+#[derive(Clone, Copy, Debug, PartialEq, Eq, Error)]
 pub enum PlanFault {
     /// The job's one group is a composite.
+    #[error("the job's one group is a composite")]
     IsComposite,
     /// So many persons are in the job's groups, and more of them would be removed than the job lets.
+    #[error("a load would remove {removes} of {before} memberships, more than the job lets")]
     Failsafe { before: u64, removes: u64 },
+    #[error("out of memory")]
     NoMemory,
 }
 

@@ -1,5 +1,5 @@
 // The accepted commands.
-ghost use Rattle.std.specs.Prelude.{◌≡◌, ◌++◌, ◌∷◌, [], length, IfSome};
+ghost use Rattle.std.specs.Prelude.{◌≡◌, ◌≤◌, ◌+◌, ◌^◌, ◌++◌, ◌∷◌, [], length, MatchOption};
 
 use crate::unstored::Unstored;
 use reg_facts::Stamped;
@@ -33,7 +33,7 @@ impl History {
 
     /// The commands and one more. None where their number isn't to be told any more.
     pub(crate) fn then(self, stamped: &Stamped) -> Option<History>
-        ensures { IfSome result (λ h. h.commands.items ≡ self.commands.items ++ stamped.now ∷ []) }
+        ensures { MatchOption result (2 ^ 64 ≤ length self.commands.items + 1) (λ h. h.commands.items ≡ self.commands.items ++ stamped.now ∷ []) }
     {
         let History { commands, count } = self;
         let count = count.checked_add(1)?;

@@ -274,6 +274,15 @@ impl<K: Kept> Machine<K> {
     ) -> Result<Option<Refusal>, AllocError>
         ensures { IfOk result (λ found. found ≡ refusal self.now.history self.now.clock by.now command.now) }
     {
+        if let Command::MemberAdd {
+            group,
+            member,
+            from,
+            until,
+        } = command
+        {
+            return self.decide_membership(alloc, by, group, member, from, until);
+        }
         match refused(alloc, self.facts(), self.kept(), by, command)? {
             Some(refusal) => Ok(Some(refusal)),
             None => self.checked(alloc, by, command),
