@@ -65,7 +65,8 @@ began=$(date +%s)
 copy || stop "the crates were not copied to $copy"
 all=$(grep -c '^[a-z]' "$copy/crates.txt")
 echo "== Step 1 of 2: prove the program and the crates that it stands on, $all in all, and build it."
-echo "   TIMES"
+echo "   From nothing this takes some 70 minutes on four quick processors and 90 on two, and up to twice as much"
+echo "   where others use them too; with nothing changed since, a few minutes."
 (cd "$copy" && PYTHONUNBUFFERED=1 rt ci 2>&1) | tee "$log" | told
 tail -1 "$log" | grep -q ', 0 failed$' || {
     grep -v ': proved$' "$log" | tail -20 >&2
