@@ -2,7 +2,7 @@
 # Proves the program and every crate that it stands on, side by side, builds the program, and runs the session
 # of README.md. It needs the kit's command rt on the PATH; what memory a crate takes is in docs/GATE.md. What is
 # proved is kept on this machine: a second run, and the gate, prove none of it again. RT_JOBS=N in the environment
-# takes N processors in place of all; some 6 GB lie in TMPDIR, or /tmp, until it ends.
+# takes N processors in place of all; some 5 GB lie in TMPDIR, or /tmp, until it ends.
 set -u
 cd "$(dirname "$0")" || exit 1
 top=$(pwd)
@@ -65,8 +65,9 @@ began=$(date +%s)
 copy || stop "the crates were not copied to $copy"
 all=$(grep -c '^[a-z]' "$copy/crates.txt")
 echo "== Step 1 of 2: prove the program and the crates that it stands on, $all in all, and build it."
-echo "   From nothing this takes some 70 minutes on four quick processors and 90 on two, and up to twice as much"
-echo "   where others use them too; with nothing changed since, a few minutes."
+echo "   From nothing this takes some 70 minutes on four quick processors and 90 on two, put together from the"
+echo "   crates' own times in docs/GATE.md, and up to twice as much where others use them too; with nothing"
+echo "   changed since, a few minutes."
 (cd "$copy" && PYTHONUNBUFFERED=1 rt ci 2>&1) | tee "$log" | told
 tail -1 "$log" | grep -q ', 0 failed$' || {
     grep -v ': proved$' "$log" | tail -20 >&2
