@@ -110,7 +110,10 @@ def try_callers(front):
     expect("a chunked body reaches the registry", told(front.ask(post + chunked)), denied)
     too_long = (413, {"code": 1, "limit": 8388608, "refused": "TooLong"})
     expect("a body that is too long is refused", told(front.ask(post + b"Content-Length: 8388609\r\n\r\n")), too_long)
-    with front.connect(certificate=False) as conn:
+    with front.connect(certificate="carl") as conn:
+        conn.sendall(small)
+        expect("an organisation's name names no caller", told(Answers(conn).next()), (403, {"code": 5, "refused": "NoCaller"}))
+    with front.connect(certificate=None) as conn:
         conn.sendall(small)
         expect("who has neither certificate nor password is asked for it", Answers(conn).next().status, 401)
 

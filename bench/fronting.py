@@ -16,7 +16,8 @@ MESSAGES = 900
 
 
 class FrontEnd:
-    """nginx before the registry on a port. The client's certificate is that of `uni/ann`."""
+    """nginx before the registry on a port. The client's certificate is that of `uni/ann`; another is Carl's, whose
+    organisation has the text of Ann's name in its own."""
 
     def __init__(self, folder, registry):
         self.folder, self.port = os.path.join(folder, "front"), free_port()
@@ -43,9 +44,13 @@ class FrontEnd:
         self.openssl("req", "-x509", *CURVE, "-subj", "/CN=localhost", "-addext", "subjectAltName=DNS:localhost",
                      "-keyout", "server.key", "-out", "server.pem")
         self.openssl("req", "-x509", *CURVE, "-subj", "/CN=Trial authority", "-keyout", "clients.key", "-out", "clients.pem")
-        self.openssl("req", *CURVE, "-subj", "/CN=ann", "-keyout", "ann.key", "-out", "ann.csr")
-        self.openssl("x509", "-req", "-in", "ann.csr", "-CA", "clients.pem", "-CAkey", "clients.key", "-CAcreateserial",
-                     "-out", "ann.pem")
+        self.client_certificate("ann", "/CN=ann")
+        self.client_certificate("carl", "/CN=carl/O=Some,CN=ann")
+
+    def client_certificate(self, name, subject):
+        self.openssl("req", *CURVE, "-subj", subject, "-keyout", name + ".key", "-out", name + ".csr")
+        self.openssl("x509", "-req", "-in", name + ".csr", "-CA", "clients.pem", "-CAkey", "clients.key", "-CAcreateserial",
+                     "-out", name + ".pem")
 
     def configure(self, registry):
         with open(CONFIG) as file:
@@ -60,10 +65,10 @@ class FrontEnd:
             file.write("daemon off;\nworker_processes 2;\npid %s/pid;\nevents { worker_connections 1024; }\n"
                        "http {\n%s}\n" % (self.folder, text))
 
-    def connect(self, certificate=True):
+    def connect(self, certificate="ann"):
         context = ssl.create_default_context(cafile=self.folder + "/server.pem")
         if certificate:
-            context.load_cert_chain(self.folder + "/ann.pem", self.folder + "/ann.key")
+            context.load_cert_chain("%s/%s.pem" % (self.folder, certificate), "%s/%s.key" % (self.folder, certificate))
         conn = socket.create_connection(("127.0.0.1", self.port), 30)
         conn.setsockopt(socket.IPPROTO_TCP, socket.TCP_NODELAY, 1)
         return context.wrap_socket(conn, server_hostname="localhost")

@@ -3,6 +3,7 @@
 
 use reg_outside::{FileDisk, StdSink, StdSource, SystemClock, TcpPort};
 use reg_run::run;
+use std::fs::{File, OpenOptions};
 use std::process::ExitCode;
 use std::{env, io};
 
@@ -11,6 +12,13 @@ const USAGE: u8 = 2;
 
 /// The exit status where there was no memory.
 const NO_MEMORY: u8 = 3;
+
+/// The null file. A file that is opened takes the lowest descriptor that is free, which is a standard
+/// stream's where the caller closed it: three of these leave none of them to the journal, over which
+/// replies would be written. What is read of such a stream is empty, and a write to it fails.
+fn null(rt: &HostRuntime) -> Option<File> {
+    OpenOptions::new().read(true).open(rt, "/dev/null").ok()
+}
 
 /// Runs the program over a file.
 fn over(rt: &HostRuntime, path: &str, words: &[String]) -> u8 {
@@ -50,6 +58,7 @@ fn main(rt: HostRuntime) -> ExitCode {
             return ExitCode::from(NO_MEMORY);
         }
     }
+    let _streams = (null(&rt), null(&rt), null(&rt));
     let status = match words.as_slice() {
         [path, rest @ ..] => over(&rt, path.as_str(), rest),
         [] => over(&rt, "", &[]),
