@@ -1,7 +1,7 @@
 #!/bin/sh
 # Runs the built program with standard input, output or error closed, in each way that makes it say something there, and
 # looks whether the journal is as it has to be: the same to the byte, or with the command that was accepted. Ends with
-# status 1 where one isn't. It also says which statuses came.
+# status 1 where one isn't. It also says which statuses came. It needs python3, /dev/null and /dev/full.
 #
 #     bench/closed_streams.sh
 set -u

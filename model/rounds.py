@@ -3,7 +3,7 @@
 A step is one accepted command or one date that comes.
 """
 
-from typing import List, Optional, Set
+from typing import List, Optional, Set, Tuple
 
 import members
 import moments
@@ -36,12 +36,19 @@ def one_round(facts: Facts, ended: Set[Pair], moment: int) -> List[Entry]:
     """
     entries: List[Entry] = []
     for group, person in sorted(ended):
-        for number, rule in sorted(facts.rules.items()):
-            if isinstance(rule, (RemoveLost, EndLost)) and rule.check == group:
-                kind = act(facts, rule, person, moment)
-                if kind is not None:
-                    entries.append(Entry(moment, kind, rule.owner, person, number))
+        for number, rule in checking(facts, group):
+            kind = act(facts, rule, person, moment)
+            if kind is not None:
+                entries.append(Entry(moment, kind, rule.owner, person, number))
     return entries
+
+
+def checking(facts: Facts, group: Thing) -> List[Tuple[int, Rule]]:
+    """The rules that act on who is no member of the group any more, by number."""
+    return [
+        (number, rule) for number, rule in sorted(facts.rules.items())
+        if isinstance(rule, (RemoveLost, EndLost)) and rule.check == group
+    ]
 
 
 def act(facts: Facts, rule: Rule, person: Thing, moment: int) -> Optional[str]:

@@ -30,9 +30,8 @@ def shows(history: History, replies: List[List[str]]) -> bool:
     try:
         for lines, found in zip(history.runs, replies):
             registry = Registry() if registry is None else registry.opened_again()
-            for line, reply in zip(lines, found):
-                if registry.answer(line.moment, line.text) != reply:
-                    return True
+            if [registry.answer(line.moment, line.text) for line in lines] != found:
+                return True
     except (LookupError, RecursionError, ValueError):
         return True  # a wrong model may come to facts that no right one has
     return False
