@@ -1,7 +1,9 @@
 -- How events change assignments.
 use Rattle.std.specs.Prelude.{◌≡◌, ◌<◌, ⊤, ℕ, List, [], ◌∷◌, Option, Some, None, filter_map}
 use Rattle.reg_terms.specs.declared.event.Event.{Event}
-use Rattle.reg_terms.specs.declared.event.Event.TheVariants.{FolderGone, GroupGone, DefinitionGone, AssignMade, AssignGone, ValueAdded, ValueRemoved}
+use Rattle.reg_terms.specs.declared.event.Event.TheVariants.{FolderGone, GroupGone, DefinitionGone}
+use Rattle.reg_terms.specs.declared.event.Event.TheVariants.{AssignMade, AssignGone, ValueAdded}
+use Rattle.reg_terms.specs.declared.event.Event.TheVariants.{ValueRemoved}
 use Rattle.reg_terms.specs.declared.kinds.Object.TheVariants.{Folder, Group, Def}
 use Rattle.reg_terms.specs.declared.rows.AssignRow.{AssignRow}
 use Rattle.reg_facts.specs.Events.{happened}

@@ -17,7 +17,11 @@ object_cmp = (object_ord.ghosts).cmp
 
 -- the life of an object
 abbrev pub life_in : Lives → Object → Option (ℕ × Option ℕ)
-life_in lives o = option_or (option_map (λ m. (m, get_by (object_cmp o) lives.gone)) (get_by (object_cmp o) lives.made)) (first_life o)
+life_in lives o =
+    option_or (option_map (λ m. (
+      m,
+      get_by (object_cmp o) lives.gone,
+    )) (get_by (object_cmp o) lives.made)) (first_life o)
 
 -- the last name of an object that is gone
 abbrev pub name_in : Departed → Object → Option (List ℕ)

@@ -1,5 +1,6 @@
 -- When objects were made and went, and the names that they had last.
-use Rattle.std.specs.Prelude.{ℕ, List, [], ◌∷◌, Option, Some, None, map, filter_map, flat_map, option_map, if◌then◌else◌}
+use Rattle.std.specs.Prelude.{ℕ, List, [], ◌∷◌, Option, Some, None, map, filter_map, flat_map}
+use Rattle.std.specs.Prelude.{option_map, if◌then◌else◌}
 use Rattle.std.specs.Str.{bytes_eq}
 use Rattle.reg_terms.specs.Kinds.{same_object, as_group}
 use Rattle.reg_terms.specs.declared.event.Event.{Event}
@@ -23,7 +24,8 @@ ended at gone o life = if among o gone then option_map (λ l. (l.0, Some at)) li
 
 -- an object's life after a step
 abbrev pub life_after : Step → Object → Option (ℕ × Option ℕ) → Option (ℕ × Option ℕ)
-life_after step o life = ended step.at (gone_by step.events) o (begun step.at (made_by step.events) o life)
+life_after step o life =
+    ended step.at (gone_by step.events) o (begun step.at (made_by step.events) o life)
 
 -- an object's life after some steps, by what it was before them
 abbrev pub life_from : Option (ℕ × Option ℕ) → Object → List Step → Option (ℕ × Option ℕ)
@@ -63,7 +65,8 @@ gone_of steps = groups_of (all_gone steps)
 -- the name of an object by the last of these that is it, or else the name that was known before
 abbrev pub last_name : Object → Option (List ℕ) → List Gone → Option (List ℕ)
 last_name o known [] = known
-last_name o known (g ∷ gone) = last_name o (if same_object g.object o then Some g.name else known) gone
+last_name o known (g ∷ gone) =
+    last_name o (if same_object g.object o then Some g.name else known) gone
 
 -- the name that an object had when it went, if it is gone
 unfoldable pub gone_name : Object → List Step → Option (List ℕ)
@@ -71,7 +74,9 @@ gone_name o steps = last_name o None (all_gone steps)
 
 -- what has a name, if this is a group of the name, or else the group that was known before
 abbrev pub named_or : List ℕ → Option ℕ → Gone → Option ℕ
-named_or name known g = if bytes_eq g.name name then elim (as_group (Some g.object)) [ None ↦ known | Some group ↦ Some group ] else known
+named_or name known g =
+    if bytes_eq g.name name then elim
+    (as_group (Some g.object)) [ None ↦ known | Some group ↦ Some group ] else known
 
 -- the last group of these that has the name, or else the group that was known before
 abbrev pub last_named : List ℕ → Option ℕ → List Gone → Option ℕ

@@ -15,9 +15,9 @@ use Rattle.reg_audit.specs.Objects.{made_by}
 use Rattle.reg_audit.specs.declared.consumers.ConsumerNote.{ConsumerNote}
 use Rattle.reg_audit.specs.declared.gone.Gone.{Gone}
 
--- the moment, the entries of what is changed directly, the objects that are made, those that go with their names, the attributes
--- that are made with their definitions, and what happens to assignments and to consumers; once rules acted, the entries have what
--- they did too
+-- the moment, the entries of what is changed directly, the objects that are made, those that go
+-- with their names, the attributes that are made with their definitions, and what happens to
+-- assignments and to consumers; once rules acted, the entries have what they did too
 pub record StepNotes : Type 0 where
   pub at : ℕ
   pub lines : List Line

@@ -4,7 +4,10 @@ use Rattle.std.specs.Option.{is_some}
 use Rattle.std.specs.List.{list_any}
 use Rattle.reg_terms.specs.Kinds.{same_object}
 use Rattle.reg_terms.specs.declared.event.Event.{Event}
-use Rattle.reg_terms.specs.declared.event.Event.TheVariants.{FolderMade, FolderGone, SubjectMade, GroupMade, GroupGone, DefinitionMade, DefinitionGone, AttributeMade, AttributeGone}
+use Rattle.reg_terms.specs.declared.event.Event.TheVariants.{FolderMade, FolderGone, SubjectMade}
+use Rattle.reg_terms.specs.declared.event.Event.TheVariants.{GroupMade, GroupGone, DefinitionMade}
+use Rattle.reg_terms.specs.declared.event.Event.TheVariants.{DefinitionGone, AttributeMade}
+use Rattle.reg_terms.specs.declared.event.Event.TheVariants.{AttributeGone}
 use Rattle.reg_terms.specs.declared.kinds.Object.{Object}
 use Rattle.reg_terms.specs.declared.kinds.Object.TheVariants.{Folder, Group, Def, Attr, Subject}
 

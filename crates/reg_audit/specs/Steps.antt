@@ -11,8 +11,8 @@ use Rattle.reg_effect.specs.Member.{member}
 use Rattle.reg_rules.specs.declared.actions.Action.{Action}
 use Rattle.reg_audit.specs.Assigning.{AllMakeNew}
 
--- one step: its moment, the facts before it, what happens to them in order, what rules do after that, in order, the facts after all
--- of it, and the live data before and after
+-- one step: its moment, the facts before it, what happens to them in order, what rules do after
+-- that, in order, the facts after all of it, and the live data before and after
 pub record Step : Type 0 where
   pub at : ℕ
   pub before : Lists
@@ -25,7 +25,8 @@ pub record Step : Type 0 where
 -- the last step of a moment that is at most t
 abbrev pub last_by : ℕ → List Step → Option Step
 last_by t [] = None
-last_by t (step ∷ steps) = option_or (last_by t steps) (if nat_le step.at t then Some step else None)
+last_by t (step ∷ steps) =
+    option_or (last_by t steps) (if nat_le step.at t then Some step else None)
 
 -- the last step
 abbrev pub last_of : List Step → Option Step
@@ -71,8 +72,9 @@ facts_by t steps = facts_of (last_by t steps)
 abbrev pub consumers_by : List Step → List ConsumerRow
 consumers_by steps = (last_facts steps).consumers
 
--- a step comes after others: it isn't earlier, it begins with the memberships and the facts with which the last one ended, its
--- events alone change the consumers and the assignments, and the assignments that they make are new
+-- a step comes after others: it isn't earlier, it begins with the memberships and the facts with
+-- which the last one ended, its events alone change the consumers and the assignments, and the
+-- assignments that they make are new
 pub record FollowsOn (steps : List Step) (step : Step) : Type 0 where
   pub later : last_moment steps ≤ step.at
   pub members : (g s : ℕ) → member step.live g s ≡ member (last_live steps) g s

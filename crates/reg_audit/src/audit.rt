@@ -17,7 +17,8 @@ ghost use Rattle.reg_audit.specs.Definitions.{definition_in};
 ghost use Rattle.reg_audit.specs.Lines.{log_of};
 ghost use Rattle.reg_audit.specs.Lives.{life_of, gone_of, gone_name, gone_named};
 ghost use Rattle.reg_audit.specs.Notes.{acted_notes, notes_of};
-ghost use Rattle.reg_audit.specs.Steps.{Step, FollowsOn, consumers_by, facts_by, live_by, last_moment};
+ghost use Rattle.reg_audit.specs.Steps.{Step, FollowsOn, consumers_by, facts_by, live_by};
+ghost use Rattle.reg_audit.specs.Steps.{last_moment};
 ghost use Rattle.reg_audit.specs.Touched.{KnowsTouched};
 
 use crate::Notes;
@@ -64,7 +65,12 @@ impl Audit {
         touched: &[Object],
     ) -> Result<Audit, AllocError>
         requires { MayNote notes.at notes.assigns self.past }
-        ensures { IfOk result (λ audit. (steps : List Step) (step : Step) → IsAudit steps self → FollowsOn steps step → notes ≡ acted_notes (notes_of step.at step.before step.events) step.actions → turned.now ≡ turns step.live step.live_after → facts.now ≡ step.after → KnowsTouched step.before step.after touched.now → IsAudit (steps ++ step ∷ []) audit) }
+        ensures { IfOk result (λ audit. (steps : List Step) (step : Step) → IsAudit steps self
+            → FollowsOn steps step → notes
+            ≡ acted_notes (notes_of step.at step.before step.events) step.actions
+            → turned.now ≡ turns step.live step.live_after → facts.now ≡ step.after
+            → KnowsTouched step.before step.after touched.now
+            → IsAudit (steps ++ step ∷ []) audit) }
     {
         reg_effect::law_turns();
         let Audit { mut records, past } = self;
@@ -78,7 +84,8 @@ impl Audit {
     /// The next step may be noted: nothing was noted later than its moment, and each assignment
     /// that it makes has a later id than all that were noted. It does nothing.
     pub fn law_follows(&self)
-        ensures { (steps : List Step) (step : Step) → IsAudit steps self.now → FollowsOn steps step → MayNote step.at (assign_changes step.events) self.now.past }
+        ensures { (steps : List Step) (step : Step) → IsAudit steps self.now → FollowsOn steps step
+            → MayNote step.at (assign_changes step.events) self.now.past }
     {
         self.past.law_noted_later();
     }
@@ -92,7 +99,8 @@ impl Audit {
 
     /// How far each consumer has read. Takes no memory.
     pub fn places(&self) -> &Places
-        ensures { (steps : List Step) → IsAudit steps self.now → (name : List ℕ) → place_of result.now name ≡ consumer_place name (consumers_by steps) }
+        ensures { (steps : List Step) → IsAudit steps self.now → (name : List ℕ)
+            → place_of result.now name ≡ consumer_place name (consumers_by steps) }
     {
         &self.records.places
     }
@@ -100,17 +108,23 @@ impl Audit {
     /// Who was an effective member at each moment, who held which privilege on what, which was the
     /// wheel group, and what was assigned. Takes no memory.
     pub fn past(&self) -> &Past
-        ensures members { (steps : List Step) → IsAudit steps self.now → (t g s : ℕ) → was_member result.now g s t ≡ member (live_by t steps) g s }
-        ensures granted { (steps : List Step) → IsAudit steps self.now → (t : ℕ) (o : Object) (p : Privilege) (h : Holder) → was_granted result.now o p h t ≡ has_grant (grants o (facts_by t steps)) p h }
-        ensures wheel { (steps : List Step) → IsAudit steps self.now → (t : ℕ) → wheel_at result.now t ≡ wheel (facts_by t steps) }
-        ensures assigns { (steps : List Step) → IsAudit steps self.now → (t : ℕ) → assigns_at result.now t ≡ (facts_by t steps).assigns }
-        ensures noted { (steps : List Step) → IsAudit steps self.now → NotedBy (last_moment steps) result.now }
+        ensures members { (steps : List Step) → IsAudit steps self.now → (t g s : ℕ)
+            → was_member result.now g s t ≡ member (live_by t steps) g s }
+        ensures granted { (steps : List Step) → IsAudit steps self.now
+            → (t : ℕ) (o : Object) (p : Privilege) (h : Holder)
+            → was_granted result.now o p h t ≡ has_grant (grants o (facts_by t steps)) p h }
+        ensures wheel { (steps : List Step) → IsAudit steps self.now → (t : ℕ)
+            → wheel_at result.now t ≡ wheel (facts_by t steps) }
+        ensures assigns { (steps : List Step) → IsAudit steps self.now → (t : ℕ)
+            → assigns_at result.now t ≡ (facts_by t steps).assigns }
+        ensures noted { (steps : List Step) → IsAudit steps self.now
+            → NotedBy (last_moment steps) result.now }
     {
         &self.past
     }
 
-    /// When an object was made and when it went: none if it was never made. The root folder was made
-    /// at 0. Takes no memory.
+    /// When an object was made and when it went: none if it was never made. The root folder was
+    /// made at 0. Takes no memory.
     pub fn life(&self, object: Object) -> Option<(Moment, Option<Moment>)>
         ensures { (steps : List Step) → IsAudit steps self.now → result ≡ life_of object steps }
     {
@@ -119,7 +133,8 @@ impl Audit {
 
     /// The definition of which an attribute was made: none if it was never made. Takes no memory.
     pub fn def_of(&self, attribute: AttrId) -> Option<AttrDefId>
-        ensures { (steps : List Step) → IsAudit steps self.now → result ≡ definition_in attribute steps }
+        ensures { (steps : List Step) → IsAudit steps self.now
+            → result ≡ definition_in attribute steps }
     {
         self.records.definitions.of(attribute)
     }
@@ -133,14 +148,16 @@ impl Audit {
 
     /// The name that an object had when it went: none if it isn't gone. Takes no memory.
     pub fn gone_name(&self, object: Object) -> Option<&Text>
-        ensures { (steps : List Step) → IsAudit steps self.now → option_copied result ≡ gone_name object steps }
+        ensures { (steps : List Step) → IsAudit steps self.now
+            → option_copied result ≡ gone_name object steps }
     {
         self.records.departed.name(object)
     }
 
     /// The group that went last with this name. Takes no memory.
     pub fn gone_named(&self, name: &str) -> Option<GroupId>
-        ensures { (steps : List Step) → IsAudit steps self.now → result ≡ gone_named name.now steps }
+        ensures { (steps : List Step) → IsAudit steps self.now
+            → result ≡ gone_named name.now steps }
     {
         self.records.departed.named(name)
     }

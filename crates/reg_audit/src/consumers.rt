@@ -54,7 +54,8 @@ pub(crate) fn consumer_notes(
 
 /// The places after this was done to a consumer.
 fn note_consumer(places: &mut Places, note: &ConsumerNote) -> Result<(), AllocError>
-    ensures { OnOk result ((n : List ℕ) → place_of places.new n ≡ place_after n (place_of places.old n) note.now) }
+    ensures { OnOk result ((n : List ℕ)
+        → place_of places.new n ≡ place_after n (place_of places.old n) note.now) }
 {
     let name = note.name.bytes();
     if note.is_new {
@@ -69,7 +70,8 @@ fn note_consumer(places: &mut Places, note: &ConsumerNote) -> Result<(), AllocEr
 
 /// The places after this was done to consumers, one after another.
 pub(crate) fn note_consumers(places: &mut Places, notes: &[ConsumerNote]) -> Result<(), AllocError>
-    ensures { OnOk result ((n : List ℕ) → place_of places.new n ≡ places_after n (place_of places.old n) notes.now) }
+    ensures { OnOk result ((n : List ℕ)
+        → place_of places.new n ≡ places_after n (place_of places.old n) notes.now) }
 {
     for note in notes {
         note_consumer(places, note)?;

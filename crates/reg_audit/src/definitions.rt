@@ -1,5 +1,6 @@
 // Of which definition each attribute was made.
-ghost use Rattle.std.specs.Prelude.{◌≡◌, ◌==◌, ℕ, IfOk, OnOk, None, Some, filter_map, if◌then◌else◌};
+ghost use Rattle.std.specs.Prelude.{◌≡◌, ◌==◌, ℕ, IfOk, OnOk, None, Some, filter_map};
+ghost use Rattle.std.specs.Prelude.{if◌then◌else◌};
 ghost use Rattle.reg_audit.specs.Definitions.{attribute_made, attributes_made, last_definition};
 ghost use Rattle.reg_audit.specs.Kept.{defined_in};
 
@@ -59,7 +60,9 @@ impl Definitions {
 
     /// An attribute is made.
     fn add(&mut self, attribute: AttrId, definition: AttrDefId) -> Result<(), AllocError>
-        ensures { OnOk result ((a : ℕ) → defined_in self.new a ≡ (if attribute == a then Some definition else defined_in self.old a)) }
+        ensures { OnOk result ((a : ℕ)
+            → defined_in self.new a ≡ (if attribute == a then Some definition
+            else defined_in self.old a)) }
     {
         self.made.insert(attribute, definition)?;
         Ok(())
@@ -67,7 +70,8 @@ impl Definitions {
 
     /// Attributes are made, one after another.
     pub(crate) fn add_all(&mut self, made: &[(AttrId, AttrDefId)]) -> Result<(), AllocError>
-        ensures { OnOk result ((a : ℕ) → defined_in self.new a ≡ last_definition a (defined_in self.old a) made.now) }
+        ensures { OnOk result ((a : ℕ)
+            → defined_in self.new a ≡ last_definition a (defined_in self.old a) made.now) }
     {
         for pair in made {
             self.add(pair.0, pair.1)?;

@@ -59,7 +59,9 @@ impl Departed {
 
     /// A group goes with a name.
     fn add_group(&mut self, alloc: Global, group: GroupId, name: &Text) -> Result<(), AllocError>
-        ensures named { OnOk result ((other : List ℕ) → named_in self.new other ≡ (if bytes_eq name.now other then Some group else named_in self.old other)) }
+        ensures named { OnOk result ((other : List ℕ)
+            → named_in self.new other
+            ≡ (if bytes_eq name.now other then Some group else named_in self.old other)) }
         ensures groups { OnOk result (self.new.groups.items ≡ self.old.groups.items ++ group ∷ []) }
         ensures names { self.new.names ≡ self.old.names }
     {
@@ -71,9 +73,13 @@ impl Departed {
 
     /// An object goes.
     fn add(&mut self, alloc: Global, gone: &Gone) -> Result<(), AllocError>
-        ensures names { OnOk result ((o : Object) → name_in self.new o ≡ (if same_object gone.now.object o then Some gone.now.name else name_in self.old o)) }
-        ensures named { OnOk result ((name : List ℕ) → named_in self.new name ≡ named_or name (named_in self.old name) gone.now) }
-        ensures groups { OnOk result (self.new.groups.items ≡ self.old.groups.items ++ groups_of (gone.now ∷ [])) }
+        ensures names { OnOk result ((o : Object)
+            → name_in self.new o ≡ (if same_object gone.now.object o then Some gone.now.name
+            else name_in self.old o)) }
+        ensures named { OnOk result ((name : List ℕ)
+            → named_in self.new name ≡ named_or name (named_in self.old name) gone.now) }
+        ensures groups { OnOk result (self.new.groups.items
+            ≡ self.old.groups.items ++ groups_of (gone.now ∷ [])) }
     {
         let name = gone.name.copy(alloc)?;
         if let Some(group) = gone.object.group() {
@@ -85,9 +91,12 @@ impl Departed {
 
     /// Objects go, one after another.
     pub(crate) fn add_all(&mut self, alloc: Global, gone: &[Gone]) -> Result<(), AllocError>
-        ensures names { OnOk result ((o : Object) → name_in self.new o ≡ last_name o (name_in self.old o) gone.now) }
-        ensures named { OnOk result ((name : List ℕ) → named_in self.new name ≡ last_named name (named_in self.old name) gone.now) }
-        ensures groups { OnOk result (self.new.groups.items ≡ self.old.groups.items ++ groups_of gone.now) }
+        ensures names { OnOk result ((o : Object)
+            → name_in self.new o ≡ last_name o (name_in self.old o) gone.now) }
+        ensures named { OnOk result ((name : List ℕ)
+            → named_in self.new name ≡ last_named name (named_in self.old name) gone.now) }
+        ensures groups { OnOk result (self.new.groups.items
+            ≡ self.old.groups.items ++ groups_of gone.now) }
     {
         for one in gone {
             self.add(alloc, one)?;

@@ -26,7 +26,10 @@ fn note_holders(
     at: Moment,
 ) -> Result<Past, AllocError>
     requires { NotedBy at past }
-    ensures noted { IfOk result (λ new. (o : Object) (p : Privilege) (h : Holder) (t : ℕ) → was_granted new o p h t ≡ (if same_object o object && nat_le at t then has_grant (grants object facts.now) p h else was_granted past o p h t)) }
+    ensures noted { IfOk result (λ new. (o : Object) (p : Privilege) (h : Holder) (t : ℕ)
+        → was_granted new o p h t
+        ≡ (if same_object o object && nat_le at t then has_grant (grants object facts.now) p h
+        else was_granted past o p h t)) }
     ensures members { IfOk result (λ new. KeepsMembers past new) }
     ensures wheel { IfOk result (λ new. KeepsWheel past new) }
     ensures assigns { IfOk result (λ new. KeepsAssigns past new) }
@@ -47,7 +50,10 @@ pub(crate) fn note_touched(
     at: Moment,
 ) -> Result<Past, AllocError>
     requires { NotedBy at past }
-    ensures noted { IfOk result (λ new. (o : Object) (p : Privilege) (h : Holder) (t : ℕ) → was_granted new o p h t ≡ (if is_listed o touched.now && nat_le at t then has_grant (grants o facts.now) p h else was_granted past o p h t)) }
+    ensures noted { IfOk result (λ new. (o : Object) (p : Privilege) (h : Holder) (t : ℕ)
+        → was_granted new o p h t
+        ≡ (if is_listed o touched.now && nat_le at t then has_grant (grants o facts.now) p h
+        else was_granted past o p h t)) }
     ensures members { IfOk result (λ new. KeepsMembers past new) }
     ensures wheel { IfOk result (λ new. KeepsWheel past new) }
     ensures assigns { IfOk result (λ new. KeepsAssigns past new) }

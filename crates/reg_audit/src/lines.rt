@@ -1,6 +1,8 @@
 // The entries of events, of what rules did, and of memberships that begin or end.
 ghost use Rattle.std.specs.Prelude.{◌≡◌};
-ghost use Rattle.reg_audit.specs.Lines.{acted_line, action_line, assign_line, assign_owner, line_of, object_line, row_line, number_line, grant_line, entity_of, turn_line};
+ghost use Rattle.reg_audit.specs.Lines.{acted_line, action_line, assign_line, assign_owner};
+ghost use Rattle.reg_audit.specs.Lines.{line_of, object_line, row_line, number_line, grant_line};
+ghost use Rattle.reg_audit.specs.Lines.{entity_of, turn_line};
 ghost use Rattle.reg_terms.specs.declared.kinds.Object.TheVariants as object;
 
 use reg_base::{
@@ -103,7 +105,8 @@ fn grant_line(at: Moment, kind: EntryKind, row: &GrantRow) -> Line
 
 /// An entry of an inherit.
 fn inherit_line(at: Moment, kind: EntryKind, row: &InheritRow) -> Line
-    ensures { result ≡ grant_line at kind (object.Folder row.now.folder) row.now.holder row.now.privilege }
+    ensures { result ≡ grant_line at kind
+        (object.Folder row.now.folder) row.now.holder row.now.privilege }
 {
     privilege_line(
         at,

@@ -60,7 +60,9 @@ impl Lives {
 
     /// The object is made at a moment.
     fn begin(&mut self, object: Object, at: Moment) -> Result<(), AllocError>
-        ensures { OnOk result ((o : Object) → life_in self.new o ≡ (if same_object object o then Some (at, None) else life_in self.old o)) }
+        ensures { OnOk result ((o : Object)
+            → life_in self.new o ≡ (if same_object object o then Some (at, None)
+            else life_in self.old o)) }
     {
         self.gone.remove(&object);
         self.made.insert(object, at)?;
@@ -69,7 +71,9 @@ impl Lives {
 
     /// The object goes at a moment.
     fn end(&mut self, object: Object, at: Moment) -> Result<(), AllocError>
-        ensures { OnOk result ((o : Object) → life_in self.new o ≡ (if same_object object o then option_map (λ l. (l.0, Some at)) (life_in self.old o) else life_in self.old o)) }
+        ensures { OnOk result ((o : Object)
+            → life_in self.new o ≡ (if same_object object o
+            then option_map (λ l. (l.0, Some at)) (life_in self.old o) else life_in self.old o)) }
     {
         if let Some(made) = self.made(&object) {
             // The root stands in no map before it goes.
@@ -81,7 +85,8 @@ impl Lives {
 
     /// Objects are made at a moment.
     pub(crate) fn begin_all(&mut self, made: &[Object], at: Moment) -> Result<(), AllocError>
-        ensures { OnOk result ((o : Object) → life_in self.new o ≡ begun at made.now o (life_in self.old o)) }
+        ensures { OnOk result ((o : Object)
+            → life_in self.new o ≡ begun at made.now o (life_in self.old o)) }
     {
         for object in made {
             self.begin(*object, at)?;
@@ -91,7 +96,8 @@ impl Lives {
 
     /// Objects go at a moment.
     pub(crate) fn end_all(&mut self, gone: &[Gone], at: Moment) -> Result<(), AllocError>
-        ensures { OnOk result ((o : Object) → life_in self.new o ≡ ended at (map (λ g. g.object) gone.now) o (life_in self.old o)) }
+        ensures { OnOk result ((o : Object)
+            → life_in self.new o ≡ ended at (map (λ g. g.object) gone.now) o (life_in self.old o)) }
     {
         for one in gone {
             self.end(one.object, at)?;

@@ -85,7 +85,14 @@ fn add_line(
     entity: Option<Holder>,
     number: u32,
 ) -> Result<(), AllocError>
-    ensures { OnOk result (lines.new.items ≡ lines.old.items ++ record { at = at; kind = kind; object = object; entity = entity; number = number } ∷ []) }
+    ensures { OnOk result (lines.new.items
+        ≡ lines.old.items ++ record {
+          at = at;
+          kind = kind;
+          object = object;
+          entity = entity;
+          number = number;
+        } ∷ []) }
 {
     lines.push(Line {
         at,

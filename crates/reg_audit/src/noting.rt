@@ -1,12 +1,14 @@
 // What a step adds to the log and to the past: lines, assignments, turned memberships, grants, the
 // wheel group.
-ghost use Rattle.std.specs.Prelude.{◌≡◌, ◌&&◌, ◌++◌, ◌∷◌, [], ℕ, map, nat_le, IfOk, OnOk, if◌then◌else◌};
+ghost use Rattle.std.specs.Prelude.{◌≡◌, ◌&&◌, ◌++◌, ◌∷◌, [], ℕ, map, nat_le, IfOk, OnOk};
+ghost use Rattle.std.specs.Prelude.{if◌then◌else◌};
 ghost use Rattle.reg_base.specs.declared.privilege.Privilege.{Privilege};
 ghost use Rattle.reg_terms.specs.declared.kinds.Object.{Object};
 ghost use Rattle.reg_terms.specs.declared.kinds.Holder.{Holder};
 ghost use Rattle.reg_effect.specs.Turned.{after_turns};
 ghost use Rattle.reg_pit.specs.Grants.{has_grant};
-ghost use Rattle.reg_pit.specs.Past.{assigns_at, last_assign, was_member, was_granted, wheel_at, NotedBy, KeepsMembers, KeepsGrants, KeepsWheel, KeepsAssigns};
+ghost use Rattle.reg_pit.specs.Past.{assigns_at, last_assign, was_member, was_granted, wheel_at};
+ghost use Rattle.reg_pit.specs.Past.{NotedBy, KeepsMembers, KeepsGrants, KeepsWheel, KeepsAssigns};
 ghost use Rattle.reg_priv.specs.Grants.{grants};
 ghost use Rattle.reg_priv.specs.May.{wheel};
 ghost use Rattle.reg_priv.specs.Touched.{is_listed};
@@ -60,8 +62,11 @@ pub(crate) fn log_turns(
 /// up.
 fn note_assigns(past: Past, changes: Vec<AssignChange>, at: Moment) -> Result<Past, AllocError>
     requires { MayNote at changes.items past }
-    ensures noted { IfOk result (λ new. (t : ℕ) → assigns_at new t ≡ (if nat_le at t then all_changed changes.items (assigns_at past t) else assigns_at past t)) }
-    ensures greatest { IfOk result (λ new. last_assign new ≡ last_after_all changes.items (last_assign past)) }
+    ensures noted { IfOk result (λ new. (t : ℕ)
+        → assigns_at new t ≡ (if nat_le at t then all_changed changes.items (assigns_at past t)
+        else assigns_at past t)) }
+    ensures greatest { IfOk result (λ new. last_assign new
+        ≡ last_after_all changes.items (last_assign past)) }
     ensures members { IfOk result (λ new. KeepsMembers past new) }
     ensures grants { IfOk result (λ new. KeepsGrants past new) }
     ensures wheel { IfOk result (λ new. KeepsWheel past new) }
@@ -82,7 +87,9 @@ fn note_turns(
     at: Moment,
 ) -> Result<Past, AllocError>
     requires { NotedBy at past }
-    ensures noted { IfOk result (λ new. (g s t : ℕ) → was_member new g s t ≡ (if nat_le at t then after_turns turned.now g s (was_member past g s t) else was_member past g s t)) }
+    ensures noted { IfOk result (λ new. (g s t : ℕ)
+        → was_member new g s t ≡ (if nat_le at t
+        then after_turns turned.now g s (was_member past g s t) else was_member past g s t)) }
     ensures grants { IfOk result (λ new. KeepsGrants past new) }
     ensures wheel { IfOk result (λ new. KeepsWheel past new) }
     ensures assigns { IfOk result (λ new. KeepsAssigns past new) }
@@ -108,11 +115,20 @@ pub(crate) fn note_past(
     at: Moment,
 ) -> Result<Past, AllocError>
     requires { MayNote at changes.items past }
-    ensures members { IfOk result (λ new. (g s t : ℕ) → was_member new g s t ≡ (if nat_le at t then after_turns turned.now g s (was_member past g s t) else was_member past g s t)) }
-    ensures grants { IfOk result (λ new. (o : Object) (p : Privilege) (h : Holder) (t : ℕ) → was_granted new o p h t ≡ (if is_listed o touched.now && nat_le at t then has_grant (grants o facts.now) p h else was_granted past o p h t)) }
-    ensures wheel { IfOk result (λ new. (t : ℕ) → wheel_at new t ≡ (if nat_le at t then wheel facts.now else wheel_at past t)) }
-    ensures assigns { IfOk result (λ new. (t : ℕ) → assigns_at new t ≡ (if nat_le at t then all_changed changes.items (assigns_at past t) else assigns_at past t)) }
-    ensures greatest { IfOk result (λ new. last_assign new ≡ last_after_all changes.items (last_assign past)) }
+    ensures members { IfOk result (λ new. (g s t : ℕ)
+        → was_member new g s t ≡ (if nat_le at t
+        then after_turns turned.now g s (was_member past g s t) else was_member past g s t)) }
+    ensures grants { IfOk result (λ new. (o : Object) (p : Privilege) (h : Holder) (t : ℕ)
+        → was_granted new o p h t
+        ≡ (if is_listed o touched.now && nat_le at t then has_grant (grants o facts.now) p h
+        else was_granted past o p h t)) }
+    ensures wheel { IfOk result (λ new. (t : ℕ)
+        → wheel_at new t ≡ (if nat_le at t then wheel facts.now else wheel_at past t)) }
+    ensures assigns { IfOk result (λ new. (t : ℕ)
+        → assigns_at new t ≡ (if nat_le at t then all_changed changes.items (assigns_at past t)
+        else assigns_at past t)) }
+    ensures greatest { IfOk result (λ new. last_assign new
+        ≡ last_after_all changes.items (last_assign past)) }
     ensures last { IfOk result (λ new. NotedBy at new) }
 {
     let with_assigns = note_assigns(past, changes, at)?;

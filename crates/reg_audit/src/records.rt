@@ -56,13 +56,26 @@ impl Records {
         notes: &Notes,
         turned: &[(GroupId, SubjectId, bool)],
     ) -> Result<(), AllocError>
-        ensures log { OnOk result (self.new.log ≡ self.old.log ++ (notes.now.lines ++ map (turn_line notes.now.at) turned.now)) }
-        ensures lives { OnOk result ((o : Object) → life_in self.new.lives o ≡ ended notes.now.at (map (λ g. g.object) notes.now.gone) o (begun notes.now.at notes.now.made o (life_in self.old.lives o))) }
-        ensures names { OnOk result ((o : Object) → name_in self.new.departed o ≡ last_name o (name_in self.old.departed o) notes.now.gone) }
-        ensures named { OnOk result ((name : List ℕ) → named_in self.new.departed name ≡ last_named name (named_in self.old.departed name) notes.now.gone) }
-        ensures groups { OnOk result (self.new.departed.groups.items ≡ self.old.departed.groups.items ++ groups_of notes.now.gone) }
-        ensures defined { OnOk result ((a : ℕ) → defined_in self.new.definitions a ≡ last_definition a (defined_in self.old.definitions a) notes.now.attributes) }
-        ensures places { OnOk result ((name : List ℕ) → place_of self.new.places name ≡ places_after name (place_of self.old.places name) notes.now.consumers) }
+        ensures log { OnOk result (self.new.log
+            ≡ self.old.log ++ (notes.now.lines ++ map (turn_line notes.now.at) turned.now)) }
+        ensures lives { OnOk result ((o : Object)
+            → life_in self.new.lives o
+            ≡ ended notes.now.at (map (λ g. g.object) notes.now.gone) o
+            (begun notes.now.at notes.now.made o (life_in self.old.lives o))) }
+        ensures names { OnOk result ((o : Object)
+            → name_in self.new.departed o
+            ≡ last_name o (name_in self.old.departed o) notes.now.gone) }
+        ensures named { OnOk result ((name : List ℕ)
+            → named_in self.new.departed name
+            ≡ last_named name (named_in self.old.departed name) notes.now.gone) }
+        ensures groups { OnOk result (self.new.departed.groups.items
+            ≡ self.old.departed.groups.items ++ groups_of notes.now.gone) }
+        ensures defined { OnOk result ((a : ℕ)
+            → defined_in self.new.definitions a
+            ≡ last_definition a (defined_in self.old.definitions a) notes.now.attributes) }
+        ensures places { OnOk result ((name : List ℕ)
+            → place_of self.new.places name
+            ≡ places_after name (place_of self.old.places name) notes.now.consumers) }
     {
         log_lines(&mut self.log, &notes.lines)?;
         log_turns(&mut self.log, notes.at, turned)?;

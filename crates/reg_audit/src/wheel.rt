@@ -1,5 +1,6 @@
 // The wheel group after a step.
-ghost use Rattle.std.specs.Prelude.{◌≡◌, ℕ, nat_le, Decides, IfOk, Option, None, Some, if◌then◌else◌};
+ghost use Rattle.std.specs.Prelude.{◌≡◌, ℕ, nat_le, Decides, IfOk, Option, None, Some};
+ghost use Rattle.std.specs.Prelude.{if◌then◌else◌};
 ghost use Rattle.reg_pit.specs.Past.{wheel_at, NotedBy, KeepsMembers, KeepsGrants, KeepsAssigns};
 
 use reg_base::{GroupId, Moment};
@@ -24,7 +25,8 @@ fn is_same(group: &Option<GroupId>, other: &Option<GroupId>) -> bool
 #[tactic(auto, using(crate::proofs::Granting::wheel_stays))]
 pub(crate) fn note_wheel(past: Past, wheel: Option<GroupId>, at: Moment) -> Result<Past, AllocError>
     requires { NotedBy at past }
-    ensures noted { IfOk result (λ new. (t : ℕ) → wheel_at new t ≡ (if nat_le at t then wheel else wheel_at past t)) }
+    ensures noted { IfOk result (λ new. (t : ℕ)
+        → wheel_at new t ≡ (if nat_le at t then wheel else wheel_at past t)) }
     ensures members { IfOk result (λ new. KeepsMembers past new) }
     ensures grants { IfOk result (λ new. KeepsGrants past new) }
     ensures assigns { IfOk result (λ new. KeepsAssigns past new) }

@@ -1,5 +1,6 @@
 -- The proleptic Gregorian calendar, from 1970 to 9999, and the days since 1970-01-01.
-use Rattle.std.specs.Prelude.{ℕ, zero, suc, ◌+◌, ◌-◌, Bool, ◌&&◌, nat_le, nat_lt, if◌then◌else◌, pos, unsigned_abs}
+use Rattle.std.specs.Prelude.{ℕ, zero, suc, ◌+◌, ◌-◌, Bool, ◌&&◌, nat_le, nat_lt, if◌then◌else◌}
+use Rattle.std.specs.Prelude.{pos, unsigned_abs}
 use Rattle.jiff_core.specs.Calendar.{days_in_year, days_in_month, days_from_civil}
 use Rattle.reg_base.specs.declared.calendar.Day.{Day}
 
@@ -9,7 +10,9 @@ day_micros = 86_400_000_000
 
 -- the calendar has this day, in a year from 1970 to 9999
 abbrev pub day_exists : ℕ → ℕ → ℕ → Bool
-day_exists year month day = nat_le 1970 year && nat_le year 9999 && nat_le 1 month && nat_le month 12 && nat_le 1 day && nat_le day (days_in_month (pos year) month)
+day_exists year month day =
+    nat_le 1970 year && nat_le year 9999 && nat_le 1 month && nat_le month 12 && nat_le 1 day
+    && nat_le day (days_in_month (pos year) month)
 
 -- how many days a day lies after 1970-01-01
 abbrev pub day_number : ℕ → ℕ → ℕ → ℕ
@@ -19,7 +22,8 @@ day_number year month day = unsigned_abs (days_from_civil (pos year) month day)
 unfoldable pub day_from_month : ℕ → ℕ → ℕ → ℕ → Day
 day_from_month zero year month n = record { year = year; month = month; day = n + 1 }
 day_from_month (suc more) year month n =
-    if nat_lt n (days_in_month (pos year) month) then record { year = year; month = month; day = n + 1 }
+    if nat_lt n (days_in_month (pos year) month)
+    then record { year = year; month = month; day = n + 1 }
     else day_from_month more year (month + 1) (n - days_in_month (pos year) month)
 
 -- the day that lies n days after 1 January of this year, where `more` years may follow

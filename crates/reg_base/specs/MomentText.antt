@@ -1,5 +1,8 @@
--- The text of a moment: the shape of RFC 3339 in UTC, with a `T`, a `Z` and at most six digits of a second's fraction.
-use Rattle.std.specs.Prelude.{ℕ, List, [], ◌∷◌, ◌++◌, ◌+◌, ◌-◌, ◌*◌, ◌/◌, ◌%◌, Bool, true, false, ◌&&◌, ◌||◌, ◌==◌, nat_le, if◌then◌else◌, Option, Some, None, codes, length, take, drop, slice_index}
+-- The text of a moment: the shape of RFC 3339 in UTC, with a `T`, a `Z` and at most six digits of a
+-- second's fraction.
+use Rattle.std.specs.Prelude.{ℕ, List, [], ◌∷◌, ◌++◌, ◌+◌, ◌-◌, ◌*◌, ◌/◌, ◌%◌, Bool, true, false}
+use Rattle.std.specs.Prelude.{◌&&◌, ◌||◌, ◌==◌, nat_le, if◌then◌else◌, Option, Some, None, codes}
+use Rattle.std.specs.Prelude.{length, take, drop, slice_index}
 use Rattle.reg_base.specs.declared.calendar.Day.{Day}
 use Rattle.reg_base.specs.Calendar.{day_micros, day_exists, day_number, day_of}
 
@@ -28,7 +31,9 @@ has_length n = (n == 20) || (nat_le 22 n && nat_le n 27)
 
 -- the text with the point and the zeros that it leaves out before its last byte
 abbrev pub full_text : List ℕ → List ℕ
-full_text text = take (length text - 1) text ++ take (27 - length text) (drop (length text - 1) full_shape) ++ drop (length text - 1) text
+full_text text =
+    take (length text - 1) text ++ take (27 - length text) (drop (length text - 1) full_shape)
+    ++ drop (length text - 1) text
 
 -- the value of a digit, and 0 for other bytes, which the shape refuses
 abbrev pub digit : ℕ → ℕ
@@ -48,11 +53,13 @@ fraction_at text = 10_000 * two_at text 20 + 100 * two_at text 22 + two_at text 
 
 -- hours are 00 to 23, minutes and seconds 00 to 59
 abbrev pub is_time : List ℕ → Bool
-is_time text = nat_le (two_at text 11) 23 && nat_le (two_at text 14) 59 && nat_le (two_at text 17) 59
+is_time text =
+    nat_le (two_at text 11) 23 && nat_le (two_at text 14) 59 && nat_le (two_at text 17) 59
 
 -- the microseconds since midnight that a text in full names
 abbrev pub time_at : List ℕ → ℕ
-time_at text = ((two_at text 11 * 60 + two_at text 14) * 60 + two_at text 17) * 1_000_000 + fraction_at text
+time_at text =
+    ((two_at text 11 * 60 + two_at text 14) * 60 + two_at text 17) * 1_000_000 + fraction_at text
 
 -- the calendar has the day that a text in full names
 abbrev pub is_day : List ℕ → Bool
@@ -65,7 +72,8 @@ day_at text = day_number (year_at text) (two_at text 5) (two_at text 8)
 -- the moment of a text in full: its days and the time of its day, in microseconds
 unfoldable pub moment_in_full : List ℕ → Option ℕ
 moment_in_full text =
-    if fits full_shape text && is_day text && is_time text then Some (day_at text * day_micros + time_at text) else None
+    if fits full_shape text && is_day text && is_time text
+    then Some (day_at text * day_micros + time_at text) else None
 
 -- the moment of a text, where it is the text of one
 unfoldable pub moment_of : List ℕ → Option ℕ
@@ -77,11 +85,17 @@ two_digits n = (48 + n / 10 % 10) ∷ (48 + n % 10) ∷ []
 
 -- a day, as YYYY-MM-DD
 abbrev pub date_text : Day → List ℕ
-date_text day = two_digits (day.year / 100) ++ two_digits day.year ++ codes "-" ++ two_digits day.month ++ codes "-" ++ two_digits day.day
+date_text day =
+    two_digits (day.year / 100) ++ two_digits day.year ++ codes "-" ++ two_digits day.month
+    ++ codes "-" ++ two_digits day.day
 
 -- the microseconds since midnight, as hh:mm:ss.ffffff
 abbrev pub time_text : ℕ → List ℕ
-time_text micros = two_digits (micros / 3_600_000_000) ++ codes ":" ++ two_digits (micros / 60_000_000 % 60) ++ codes ":" ++ two_digits (micros / 1_000_000 % 60) ++ codes "." ++ two_digits (micros / 10_000 % 100) ++ two_digits (micros / 100 % 100) ++ two_digits (micros % 100)
+time_text micros =
+    two_digits (micros / 3_600_000_000) ++ codes ":" ++ two_digits (micros / 60_000_000 % 60)
+    ++ codes ":" ++ two_digits (micros / 1_000_000 % 60) ++ codes "."
+    ++ two_digits (micros / 10_000 % 100) ++ two_digits (micros / 100 % 100)
+    ++ two_digits (micros % 100)
 
 -- a day and a time in one text
 unfoldable pub stamp : Day → ℕ → List ℕ

@@ -20,7 +20,8 @@ pub(crate) fn day_number(year: u16, month: u8, day: u8) -> Option<u32>
     requires year_in { year ≤ 9999 }
     requires month_in { month ≤ 99 }
     requires day_in { day ≤ 99 }
-    ensures value { result ≡ (if day_exists year month day then Some (day_number year month day) else None) }
+    ensures value { result ≡ (if day_exists year month day then Some (day_number year month day)
+        else None) }
     ensures bound { IfSome result (λ n. n ≤ 2_932_896) }
 {
     if year < 1970 {

@@ -46,8 +46,9 @@ fn person_entity(alloc: Global, text: &[u8]) -> Result<Option<Entity>, AllocErro
 }
 
 impl Entity {
-    /// The entity that a text names: `source/id` a person, `g:gsa/` and a name a group, `g:isa/GrouperSystem` and
-    /// `g:isa/GrouperAll` the two internal ones. None exactly for every other text; the only error is out of memory.
+    /// The entity that a text names: `source/id` a person, `g:gsa/` and a name a group,
+    /// `g:isa/GrouperSystem` and `g:isa/GrouperAll` the two internal ones. None exactly for every
+    /// other text; the only error is out of memory.
     #[tactic(auto, unfolding(crate::specs::Entities::entity_of))]
     pub fn parse(alloc: Global, text: &[u8]) -> Result<Option<Entity>, AllocError>
         ensures { IfOk result (λ found. found ≡ entity_of text.now) }

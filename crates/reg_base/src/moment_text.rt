@@ -1,7 +1,11 @@
 // The text of a moment, read and printed, and the moment some days later.
-ghost use Rattle.std.specs.Prelude.{◌≡◌, ℕ, ◌+◌, ◌*◌, ◌/◌, ◌%◌, ◌<◌, ◌≤◌, length, SomeIff, Some, None, IfSome, if◌then◌else◌};
+ghost use Rattle.std.specs.Prelude.{◌≡◌, ℕ, ◌+◌, ◌*◌, ◌/◌, ◌%◌, ◌<◌, ◌≤◌, length, SomeIff, Some};
+ghost use Rattle.std.specs.Prelude.{None, IfSome, if◌then◌else◌};
 ghost use Rattle.reg_base.specs.Calendar.{day_micros};
-ghost use Rattle.reg_base.specs.MomentText.{full_shape, fits_mark, fits, has_length, full_text, digit, two_at, year_at, fraction_at, is_time, time_at, is_day, day_at, moment_in_full, moment_of, stamp, text_of};
+ghost use Rattle.reg_base.specs.MomentText.{full_shape, fits_mark, fits, has_length, full_text};
+ghost use Rattle.reg_base.specs.MomentText.{digit, two_at, year_at, fraction_at, is_time, time_at};
+ghost use Rattle.reg_base.specs.MomentText.{is_day, day_at, moment_in_full, moment_of, stamp};
+ghost use Rattle.reg_base.specs.MomentText.{text_of};
 
 use crate::calendar::{Day, day_number, day_of};
 use crate::moment::{GREATEST_MOMENT, Moment};
@@ -189,10 +193,11 @@ fn stamp(day: Day, micros: u64) -> [u8; 27]
 }
 
 impl Moment {
-    /// The moment that a text names: `YYYY-MM-DDThh:mm:ssZ`, with optionally a point and 1 to 6 digits after the
-    /// seconds. None exactly where the text has another shape, the day doesn't exist from 1970 to 9999, or the hour is
-    /// past 23 or the minute or second past 59. What it takes is printed again with all six digits and else
-    /// unchanged. It takes no memory. RFC 3339, narrowed: no offset but `Z`, no leap second, no small letters.
+    /// The moment that a text names: `YYYY-MM-DDThh:mm:ssZ`, with optionally a point and 1 to 6
+    /// digits after the seconds. None exactly where the text has another shape, the day doesn't
+    /// exist from 1970 to 9999, or the hour is past 23 or the minute or second past 59. What it
+    /// takes is printed again with all six digits and else unchanged. It takes no memory. RFC 3339,
+    /// narrowed: no offset but `Z`, no leap second, no small letters.
     #[tactic(auto, unfolding(crate::specs::MomentText::moment_of))]
     pub fn parse(text: &[u8]) -> Option<Moment>
         ensures value { result ≡ moment_of text.now }
@@ -204,8 +209,8 @@ impl Moment {
         moment_in_full(&full_text(text))
     }
 
-    /// The text of the moment, `YYYY-MM-DDThh:mm:ss.ffffffZ` in UTC, always with six digits of a fraction. `parse`
-    /// gives the moment back. It takes no memory.
+    /// The text of the moment, `YYYY-MM-DDThh:mm:ss.ffffffZ` in UTC, always with six digits of a
+    /// fraction. `parse` gives the moment back. It takes no memory.
     #[tactic(auto, unfolding(crate::specs::MomentText::text_of))]
     pub fn text(self) -> [u8; 27]
         ensures value { result ≡ text_of self }
@@ -215,9 +220,11 @@ impl Moment {
         stamp(day, self.micros() % DAY_MICROS)
     }
 
-    /// The moment this many days of 86,400,000,000 microseconds later. None exactly past the greatest moment.
+    /// The moment this many days of 86,400,000,000 microseconds later. None exactly past the
+    /// greatest moment.
     pub fn plus_days(self, days: u32) -> Option<Moment>
-        ensures { SomeIff result (self + days * day_micros ≤ GREATEST_MOMENT) (self + days * day_micros) }
+        ensures { SomeIff result (self + days * day_micros
+            ≤ GREATEST_MOMENT) (self + days * day_micros) }
     {
         let span = u64::from(days).checked_mul(DAY_MICROS)?;
         let micros = self.micros().checked_add(span)?;

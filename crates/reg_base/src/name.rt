@@ -6,7 +6,8 @@ use crate::names::is_name;
 use std::alloc::{AllocError, Global};
 use std::marker::Model;
 
-/// The name of an object from below the root: extensions joined by `:`, at most 1,000 bytes. Contracts see its bytes.
+/// The name of an object from below the root: extensions joined by `:`, at most 1,000 bytes.
+/// Contracts see its bytes.
 #[derive(Drop)]
 pub struct Name {
     string: String,
@@ -24,7 +25,8 @@ impl Model for Name {
 }
 
 impl Name {
-    /// The name that a text is. None exactly where it isn't a name; the only error is out of memory.
+    /// The name that a text is. None exactly where it isn't a name; the only error is out of
+    /// memory.
     pub fn parse(alloc: Global, text: &[u8]) -> Result<Option<Name>, AllocError>
         ensures { IfOk result (λ found. found ≡ name_of text.now) }
     {

@@ -1,5 +1,6 @@
 // A name cut at its last colon.
-ghost use Rattle.std.specs.Prelude.{◌≡◌, ◌≤◌, ◌<◌, ◌-◌, drop, length, slice_index, option_map, IsTrue, IfSome, true, false};
+ghost use Rattle.std.specs.Prelude.{◌≡◌, ◌≤◌, ◌<◌, ◌-◌, drop, length, slice_index, option_map};
+ghost use Rattle.std.specs.Prelude.{IsTrue, IfSome, true, false};
 ghost use Rattle.std.specs.List.{All};
 ghost use Rattle.reg_base.specs.Names.{is_colon, is_extension, is_name};
 ghost use Rattle.reg_base.specs.NameParts.{extension_of, folder_of};
@@ -16,7 +17,8 @@ fn extension_start(text: &[u8]) -> usize
     start
 }
 
-/// The last extension of a name: what follows its last colon, or the whole text where it has none. It takes no memory.
+/// The last extension of a name: what follows its last colon, or the whole text where it has none.
+/// It takes no memory.
 pub fn extension_of(text: &[u8]) -> &[u8]
     ensures value { result.now ≡ extension_of text.now }
     ensures is_extension { is_name text.now ≡ true → is_extension result.now ≡ true }
@@ -25,11 +27,12 @@ pub fn extension_of(text: &[u8]) -> &[u8]
     extension
 }
 
-/// The name of the folder that a name stands in: what precedes its last colon. None exactly where it has no colon, so
-/// stands in the root. It takes no memory.
+/// The name of the folder that a name stands in: what precedes its last colon. None exactly where
+/// it has no colon, so stands in the root. It takes no memory.
 pub fn folder_of(text: &[u8]) -> Option<&[u8]>
     ensures value { option_map (λ folder. folder.now) result ≡ folder_of text.now }
-    ensures is_name { is_name text.now ≡ true → IfSome result (λ folder. is_name folder.now ≡ true) }
+    ensures is_name { is_name text.now ≡ true
+        → IfSome result (λ folder. is_name folder.now ≡ true) }
 {
     let start = extension_start(text);
     if start == 0 {

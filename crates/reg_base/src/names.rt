@@ -1,7 +1,9 @@
 // Names of objects and the texts of persons, judged byte by byte.
-ghost use Rattle.std.specs.Prelude.{◌≡◌, List, ℕ, length, position, ◌==◌, ◌<◌, IfSome, IfOk, IsTrue, if◌then◌else◌, Some, None};
+ghost use Rattle.std.specs.Prelude.{◌≡◌, List, ℕ, length, position, ◌==◌, ◌<◌, IfSome, IfOk};
+ghost use Rattle.std.specs.Prelude.{IsTrue, if◌then◌else◌, Some, None};
 ghost use Rattle.std.specs.List.{list_all};
-ghost use Rattle.reg_base.specs.Names.{is_extension_byte, is_extension, extensions_of, is_name, name_of, is_person_byte, is_part, is_person, is_source};
+ghost use Rattle.reg_base.specs.Names.{is_extension_byte, is_extension, extensions_of, is_name};
+ghost use Rattle.reg_base.specs.Names.{name_of, is_person_byte, is_part, is_person, is_source};
 
 fn is_extension_byte(byte: u8) -> bool
     ensures { result ≡ is_extension_byte byte }
@@ -15,7 +17,8 @@ fn are_extension_bytes(text: &[u8]) -> bool
     text.iter().all(|byte| is_extension_byte(*byte))
 }
 
-/// Whether the text is an extension: 1 to 100 bytes of ASCII letters, digits, `_`, `-` and `.`. It takes no memory.
+/// Whether the text is an extension: 1 to 100 bytes of ASCII letters, digits, `_`, `-` and `.`. It
+/// takes no memory.
 pub fn is_extension(text: &[u8]) -> bool
     ensures { result ≡ is_extension text.now }
 {
@@ -29,7 +32,8 @@ fn are_extensions(text: &[u8]) -> bool
         .all(|piece| is_extension(piece))
 }
 
-/// Whether the text is a name: extensions joined by `:`, at most 1,000 bytes in all. It takes no memory.
+/// Whether the text is a name: extensions joined by `:`, at most 1,000 bytes in all. It takes no
+/// memory.
 pub fn is_name(text: &[u8]) -> bool
     ensures { result ≡ is_name text.now }
 {
@@ -61,16 +65,16 @@ fn slash_in(text: &[u8]) -> Option<usize>
     text.iter().position(|byte| *byte == b'/')
 }
 
-/// Whether the text is a source of persons: 1 to 32 bytes of ASCII letters, digits, `_`, `-`, `.` and `@`. It takes no
-/// memory.
+/// Whether the text is a source of persons: 1 to 32 bytes of ASCII letters, digits, `_`, `-`, `.`
+/// and `@`. It takes no memory.
 pub fn is_source(text: &[u8]) -> bool
     ensures { result ≡ is_source text.now }
 {
     is_part(32, text)
 }
 
-/// Whether the text is a person's: `source/id`, where the source has 1 to 32 bytes and the id 1 to 64 bytes of ASCII
-/// letters, digits, `_`, `-`, `.` and `@`. It takes no memory.
+/// Whether the text is a person's: `source/id`, where the source has 1 to 32 bytes and the id 1 to
+/// 64 bytes of ASCII letters, digits, `_`, `-`, `.` and `@`. It takes no memory.
 pub fn is_person(text: &[u8]) -> bool
     ensures { result ≡ is_person text.now }
 {

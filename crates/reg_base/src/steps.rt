@@ -4,8 +4,8 @@ ghost use Rattle.std.specs.Prelude.{◌≡◌, ◌+◌, ◌<◌};
 use std::marker::Model;
 use std::sync::ledger::{Blank, Book, Ledger, Share};
 
-/// How many steps were taken, in a ledger `L` of the caller's. Only `tick` changes the count, which contracts see and
-/// code can't read.
+/// How many steps were taken, in a ledger `L` of the caller's. Only `tick` changes the count, which
+/// contracts see and code can't read.
 #[derive(Drop)]
 pub struct Steps<L: Ledger> {
     book: Book<L>,
@@ -23,7 +23,8 @@ impl<L: Ledger> Model for Steps<L> {
 }
 
 impl<L: Ledger> Steps<L> {
-    /// A counter at 0, over a blank ledger of at least one part. A caller that counts nothing gives `Blank::new(1)`.
+    /// A counter at 0, over a blank ledger of at least one part. A caller that counts nothing gives
+    /// `Blank::new(1)`.
     pub fn open(blank: Blank) -> Steps<L>
         requires name { blank.name ≡ L.name }
         requires parts { blank.parts ≡ L.parts }

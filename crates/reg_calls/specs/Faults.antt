@@ -1,6 +1,8 @@
 -- Refusals of messages that ask nothing of the service.
 use Rattle.reg_terms.specs.declared.refusal.Refusal.{Refusal}
-use Rattle.reg_terms.specs.declared.refusal.Refusal.TheVariants.{TooLong, NoRoute, NoMethod, NoLength, Coding, HeadTooLong, NoCallerHeader, BadHead}
+use Rattle.reg_terms.specs.declared.refusal.Refusal.TheVariants.{TooLong, NoRoute, NoMethod}
+use Rattle.reg_terms.specs.declared.refusal.Refusal.TheVariants.{NoLength, Coding, HeadTooLong}
+use Rattle.reg_terms.specs.declared.refusal.Refusal.TheVariants.{NoCallerHeader, BadHead}
 use Rattle.reg_terms.specs.Limits.{max_line}
 use Rattle.reg_http.specs.declared.call.HeadFault.{HeadFault}
 use Rattle.reg_http.specs.declared.call.HeadFault.TheVariants as fault

@@ -1,5 +1,6 @@
 -- The queries of the routes that are asked by GET, by what a target tells.
-use Rattle.std.specs.Prelude.{ℕ, List, [], Bool, true, false, ◌&&◌, nat_le, Option, Some, None, Result, Ok, Err, codes, unwrap_or}
+use Rattle.std.specs.Prelude.{ℕ, List, [], Bool, true, false, ◌&&◌, nat_le, Option, Some, None}
+use Rattle.std.specs.Prelude.{Result, Ok, Err, codes, unwrap_or}
 use Rattle.reg_terms.specs.declared.refusal.Refusal.{Refusal}
 use Rattle.reg_terms.specs.declared.refusal.Refusal.TheVariants.{BadRequest}
 use Rattle.reg_terms.specs.declared.query.Query.{Query}
@@ -8,14 +9,16 @@ use Rattle.reg_http.specs.declared.parameters.Parameters.{Parameters}
 use Rattle.reg_http.specs.declared.route.Route.{Route}
 use Rattle.reg_http.specs.declared.route.Route.TheVariants as route
 use Rattle.reg_json.specs.Steps.{◌>>=◌}
-use Rattle.reg_json.specs.Fields.{name_from, folder_from, extension_from, object_from, entity_from, moment_from}
+use Rattle.reg_json.specs.Fields.{name_from, folder_from, extension_from, object_from, entity_from}
+use Rattle.reg_json.specs.Fields.{moment_from}
 
 -- a number that is in its range
 abbrev pub ensured_number : Bool → List ℕ → ℕ → Result ℕ Refusal
 ensured_number true field n = Ok n
 ensured_number false field n = Err (BadRequest field)
 
--- the most entries that are asked for, from 1 to 1,000; a target without the number is refused before
+-- the most entries that are asked for, from 1 to 1,000; a target without the number is refused
+-- before
 abbrev pub number_from : List ℕ → Option ℕ → Result ℕ Refusal
 number_from field None = Err (BadRequest field)
 number_from field (Some n) = ensured_number (nat_le 1 n && nat_le n 1000) field n

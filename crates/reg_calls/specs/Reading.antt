@@ -25,7 +25,8 @@ field_refused (Err field) = Err (BadRequest field)
 -- the same, or the name of the field
 unfoldable pub told_by : Route → List ℕ → Result Parameters (List ℕ)
 told_by r target =
-    if is_utf8 (parameter_in target) then read_by r (parameter_in target) (pairs (query_of target)) else Err (parameter_name r)
+    if is_utf8 (parameter_in target) then read_by r (parameter_in target) (pairs (query_of target))
+    else Err (parameter_name r)
 
 abbrev pub parameters_of : Route → List ℕ → Result Parameters Refusal
 parameters_of r target = field_refused (told_by r target)

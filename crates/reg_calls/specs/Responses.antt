@@ -1,7 +1,13 @@
 -- The response to a message.
 use Rattle.std.specs.Prelude.{ℕ, List, [], ◌∷◌, ◌++◌, Bool, true, Option, Some, None}
 use Rattle.reg_terms.specs.declared.refusal.Refusal.{Refusal}
-use Rattle.reg_terms.specs.declared.refusal.Refusal.TheVariants.{BadRequest, BadName, BadMoment, BadWindow, WrongKind, BadTable, WrongValue, NoCaller, Denied, NotFound, NoSuch, TooLong, NoRoute, NoMethod, NoLength, Coding, HeadTooLong, NoCallerHeader, BadHead}
+use Rattle.reg_terms.specs.declared.refusal.Refusal.TheVariants.{BadRequest, BadName, BadMoment}
+use Rattle.reg_terms.specs.declared.refusal.Refusal.TheVariants.{BadWindow, WrongKind, BadTable}
+use Rattle.reg_terms.specs.declared.refusal.Refusal.TheVariants.{WrongValue, NoCaller, Denied}
+use Rattle.reg_terms.specs.declared.refusal.Refusal.TheVariants.{NotFound, NoSuch, TooLong, NoRoute}
+use Rattle.reg_terms.specs.declared.refusal.Refusal.TheVariants.{NoMethod, NoLength, Coding}
+use Rattle.reg_terms.specs.declared.refusal.Refusal.TheVariants.{HeadTooLong, NoCallerHeader}
+use Rattle.reg_terms.specs.declared.refusal.Refusal.TheVariants.{BadHead}
 use Rattle.reg_terms.specs.declared.reply.Reply.{Reply}
 use Rattle.reg_terms.specs.declared.reply.Reply.TheVariants as reply
 use Rattle.reg_http.specs.Responses.{response}

@@ -1,10 +1,12 @@
 // The queries of the routes that are asked by GET.
 ghost use Rattle.std.specs.Prelude.{◌≡◌, ◌&&◌, Some, true, nat_le, ok_or, IfOk};
 ghost use Rattle.reg_base.specs.Names.{is_extension, is_name};
-ghost use Rattle.reg_json.specs.Fields.{name_from, folder_from, extension_from, object_from, entity_from, moment_from};
+ghost use Rattle.reg_json.specs.Fields.{name_from, folder_from, extension_from, object_from};
+ghost use Rattle.reg_json.specs.Fields.{entity_from, moment_from};
 ghost use Rattle.reg_base.specs.MomentText.{moment_of};
 ghost use Rattle.reg_terms.specs.declared.refusal.Refusal.TheVariants as refusal;
-ghost use Rattle.reg_terms.specs.Forms.{is_entity, is_folder_text, is_object_text, is_optional_moment, query_has_form};
+ghost use Rattle.reg_terms.specs.Forms.{is_entity, is_folder_text, is_object_text};
+ghost use Rattle.reg_terms.specs.Forms.{is_optional_moment, query_has_form};
 ghost use Rattle.reg_http.specs.declared.route.Route.TheVariants as route;
 ghost use Rattle.reg_calls.specs.Unread.{Gives};
 ghost use Rattle.reg_calls.specs.Queries.{query_by, entity_text, number_from};

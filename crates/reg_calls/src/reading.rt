@@ -4,7 +4,8 @@ ghost use Rattle.reg_json.specs.Forms.{IsFormed};
 ghost use Rattle.reg_http.specs.declared.route.Route.TheVariants as route;
 ghost use Rattle.reg_calls.specs.Unread.{Gives};
 ghost use Rattle.reg_json.specs.Reading.{body_reading_of};
-ghost use Rattle.reg_calls.specs.Reading.{told_by, parameters_of, query_request, load_request, asked_with, reading_of};
+ghost use Rattle.reg_calls.specs.Reading.{told_by, parameters_of, query_request, load_request};
+ghost use Rattle.reg_calls.specs.Reading.{asked_with, reading_of};
 
 use crate::queries::{extension_from, query_by};
 use crate::unread::Unread;

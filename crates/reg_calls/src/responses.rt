@@ -2,7 +2,8 @@
 ghost use Rattle.std.specs.Prelude.{◌≡◌, ◌++◌, ◌∷◌, [], None, true, false, IfOk, option_map};
 ghost use Rattle.reg_terms.specs.declared.reply.Reply.TheVariants as reply;
 ghost use Rattle.reg_http.specs.Responses.{IsStatus, response};
-ghost use Rattle.reg_calls.specs.Responses.{refusal_status, status_of, allow_of, line_of, response_to, fault_response};
+ghost use Rattle.reg_calls.specs.Responses.{refusal_status, status_of, allow_of, line_of};
+ghost use Rattle.reg_calls.specs.Responses.{response_to, fault_response};
 
 use crate::asked::Asked;
 use reg_http::write_response;

@@ -1,13 +1,33 @@
 -- What each command demands of its caller: privileges on the objects that it names, or root.
-use Rattle.std.specs.Prelude.{ℕ, List, [], ◌∷◌, ◌++◌, Bool, true, false, Option, None, Some, codes, if◌then◌else◌}
+use Rattle.std.specs.Prelude.{ℕ, List, [], ◌∷◌, ◌++◌, Bool, true, false, Option, None, Some, codes}
+use Rattle.std.specs.Prelude.{if◌then◌else◌}
 use Rattle.std.specs.Str.{bytes_eq}
 use Rattle.reg_base.specs.Entities.{entity_of}
 use Rattle.reg_base.specs.declared.entity.Entity.{Entity}
 use Rattle.reg_base.specs.declared.entity.Entity.TheVariants as entity
 use Rattle.reg_base.specs.declared.privilege.Privilege.{Privilege}
-use Rattle.reg_base.specs.declared.privilege.Privilege.TheVariants.{Admin, Update, Read, Optin, Optout, GroupAttrRead, GroupAttrUpdate, StemAdmin, Create, StemAttrRead, StemAttrUpdate, AttrAdmin, AttrUpdate}
+use Rattle.reg_base.specs.declared.privilege.Privilege.TheVariants.{Admin, Update, Read, Optin}
+use Rattle.reg_base.specs.declared.privilege.Privilege.TheVariants.{Optout, GroupAttrRead}
+use Rattle.reg_base.specs.declared.privilege.Privilege.TheVariants.{GroupAttrUpdate, StemAdmin}
+use Rattle.reg_base.specs.declared.privilege.Privilege.TheVariants.{Create, StemAttrRead}
+use Rattle.reg_base.specs.declared.privilege.Privilege.TheVariants.{StemAttrUpdate, AttrAdmin}
+use Rattle.reg_base.specs.declared.privilege.Privilege.TheVariants.{AttrUpdate}
 use Rattle.reg_terms.specs.declared.command.Command.{Command}
-use Rattle.reg_terms.specs.declared.command.Command.TheVariants.{FolderAdd, FolderRename, FolderMove, FolderDelete, SubjectAdd, GroupAdd, GroupRename, GroupMove, GroupDelete, MemberAdd, MemberRemove, MemberWindow, CompositeSet, CompositeClear, GrantAdd, GrantRemove, InheritAdd, InheritRemove, AttrdefAdd, AttrdefDelete, AttrAdd, AttrDelete, AssignAdd, AssignRemove, ValueAdd, ValueRemove, RuleRemoveLost, RuleEndLost, RuleVeto, RuleOnCreate, RuleDelete, JobSimple, JobList, JobDelete, Load, ConsumerAdd, ConsumerAck}
+use Rattle.reg_terms.specs.declared.command.Command.TheVariants.{FolderAdd, FolderRename}
+use Rattle.reg_terms.specs.declared.command.Command.TheVariants.{FolderMove, FolderDelete}
+use Rattle.reg_terms.specs.declared.command.Command.TheVariants.{SubjectAdd, GroupAdd, GroupRename}
+use Rattle.reg_terms.specs.declared.command.Command.TheVariants.{GroupMove, GroupDelete, MemberAdd}
+use Rattle.reg_terms.specs.declared.command.Command.TheVariants.{MemberRemove, MemberWindow}
+use Rattle.reg_terms.specs.declared.command.Command.TheVariants.{CompositeSet, CompositeClear}
+use Rattle.reg_terms.specs.declared.command.Command.TheVariants.{GrantAdd, GrantRemove, InheritAdd}
+use Rattle.reg_terms.specs.declared.command.Command.TheVariants.{InheritRemove, AttrdefAdd}
+use Rattle.reg_terms.specs.declared.command.Command.TheVariants.{AttrdefDelete, AttrAdd, AttrDelete}
+use Rattle.reg_terms.specs.declared.command.Command.TheVariants.{AssignAdd, AssignRemove, ValueAdd}
+use Rattle.reg_terms.specs.declared.command.Command.TheVariants.{ValueRemove, RuleRemoveLost}
+use Rattle.reg_terms.specs.declared.command.Command.TheVariants.{RuleEndLost, RuleVeto}
+use Rattle.reg_terms.specs.declared.command.Command.TheVariants.{RuleOnCreate, RuleDelete}
+use Rattle.reg_terms.specs.declared.command.Command.TheVariants.{JobSimple, JobList, JobDelete}
+use Rattle.reg_terms.specs.declared.command.Command.TheVariants.{Load, ConsumerAdd, ConsumerAck}
 use Rattle.reg_terms.specs.declared.kinds.Object.{Object}
 use Rattle.reg_terms.specs.declared.kinds.Object.TheVariants as object
 use Rattle.reg_facts.specs.Attributes.{definition_id, attribute_id}
@@ -63,7 +83,8 @@ bare_text None text = text
 abbrev pub on_attribute : ℕ → Privilege → Lists → Demand
 on_attribute a p f = On (name_of (judged (object.Attr a) f) f) (object.Attr a) p
 
--- the administration of an object: of an attribute that of its definition, which a denial names, and of a subject root
+-- the administration of an object: of an attribute that of its definition, which a denial names,
+-- and of a subject root
 abbrev pub admin_of : List ℕ → Object → Lists → Demand
 admin_of name (object.Folder d) f = On name (object.Folder d) StemAdmin
 admin_of name (object.Group g) f = On name (object.Group g) Admin
@@ -71,7 +92,8 @@ admin_of name (object.Def a) f = On name (object.Def a) AttrAdmin
 admin_of name (object.Attr a) f = on_attribute a AttrAdmin f
 admin_of name (object.Subject s) f = Root
 
--- the administration of what was found; of an entity of the registry itself, which is no object, it is root
+-- the administration of what was found; of an entity of the registry itself, which is no object, it
+-- is root
 abbrev pub admin_of_found : List ℕ → Option Object → Lists → Demand
 admin_of_found name None f = Root
 admin_of_found name (Some o) f = admin_of name o f
@@ -86,7 +108,8 @@ on_object text f = admin_of_found (bare_text (entity_of text) text) (object_of t
 abbrev pub on_definition : List ℕ → Privilege → Lists → Demand
 on_definition name p f = On name (object.Def (the_id (definition_id name f))) p
 
--- one privilege on a folder and another on a group, that has a text as its name; all else has none of the kind
+-- one privilege on a folder and another on a group, that has a text as its name; all else has none
+-- of the kind
 abbrev pub on_named : List ℕ → Option Object → Privilege → Privilege → List Demand
 on_named name (Some (object.Folder d)) p q = On name (object.Folder d) p ∷ []
 on_named name (Some (object.Group g)) p q = On name (object.Group g) q ∷ []
@@ -95,13 +118,14 @@ on_named name (Some (object.Attr a)) p q = []
 on_named name (Some (object.Subject s)) p q = []
 on_named name None p q = []
 
--- the same on what a text names, of which this was found; of an entity nothing is asked: a person is of no such kind,
--- and a group owns attributes by its name alone
+-- the same on what a text names, of which this was found; of an entity nothing is asked: a person
+-- is of no such kind, and a group owns attributes by its name alone
 abbrev pub on_owner : Option Entity → List ℕ → Option Object → Privilege → Privilege → List Demand
 on_owner (Some e) text found p q = []
 on_owner None text found p q = on_named text found p q
 
--- to assign an attribute and to change what is assigned: on the owner, and on the attribute's definition
+-- to assign an attribute and to change what is assigned: on the owner, and on the attribute's
+-- definition
 abbrev pub on_assignment : List ℕ → List ℕ → Lists → List Demand
 on_assignment attribute object f =
     on_owner (entity_of object) object (object_of object f) StemAttrUpdate GroupAttrUpdate
@@ -109,34 +133,42 @@ on_assignment attribute object f =
 
 -- to be told what is assigned to what a text names
 abbrev pub on_assignments : List ℕ → Lists → List Demand
-on_assignments object f = on_owner (entity_of object) object (object_of object f) StemAttrRead GroupAttrRead
+on_assignments object f =
+    on_owner (entity_of object) object (object_of object f) StemAttrRead GroupAttrRead
 
 -- ---- commands
 
 -- what a command demands, in order
 abbrev pub demands : Entity → Command → Lists → List Demand
 demands by (FolderAdd folder display) f = on_folder (home_of folder) Create f ∷ []
-demands by (FolderRename folder extension) f = on_folder folder StemAdmin f ∷ on_home folder Create f
+demands by (FolderRename folder extension) f =
+    on_folder folder StemAdmin f ∷ on_home folder Create f
 demands by (FolderMove folder to) f = on_folder folder StemAdmin f ∷ on_folder to Create f ∷ []
 demands by (FolderDelete folder) f = on_folder folder StemAdmin f ∷ []
 demands by (SubjectAdd subject display) f = Root ∷ []
 demands by (GroupAdd group display) f = on_folder (home_of group) Create f ∷ []
-demands by (GroupRename group extension) f = on_group group Admin f ∷ on_folder (home_of group) Create f ∷ []
+demands by (GroupRename group extension) f =
+    on_group group Admin f ∷ on_folder (home_of group) Create f ∷ []
 demands by (GroupMove group to) f = on_group group Admin f ∷ on_folder to Create f ∷ []
 demands by (GroupDelete group) f = on_group group Admin f ∷ []
-demands by (MemberAdd group member from until) f = on_group group (own_or by member Optin Update) f ∷ on_member member Read f
+demands by (MemberAdd group member from until) f =
+    on_group group (own_or by member Optin Update) f ∷ on_member member Read f
 demands by (MemberRemove group member) f = on_group group (own_or by member Optout Update) f ∷ []
 demands by (MemberWindow group member from until) f = on_group group Update f ∷ []
-demands by (CompositeSet group kind left right) f = on_group group Update f ∷ on_group left Read f ∷ on_group right Read f ∷ []
+demands by (CompositeSet group kind left right) f =
+    on_group group Update f ∷ on_group left Read f ∷ on_group right Read f ∷ []
 demands by (CompositeClear group) f = on_group group Update f ∷ []
 demands by (GrantAdd object privilege holder) f = on_object object f ∷ []
 demands by (GrantRemove object privilege holder) f = on_object object f ∷ []
 demands by (InheritAdd folder kind scope privilege holder) f = on_folder folder StemAdmin f ∷ []
 demands by (InheritRemove folder kind scope privilege holder) f = on_folder folder StemAdmin f ∷ []
-demands by (AttrdefAdd definition owners several kind many) f = on_folder (home_of definition) Create f ∷ []
+demands by (AttrdefAdd definition owners several kind many) f =
+    on_folder (home_of definition) Create f ∷ []
 demands by (AttrdefDelete definition) f = on_definition definition AttrAdmin f ∷ []
-demands by (AttrAdd attribute definition) f = on_folder (home_of attribute) Create f ∷ on_definition definition AttrAdmin f ∷ []
-demands by (AttrDelete attribute) f = on_attribute (the_id (attribute_id attribute f)) AttrAdmin f ∷ []
+demands by (AttrAdd attribute definition) f =
+    on_folder (home_of attribute) Create f ∷ on_definition definition AttrAdmin f ∷ []
+demands by (AttrDelete attribute) f =
+    on_attribute (the_id (attribute_id attribute f)) AttrAdmin f ∷ []
 demands by (AssignAdd attribute object) f = on_assignment attribute object f
 demands by (AssignRemove attribute object id) f = on_assignment attribute object f
 demands by (ValueAdd attribute object id value) f = on_assignment attribute object f

@@ -1,12 +1,28 @@
--- What refuses a command before all else: no caller, then what isn't found or isn't seen, then a demand that isn't met.
-use Rattle.std.specs.Prelude.{ℕ, ◌&&◌, ◌++◌, List, [], ◌∷◌, Bool, true, false, not, Option, None, Some, map, codes, is_some, option_map, if◌then◌else◌}
+-- What refuses a command before all else: no caller, then what isn't found or isn't seen, then a
+-- demand that isn't met.
+use Rattle.std.specs.Prelude.{ℕ, ◌&&◌, ◌++◌, List, [], ◌∷◌, Bool, true, false, not, Option, None}
+use Rattle.std.specs.Prelude.{Some, map, codes, is_some, option_map, if◌then◌else◌}
 use Rattle.reg_base.specs.Entities.{entity_of}
 use Rattle.reg_base.specs.declared.entity.Entity.{Entity}
 use Rattle.reg_base.specs.declared.entity.Entity.TheVariants as entity
 use Rattle.reg_base.specs.declared.privilege.Privilege.TheVariants.{View}
 use Rattle.reg_terms.specs.Privileges.{line_of}
 use Rattle.reg_terms.specs.declared.command.Command.{Command}
-use Rattle.reg_terms.specs.declared.command.Command.TheVariants.{FolderAdd, FolderRename, FolderMove, FolderDelete, SubjectAdd, GroupAdd, GroupRename, GroupMove, GroupDelete, MemberAdd, MemberRemove, MemberWindow, CompositeSet, CompositeClear, GrantAdd, GrantRemove, InheritAdd, InheritRemove, AttrdefAdd, AttrdefDelete, AttrAdd, AttrDelete, AssignAdd, AssignRemove, ValueAdd, ValueRemove, RuleRemoveLost, RuleEndLost, RuleVeto, RuleOnCreate, RuleDelete, JobSimple, JobList, JobDelete, Load, ConsumerAdd, ConsumerAck}
+use Rattle.reg_terms.specs.declared.command.Command.TheVariants.{FolderAdd, FolderRename}
+use Rattle.reg_terms.specs.declared.command.Command.TheVariants.{FolderMove, FolderDelete}
+use Rattle.reg_terms.specs.declared.command.Command.TheVariants.{SubjectAdd, GroupAdd, GroupRename}
+use Rattle.reg_terms.specs.declared.command.Command.TheVariants.{GroupMove, GroupDelete, MemberAdd}
+use Rattle.reg_terms.specs.declared.command.Command.TheVariants.{MemberRemove, MemberWindow}
+use Rattle.reg_terms.specs.declared.command.Command.TheVariants.{CompositeSet, CompositeClear}
+use Rattle.reg_terms.specs.declared.command.Command.TheVariants.{GrantAdd, GrantRemove, InheritAdd}
+use Rattle.reg_terms.specs.declared.command.Command.TheVariants.{InheritRemove, AttrdefAdd}
+use Rattle.reg_terms.specs.declared.command.Command.TheVariants.{AttrdefDelete, AttrAdd, AttrDelete}
+use Rattle.reg_terms.specs.declared.command.Command.TheVariants.{AssignAdd, AssignRemove, ValueAdd}
+use Rattle.reg_terms.specs.declared.command.Command.TheVariants.{ValueRemove, RuleRemoveLost}
+use Rattle.reg_terms.specs.declared.command.Command.TheVariants.{RuleEndLost, RuleVeto}
+use Rattle.reg_terms.specs.declared.command.Command.TheVariants.{RuleOnCreate, RuleDelete}
+use Rattle.reg_terms.specs.declared.command.Command.TheVariants.{JobSimple, JobList, JobDelete}
+use Rattle.reg_terms.specs.declared.command.Command.TheVariants.{Load, ConsumerAdd, ConsumerAck}
 use Rattle.reg_terms.specs.declared.kinds.Member.{Member}
 use Rattle.reg_terms.specs.declared.kinds.Member.TheVariants as member
 use Rattle.reg_terms.specs.declared.kinds.Object.{Object}
@@ -18,7 +34,8 @@ use Rattle.reg_terms.specs.declared.rows.InheritRow.{InheritRow}
 use Rattle.reg_facts.specs.Attributes.{definition_id, attribute_id}
 use Rattle.reg_facts.specs.Consumers.{consumer_place}
 use Rattle.reg_facts.specs.Edits.{the_id, member_of, has_member}
-use Rattle.reg_facts.specs.Grants.{has_grant, has_inherit, entity_object, object_of, grant_of, inherit_of}
+use Rattle.reg_facts.specs.Grants.{has_grant, has_inherit, entity_object, object_of, grant_of}
+use Rattle.reg_facts.specs.Grants.{inherit_of}
 use Rattle.reg_facts.specs.Jobs.{job_by}
 use Rattle.reg_facts.specs.Lists.{Lists}
 use Rattle.reg_facts.specs.Naming.{folder_id, group_id, home_of}
@@ -71,11 +88,17 @@ as_object (Some (member.Group g)) = Some (object.Group g)
 
 -- no definition that the caller sees has the name
 abbrev pub no_definition : Live → Lists → Who → List ℕ → Check
-no_definition L f c definition = (is_hidden L f c (option_map (λ a. object.Def a) (definition_id definition f)), NotFound definition)
+no_definition L f c definition = (
+  is_hidden L f c (option_map (λ a. object.Def a) (definition_id definition f)),
+  NotFound definition,
+)
 
 -- no attribute that the caller sees has the name
 abbrev pub no_attribute : Live → Lists → Who → List ℕ → Check
-no_attribute L f c attribute = (is_hidden L f c (option_map (λ a. object.Attr a) (attribute_id attribute f)), NotFound attribute)
+no_attribute L f c attribute = (
+  is_hidden L f c (option_map (λ a. object.Attr a) (attribute_id attribute f)),
+  NotFound attribute,
+)
 
 -- an entity of the registry itself, which always stands
 abbrev pub is_internal : Entity → Bool
@@ -94,7 +117,8 @@ abbrev pub is_missing_object : Live → Lists → Who → List ℕ → Option Ob
 is_missing_object L f c text found = is_hidden L f c found && not (names_internal (entity_of text))
 
 abbrev pub no_object : Live → Lists → Who → List ℕ → Check
-no_object L f c text = (is_missing_object L f c text (object_of text f), NotFound (bare_text (entity_of text) text))
+no_object L f c text =
+    (is_missing_object L f c text (object_of text f), NotFound (bare_text (entity_of text) text))
 
 -- the text of a person, and the name of a group
 abbrev pub named_text : Entity → List ℕ
@@ -130,7 +154,8 @@ inherit_stands (Some row) f = has_inherit row f.inherits
 
 -- no consumer of the change log has the name, or the caller isn't root, who alone sees them
 abbrev pub no_consumer : Live → Lists → Who → List ℕ → Check
-no_consumer L f c consumer = (not (is_root L f c && is_some (consumer_place consumer f.consumers)), NotFound consumer)
+no_consumer L f c consumer =
+    (not (is_root L f c && is_some (consumer_place consumer f.consumers)), NotFound consumer)
 
 -- no loader job has the name, or the caller isn't root, who alone sees them
 abbrev pub no_job : Live → Lists → Who → List ℕ → Check
@@ -147,27 +172,44 @@ not_found L f c (GroupAdd group display) = no_folder (home_of group) f ∷ []
 not_found L f c (GroupRename group extension) = no_group L f c group ∷ []
 not_found L f c (GroupMove group to) = no_group L f c group ∷ no_folder to f ∷ []
 not_found L f c (GroupDelete group) = no_group L f c group ∷ []
-not_found L f c (MemberAdd group member from until) = no_group L f c group ∷ no_entity L f c member ∷ []
-not_found L f c (MemberRemove group member) = no_group L f c group ∷ no_entity_but (row_stands (group_id group f) member f) L f c member ∷ []
-not_found L f c (MemberWindow group member from until) = no_group L f c group ∷ no_entity_but (row_stands (group_id group f) member f) L f c member ∷ []
-not_found L f c (CompositeSet group kind left right) = no_group L f c group ∷ no_group L f c left ∷ no_group L f c right ∷ []
+not_found L f c (MemberAdd group member from until) =
+    no_group L f c group ∷ no_entity L f c member ∷ []
+not_found L f c (MemberRemove group member) =
+    no_group L f c group ∷ no_entity_but (row_stands (group_id group f) member f) L f c member ∷ []
+not_found L f c (MemberWindow group member from until) =
+    no_group L f c group ∷ no_entity_but (row_stands (group_id group f) member f) L f c member ∷ []
+not_found L f c (CompositeSet group kind left right) =
+    no_group L f c group ∷ no_group L f c left ∷ no_group L f c right ∷ []
 not_found L f c (CompositeClear group) = no_group L f c group ∷ []
-not_found L f c (GrantAdd object privilege holder) = no_object L f c object ∷ no_entity L f c holder ∷ []
-not_found L f c (GrantRemove object privilege holder) = no_object L f c object ∷ no_entity_but (grant_stands (grant_of object privilege holder f) f) L f c holder ∷ []
-not_found L f c (InheritAdd folder kind scope privilege holder) = no_folder folder f ∷ no_entity L f c holder ∷ []
-not_found L f c (InheritRemove folder kind scope privilege holder) = no_folder folder f ∷ no_entity_but (inherit_stands (inherit_of folder kind scope privilege holder f) f) L f c holder ∷ []
-not_found L f c (AttrdefAdd definition owners several kind many) = no_folder (home_of definition) f ∷ []
+not_found L f c (GrantAdd object privilege holder) =
+    no_object L f c object ∷ no_entity L f c holder ∷ []
+not_found L f c (GrantRemove object privilege holder) =
+    no_object L f c object ∷ no_entity_but
+    (grant_stands (grant_of object privilege holder f) f) L f c holder ∷ []
+not_found L f c (InheritAdd folder kind scope privilege holder) =
+    no_folder folder f ∷ no_entity L f c holder ∷ []
+not_found L f c (InheritRemove folder kind scope privilege holder) =
+    no_folder folder f ∷ no_entity_but
+    (inherit_stands (inherit_of folder kind scope privilege holder f) f) L f c holder ∷ []
+not_found L f c (AttrdefAdd definition owners several kind many) =
+    no_folder (home_of definition) f ∷ []
 not_found L f c (AttrdefDelete definition) = no_definition L f c definition ∷ []
-not_found L f c (AttrAdd attribute definition) = no_folder (home_of attribute) f ∷ no_definition L f c definition ∷ []
+not_found L f c (AttrAdd attribute definition) =
+    no_folder (home_of attribute) f ∷ no_definition L f c definition ∷ []
 not_found L f c (AttrDelete attribute) = no_attribute L f c attribute ∷ []
-not_found L f c (AssignAdd attribute object) = no_attribute L f c attribute ∷ no_object L f c object ∷ []
-not_found L f c (AssignRemove attribute object id) = no_attribute L f c attribute ∷ no_object L f c object ∷ []
-not_found L f c (ValueAdd attribute object id value) = no_attribute L f c attribute ∷ no_object L f c object ∷ []
-not_found L f c (ValueRemove attribute object id value) = no_attribute L f c attribute ∷ no_object L f c object ∷ []
+not_found L f c (AssignAdd attribute object) =
+    no_attribute L f c attribute ∷ no_object L f c object ∷ []
+not_found L f c (AssignRemove attribute object id) =
+    no_attribute L f c attribute ∷ no_object L f c object ∷ []
+not_found L f c (ValueAdd attribute object id value) =
+    no_attribute L f c attribute ∷ no_object L f c object ∷ []
+not_found L f c (ValueRemove attribute object id value) =
+    no_attribute L f c attribute ∷ no_object L f c object ∷ []
 not_found L f c (RuleRemoveLost check owner) = no_group L f c check ∷ no_group L f c owner ∷ []
 not_found L f c (RuleEndLost check owner days) = no_group L f c check ∷ no_group L f c owner ∷ []
 not_found L f c (RuleVeto owner condition) = no_group L f c owner ∷ no_group L f c condition ∷ []
-not_found L f c (RuleOnCreate folder scope privilege holder) = no_folder folder f ∷ no_entity L f c holder ∷ []
+not_found L f c (RuleOnCreate folder scope privilege holder) =
+    no_folder folder f ∷ no_entity L f c holder ∷ []
 not_found L f c (RuleDelete id) = []
 not_found L f c (JobSimple job group source min_size max_percent) = no_group L f c group ∷ []
 not_found L f c (JobList job folder source min_size max_percent) = no_folder folder f ∷ []
@@ -178,11 +220,13 @@ not_found L f c (ConsumerAck consumer seq) = no_consumer L f c consumer ∷ []
 
 -- ---- both, and who may call
 
--- what may refuse a command of a caller that stands before all else: what isn't found, and then the demands
+-- what may refuse a command of a caller that stands before all else: what isn't found, and then the
+-- demands
 abbrev pub barred : Live → Lists → Entity → Who → Command → List Check
 barred L f by c command = not_found L f c command ++ map (denial L f c) (demands by command f)
 
--- the refusal that comes before all else, if one does: an entity that is no caller is refused at once
+-- the refusal that comes before all else, if one does: an entity that is no caller is refused at
+-- once
 abbrev pub refused_as : Option Who → Live → Lists → Entity → Command → Option Refusal
 refused_as None L f by command = Some NoCaller
 refused_as (Some c) L f by command = first_of (barred L f by c command)
@@ -192,4 +236,5 @@ refused L f by command = refused_as (who_of by f) L f by command
 
 -- what may refuse to tell the attributes of an object: it isn't found, and then the demands
 abbrev pub barred_attributes : Live → Lists → Who → List ℕ → List Check
-barred_attributes L f c object = no_object L f c object ∷ map (denial L f c) (on_assignments object f)
+barred_attributes L f c object =
+    no_object L f c object ∷ map (denial L f c) (on_assignments object f)

@@ -1,11 +1,15 @@
 // What comes before all else that may refuse a command about attributes, or a query about them.
 ghost use Rattle.std.specs.Prelude.{◌≡◌, ◌∷◌, ◌++◌, [], IfOk, Some, map};
 ghost use Rattle.reg_base.specs.Entities.{entity_of};
-ghost use Rattle.reg_base.specs.declared.privilege.Privilege.TheVariants.{AttrUpdate, GroupAttrUpdate, StemAttrUpdate};
-ghost use Rattle.reg_terms.specs.declared.command.Command.TheVariants.{AttrdefDelete, AttrAdd, AttrDelete};
+ghost use Rattle.reg_base.specs.declared.privilege.Privilege.TheVariants.{AttrUpdate};
+ghost use Rattle.reg_base.specs.declared.privilege.Privilege.TheVariants.{GroupAttrUpdate};
+ghost use Rattle.reg_base.specs.declared.privilege.Privilege.TheVariants.{StemAttrUpdate};
+ghost use Rattle.reg_terms.specs.declared.command.Command.TheVariants.{AttrdefDelete, AttrAdd};
+ghost use Rattle.reg_terms.specs.declared.command.Command.TheVariants.{AttrDelete};
 ghost use Rattle.reg_facts.specs.Naming.{name_of};
 ghost use Rattle.reg_demand.specs.Demands.{On, on_assignment, on_attribute, on_named, on_owner};
-ghost use Rattle.reg_demand.specs.Refusing.{barred, barred_attributes, denial, first_of, no_attribute, no_object};
+ghost use Rattle.reg_demand.specs.Refusing.{barred, barred_attributes, denial, first_of};
+ghost use Rattle.reg_demand.specs.Refusing.{no_attribute, no_object};
 
 use crate::finding::{is_hidden, is_missing_object};
 use crate::lacking::{lacks_on_definition, lacks_on_folder, the_attribute};
@@ -35,7 +39,9 @@ pub fn demand_on_attribute<K: Kept>(
     id: AttrId,
     privilege: Privilege,
 ) -> Result<Option<Refusal>, AllocError>
-    ensures { IfOk result (λ found. found ≡ first_of (denial (K.held kept.now) facts.now who.now (on_attribute id privilege facts.now) ∷ [])) }
+    ensures { IfOk result (λ found. found
+        ≡ first_of (denial (K.held kept.now) facts.now who.now (on_attribute id privilege facts.now)
+        ∷ [])) }
 {
     let attribute = Object::Attr(id);
     if may(facts, kept, who, &attribute, privilege) {
@@ -54,7 +60,9 @@ pub fn attrdef_delete<K: Kept>(
     who: &Who,
     definition: &Name,
 ) -> Result<Option<Refusal>, AllocError>
-    ensures { IfOk result (λ found. found ≡ first_of (barred (K.held kept.now) facts.now _by.now who.now (AttrdefDelete definition.now))) }
+    ensures { IfOk result (λ found. found
+        ≡ first_of (barred (K.held kept.now) facts.now _by.now who.now
+        (AttrdefDelete definition.now))) }
 {
     let id = facts.definition_id(definition.as_str());
     if is_hidden(facts, kept, who, &id.map(Object::Def)) {
@@ -77,7 +85,9 @@ pub fn attr_add<K: Kept>(
     attribute: &Name,
     definition: &Name,
 ) -> Result<Option<Refusal>, AllocError>
-    ensures { IfOk result (λ found. found ≡ first_of (barred (K.held kept.now) facts.now _by.now who.now (AttrAdd attribute.now definition.now))) }
+    ensures { IfOk result (λ found. found
+        ≡ first_of (barred (K.held kept.now) facts.now _by.now who.now
+        (AttrAdd attribute.now definition.now))) }
 {
     let home = home_of(attribute.as_str());
     let home_id = facts.folder_id(home);
@@ -106,7 +116,9 @@ pub fn attr_delete<K: Kept>(
     who: &Who,
     attribute: &Name,
 ) -> Result<Option<Refusal>, AllocError>
-    ensures { IfOk result (λ found. found ≡ first_of (barred (K.held kept.now) facts.now _by.now who.now (AttrDelete attribute.now))) }
+    ensures { IfOk result (λ found. found
+        ≡ first_of (barred (K.held kept.now) facts.now _by.now who.now
+        (AttrDelete attribute.now))) }
 {
     let id = facts.attribute_id(attribute.as_str());
     if is_hidden(facts, kept, who, &id.map(Object::Attr)) {
@@ -132,7 +144,9 @@ fn demand_by_name<K: Kept>(
     object: &Object,
     privilege: Privilege,
 ) -> Result<Option<Refusal>, AllocError>
-    ensures { IfOk result (λ found. found ≡ first_of (denial (K.held kept.now) facts.now who.now (On name.now object.now privilege) ∷ [])) }
+    ensures { IfOk result (λ found. found
+        ≡ first_of (denial (K.held kept.now) facts.now who.now (On name.now object.now privilege)
+        ∷ [])) }
 {
     if may(facts, kept, who, object, privilege) {
         return Ok(None);
@@ -151,7 +165,9 @@ fn demand_on_named<K: Kept>(
     on_folder: Privilege,
     on_group: Privilege,
 ) -> Result<Option<Refusal>, AllocError>
-    ensures { IfOk result (λ found. found ≡ first_of (map (denial (K.held kept.now) facts.now who.now) (on_named name.now (Some object.now) on_folder on_group))) }
+    ensures { IfOk result (λ found. found
+        ≡ first_of (map (denial (K.held kept.now) facts.now who.now)
+        (on_named name.now (Some object.now) on_folder on_group))) }
 {
     match object {
         Object::Folder(_) => demand_by_name(alloc, facts, kept, who, name, object, on_folder),
@@ -172,7 +188,9 @@ fn demand_on_owner<K: Kept>(
     on_folder: Privilege,
     on_group: Privilege,
 ) -> Result<Option<Refusal>, AllocError>
-    ensures { IfOk result (λ refusal. refusal ≡ first_of (map (denial (K.held kept.now) facts.now who.now) (on_owner (entity_of text.now) text.now found.now on_folder on_group))) }
+    ensures { IfOk result (λ refusal. refusal
+        ≡ first_of (map (denial (K.held kept.now) facts.now who.now)
+        (on_owner (entity_of text.now) text.now found.now on_folder on_group))) }
 {
     if Entity::parse(alloc, text.bytes())?.is_some() {
         return Ok(None);
@@ -196,7 +214,10 @@ fn demand_to_assign<K: Kept>(
     owner: &Text,
     found: &Option<Object>,
 ) -> Result<Option<Refusal>, AllocError>
-    ensures { IfOk result (λ refusal. refusal ≡ first_of (map (denial (K.held kept.now) facts.now who.now) (on_owner (entity_of owner.now) owner.now found.now StemAttrUpdate GroupAttrUpdate ++ on_attribute attribute AttrUpdate facts.now ∷ []))) }
+    ensures { IfOk result (λ refusal. refusal
+        ≡ first_of (map (denial (K.held kept.now) facts.now who.now)
+        (on_owner (entity_of owner.now) owner.now found.now StemAttrUpdate GroupAttrUpdate
+        ++ on_attribute attribute AttrUpdate facts.now ∷ []))) }
 {
     let of_folder = Privilege::StemAttrUpdate;
     let of_group = Privilege::GroupAttrUpdate;
@@ -216,7 +237,11 @@ pub fn assignment<K: Kept>(
     attribute: &Name,
     owner: &Text,
 ) -> Result<Option<Refusal>, AllocError>
-    ensures { IfOk result (λ found. found ≡ first_of (no_attribute (K.held kept.now) facts.now who.now attribute.now ∷ no_object (K.held kept.now) facts.now who.now owner.now ∷ map (denial (K.held kept.now) facts.now who.now) (on_assignment attribute.now owner.now facts.now))) }
+    ensures { IfOk result (λ found. found
+        ≡ first_of (no_attribute (K.held kept.now) facts.now who.now attribute.now
+        ∷ no_object (K.held kept.now) facts.now who.now owner.now
+        ∷ map (denial (K.held kept.now) facts.now who.now)
+        (on_assignment attribute.now owner.now facts.now))) }
 {
     let id = facts.attribute_id(attribute.as_str());
     if is_hidden(facts, kept, who, &id.map(Object::Attr)) {
@@ -239,7 +264,8 @@ pub fn barred_attributes<K: Kept>(
     who: &Who,
     object: &Text,
 ) -> Result<Option<Refusal>, AllocError>
-    ensures { IfOk result (λ found. found ≡ first_of (barred_attributes (K.held kept.now) facts.now who.now object.now)) }
+    ensures { IfOk result (λ found. found
+        ≡ first_of (barred_attributes (K.held kept.now) facts.now who.now object.now)) }
 {
     let found = facts.object_of(alloc, object)?;
     if is_missing_object(alloc, facts, kept, who, object, &found)? {

@@ -19,9 +19,9 @@ use reg_facts::{Command, Facts, Refusal};
 use reg_priv::{Who, who_of};
 use std::alloc::{AllocError, Global};
 
-/// What refuses a command of a caller that stands before all else: what isn't found, or isn't seen, by
-/// the fields in order, and then the first demand that isn't met. It changes nothing, and None is no
-/// leave yet. The only error is out of memory.
+/// What refuses a command of a caller that stands before all else: what isn't found, or isn't seen,
+/// by the fields in order, and then the first demand that isn't met. It changes nothing, and None
+/// is no leave yet. The only error is out of memory.
 pub fn barred<K: Kept>(
     alloc: Global,
     facts: &Facts,
@@ -30,7 +30,8 @@ pub fn barred<K: Kept>(
     who: &Who,
     command: &Command,
 ) -> Result<Option<Refusal>, AllocError>
-    ensures { IfOk result (λ found. found ≡ first_of (barred (K.held kept.now) facts.now by.now who.now command.now)) }
+    ensures { IfOk result (λ found. found
+        ≡ first_of (barred (K.held kept.now) facts.now by.now who.now command.now)) }
 {
     match command {
         Command::FolderAdd { folder, .. } => new_object(alloc, facts, kept, who, folder),
@@ -156,7 +157,8 @@ pub fn refused<K: Kept>(
     by: &Entity,
     command: &Command,
 ) -> Result<Option<Refusal>, AllocError>
-    ensures { IfOk result (λ found. found ≡ refused (K.held kept.now) facts.now by.now command.now) }
+    ensures { IfOk result (λ found. found
+        ≡ refused (K.held kept.now) facts.now by.now command.now) }
 {
     match who_of(facts, by) {
         Some(who) => barred(alloc, facts, kept, by, &who, command),

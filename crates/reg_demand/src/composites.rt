@@ -1,6 +1,7 @@
 // What comes before all else that may refuse a command about composites.
 ghost use Rattle.std.specs.Prelude.{◌≡◌, IfOk};
-ghost use Rattle.reg_terms.specs.declared.command.Command.TheVariants.{CompositeSet, CompositeClear};
+ghost use Rattle.reg_terms.specs.declared.command.Command.TheVariants.{CompositeSet};
+ghost use Rattle.reg_terms.specs.declared.command.Command.TheVariants.{CompositeClear};
 ghost use Rattle.reg_demand.specs.Refusing.{first_of, barred};
 
 use crate::finding::is_unseen;
@@ -24,7 +25,9 @@ pub fn composite_set<K: Kept>(
     left: &Name,
     right: &Name,
 ) -> Result<Option<Refusal>, AllocError>
-    ensures { IfOk result (λ found. found ≡ first_of (barred (K.held kept.now) facts.now _by.now who.now (CompositeSet group.now _kind left.now right.now))) }
+    ensures { IfOk result (λ found. found
+        ≡ first_of (barred (K.held kept.now) facts.now _by.now who.now
+        (CompositeSet group.now _kind left.now right.now))) }
 {
     let id = facts.group_id(group.as_str());
     if is_unseen(facts, kept, who, &id) {
@@ -59,7 +62,9 @@ pub fn composite_clear<K: Kept>(
     who: &Who,
     group: &Name,
 ) -> Result<Option<Refusal>, AllocError>
-    ensures { IfOk result (λ found. found ≡ first_of (barred (K.held kept.now) facts.now _by.now who.now (CompositeClear group.now))) }
+    ensures { IfOk result (λ found. found
+        ≡ first_of (barred (K.held kept.now) facts.now _by.now who.now
+        (CompositeClear group.now))) }
 {
     let id = facts.group_id(group.as_str());
     if is_unseen(facts, kept, who, &id) {

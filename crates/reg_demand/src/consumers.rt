@@ -20,7 +20,9 @@ pub fn consumer_ack<K: Kept>(
     consumer: &Text,
     _seq: u64,
 ) -> Result<Option<Refusal>, AllocError>
-    ensures { IfOk result (λ found. found ≡ first_of (barred (K.held kept.now) facts.now _by.now who.now (ConsumerAck consumer.now _seq))) }
+    ensures { IfOk result (λ found. found
+        ≡ first_of (barred (K.held kept.now) facts.now _by.now who.now
+        (ConsumerAck consumer.now _seq))) }
 {
     if !is_root(facts, kept, who) {
         return not_found(alloc, consumer.as_str());

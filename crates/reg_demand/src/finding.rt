@@ -2,7 +2,9 @@
 ghost use Rattle.std.specs.Prelude.{◌≡◌, ◌&&◌, not, IfOk};
 ghost use Rattle.reg_base.specs.Entities.{entity_of};
 ghost use Rattle.reg_facts.specs.Edits.{has_member, member_of, the_id};
-ghost use Rattle.reg_demand.specs.Refusing.{as_object, is_hidden, is_internal, is_missing, is_missing_object, is_unseen, named_text, names_internal, row_stands};
+ghost use Rattle.reg_demand.specs.Refusing.{as_object, is_hidden, is_internal, is_missing};
+ghost use Rattle.reg_demand.specs.Refusing.{is_missing_object, is_unseen, named_text};
+ghost use Rattle.reg_demand.specs.Refusing.{names_internal, row_stands};
 
 use reg_base::{Entity, GroupId, Privilege, Text};
 use reg_effect::Kept;
@@ -59,7 +61,8 @@ pub fn is_missing_object<K: Kept>(
     text: &Text,
     found: &Option<Object>,
 ) -> Result<bool, AllocError>
-    ensures { IfOk result (λ b. b ≡ is_missing_object (K.held kept.now) facts.now who.now text.now found.now) }
+    ensures { IfOk result (λ b. b
+        ≡ is_missing_object (K.held kept.now) facts.now who.now text.now found.now) }
 {
     if !is_hidden(facts, kept, who, found) {
         return Ok(false);

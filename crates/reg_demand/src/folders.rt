@@ -1,7 +1,8 @@
 // What comes before all else that may refuse a command about folders.
 ghost use Rattle.std.specs.Prelude.{◌≡◌, ◌∷◌, [], IfOk};
 ghost use Rattle.reg_base.specs.declared.privilege.Privilege.TheVariants.{Create};
-ghost use Rattle.reg_terms.specs.declared.command.Command.TheVariants.{FolderRename, FolderMove, FolderDelete};
+ghost use Rattle.reg_terms.specs.declared.command.Command.TheVariants.{FolderRename, FolderMove};
+ghost use Rattle.reg_terms.specs.declared.command.Command.TheVariants.{FolderDelete};
 ghost use Rattle.reg_facts.specs.Naming.{home_of};
 ghost use Rattle.reg_demand.specs.Demands.{on_folder};
 ghost use Rattle.reg_demand.specs.Refusing.{first_of, barred, denial, no_folder};
@@ -22,7 +23,10 @@ pub fn new_object<K: Kept>(
     who: &Who,
     name: &Name,
 ) -> Result<Option<Refusal>, AllocError>
-    ensures { IfOk result (λ found. found ≡ first_of (no_folder (home_of name.now) facts.now ∷ denial (K.held kept.now) facts.now who.now (on_folder (home_of name.now) Create facts.now) ∷ [])) }
+    ensures { IfOk result (λ found. found
+        ≡ first_of (no_folder (home_of name.now) facts.now
+        ∷ denial (K.held kept.now) facts.now who.now (on_folder (home_of name.now) Create facts.now)
+        ∷ [])) }
 {
     let home = home_of(name.as_str());
     let home_id = facts.folder_id(home);
@@ -35,8 +39,8 @@ pub fn new_object<K: Kept>(
     Ok(None)
 }
 
-/// The folder must stand. The caller administers it and may create in the folder where it stands; the
-/// root stands in none.
+/// The folder must stand. The caller administers it and may create in the folder where it stands;
+/// the root stands in none.
 pub fn folder_rename<K: Kept>(
     alloc: Global,
     facts: &Facts,
@@ -46,7 +50,9 @@ pub fn folder_rename<K: Kept>(
     folder: &Text,
     _extension: &Text,
 ) -> Result<Option<Refusal>, AllocError>
-    ensures { IfOk result (λ found. found ≡ first_of (barred (K.held kept.now) facts.now _by.now who.now (FolderRename folder.now _extension.now))) }
+    ensures { IfOk result (λ found. found
+        ≡ first_of (barred (K.held kept.now) facts.now _by.now who.now
+        (FolderRename folder.now _extension.now))) }
 {
     let id = facts.folder_id(folder.as_str());
     if id.is_none() {
@@ -75,7 +81,9 @@ pub fn folder_move<K: Kept>(
     folder: &Text,
     to: &Text,
 ) -> Result<Option<Refusal>, AllocError>
-    ensures { IfOk result (λ found. found ≡ first_of (barred (K.held kept.now) facts.now _by.now who.now (FolderMove folder.now to.now))) }
+    ensures { IfOk result (λ found. found
+        ≡ first_of (barred (K.held kept.now) facts.now _by.now who.now
+        (FolderMove folder.now to.now))) }
 {
     let id = facts.folder_id(folder.as_str());
     if id.is_none() {
@@ -103,7 +111,8 @@ pub fn folder_delete<K: Kept>(
     who: &Who,
     folder: &Text,
 ) -> Result<Option<Refusal>, AllocError>
-    ensures { IfOk result (λ found. found ≡ first_of (barred (K.held kept.now) facts.now _by.now who.now (FolderDelete folder.now))) }
+    ensures { IfOk result (λ found. found
+        ≡ first_of (barred (K.held kept.now) facts.now _by.now who.now (FolderDelete folder.now))) }
 {
     let id = facts.folder_id(folder.as_str());
     if id.is_none() {

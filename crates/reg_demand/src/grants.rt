@@ -26,7 +26,9 @@ fn demand_on<K: Kept>(
     object: &Object,
     privilege: Privilege,
 ) -> Result<Option<Refusal>, AllocError>
-    ensures { IfOk result (λ found. found ≡ first_of (denial (K.held kept.now) facts.now who.now (On (bare_text (entity_of text.now) text.now) object.now privilege) ∷ [])) }
+    ensures { IfOk result (λ found. found
+        ≡ first_of (denial (K.held kept.now) facts.now who.now
+        (On (bare_text (entity_of text.now) text.now) object.now privilege) ∷ [])) }
 {
     if may(facts, kept, who, object, privilege) {
         return Ok(None);
@@ -43,7 +45,9 @@ fn demand_admin<K: Kept>(
     text: &Text,
     object: &Object,
 ) -> Result<Option<Refusal>, AllocError>
-    ensures { IfOk result (λ found. found ≡ first_of (denial (K.held kept.now) facts.now who.now (admin_of (bare_text (entity_of text.now) text.now) object.now facts.now) ∷ [])) }
+    ensures { IfOk result (λ found. found
+        ≡ first_of (denial (K.held kept.now) facts.now who.now
+        (admin_of (bare_text (entity_of text.now) text.now) object.now facts.now) ∷ [])) }
 {
     match object {
         Object::Folder(_) => demand_on(alloc, facts, kept, who, text, object, Privilege::StemAdmin),
@@ -66,7 +70,9 @@ fn demand_admin_found<K: Kept>(
     text: &Text,
     found: &Option<Object>,
 ) -> Result<Option<Refusal>, AllocError>
-    ensures { IfOk result (λ refusal. refusal ≡ first_of (denial (K.held kept.now) facts.now who.now (admin_of_found (bare_text (entity_of text.now) text.now) found.now facts.now) ∷ [])) }
+    ensures { IfOk result (λ refusal. refusal
+        ≡ first_of (denial (K.held kept.now) facts.now who.now
+        (admin_of_found (bare_text (entity_of text.now) text.now) found.now facts.now) ∷ [])) }
 {
     match found {
         Some(object) => demand_admin(alloc, facts, kept, who, text, object),
@@ -85,7 +91,9 @@ pub fn grant_add<K: Kept>(
     _privilege: Privilege,
     holder: &Entity,
 ) -> Result<Option<Refusal>, AllocError>
-    ensures { IfOk result (λ found. found ≡ first_of (barred (K.held kept.now) facts.now _by.now who.now (GrantAdd object.now _privilege holder.now))) }
+    ensures { IfOk result (λ found. found
+        ≡ first_of (barred (K.held kept.now) facts.now _by.now who.now
+        (GrantAdd object.now _privilege holder.now))) }
 {
     let found = facts.object_of(alloc, object)?;
     if is_missing_object(alloc, facts, kept, who, object, &found)? {
@@ -104,7 +112,8 @@ fn grant_stands(
     privilege: Privilege,
     holder: &Entity,
 ) -> bool
-    ensures { result ≡ grant_stands (grant_for found.now privilege (holder_of holder.now facts.now)) facts.now }
+    ensures { result ≡ grant_stands
+        (grant_for found.now privilege (holder_of holder.now facts.now)) facts.now }
 {
     let Some(object) = found else {
         return false;
@@ -130,7 +139,9 @@ pub fn grant_remove<K: Kept>(
     privilege: Privilege,
     holder: &Entity,
 ) -> Result<Option<Refusal>, AllocError>
-    ensures { IfOk result (λ found. found ≡ first_of (barred (K.held kept.now) facts.now _by.now who.now (GrantRemove object.now privilege holder.now))) }
+    ensures { IfOk result (λ found. found
+        ≡ first_of (barred (K.held kept.now) facts.now _by.now who.now
+        (GrantRemove object.now privilege holder.now))) }
 {
     let found = facts.object_of(alloc, object)?;
     if is_missing_object(alloc, facts, kept, who, object, &found)? {

@@ -1,6 +1,7 @@
 // What comes before all else that may refuse a command about groups.
 ghost use Rattle.std.specs.Prelude.{◌≡◌, IfOk};
-ghost use Rattle.reg_terms.specs.declared.command.Command.TheVariants.{GroupRename, GroupMove, GroupDelete};
+ghost use Rattle.reg_terms.specs.declared.command.Command.TheVariants.{GroupRename, GroupMove};
+ghost use Rattle.reg_terms.specs.declared.command.Command.TheVariants.{GroupDelete};
 ghost use Rattle.reg_demand.specs.Refusing.{first_of, barred};
 
 use crate::finding::is_unseen;
@@ -22,7 +23,9 @@ pub fn group_rename<K: Kept>(
     group: &Name,
     _extension: &Text,
 ) -> Result<Option<Refusal>, AllocError>
-    ensures { IfOk result (λ found. found ≡ first_of (barred (K.held kept.now) facts.now _by.now who.now (GroupRename group.now _extension.now))) }
+    ensures { IfOk result (λ found. found
+        ≡ first_of (barred (K.held kept.now) facts.now _by.now who.now
+        (GroupRename group.now _extension.now))) }
 {
     let id = facts.group_id(group.as_str());
     if is_unseen(facts, kept, who, &id) {
@@ -38,7 +41,8 @@ pub fn group_rename<K: Kept>(
     Ok(None)
 }
 
-/// The caller sees the group and administers it; the folder stands, and the caller may create in it.
+/// The caller sees the group and administers it; the folder stands, and the caller may create in
+/// it.
 pub fn group_move<K: Kept>(
     alloc: Global,
     facts: &Facts,
@@ -48,7 +52,9 @@ pub fn group_move<K: Kept>(
     group: &Name,
     to: &Text,
 ) -> Result<Option<Refusal>, AllocError>
-    ensures { IfOk result (λ found. found ≡ first_of (barred (K.held kept.now) facts.now _by.now who.now (GroupMove group.now to.now))) }
+    ensures { IfOk result (λ found. found
+        ≡ first_of (barred (K.held kept.now) facts.now _by.now who.now
+        (GroupMove group.now to.now))) }
 {
     let id = facts.group_id(group.as_str());
     if is_unseen(facts, kept, who, &id) {
@@ -76,7 +82,8 @@ pub fn group_delete<K: Kept>(
     who: &Who,
     group: &Name,
 ) -> Result<Option<Refusal>, AllocError>
-    ensures { IfOk result (λ found. found ≡ first_of (barred (K.held kept.now) facts.now _by.now who.now (GroupDelete group.now))) }
+    ensures { IfOk result (λ found. found
+        ≡ first_of (barred (K.held kept.now) facts.now _by.now who.now (GroupDelete group.now))) }
 {
     let id = facts.group_id(group.as_str());
     if is_unseen(facts, kept, who, &id) {

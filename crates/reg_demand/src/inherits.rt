@@ -26,7 +26,9 @@ pub fn inherit_add<K: Kept>(
     _privilege: Privilege,
     holder: &Entity,
 ) -> Result<Option<Refusal>, AllocError>
-    ensures { IfOk result (λ found. found ≡ first_of (barred (K.held kept.now) facts.now _by.now who.now (InheritAdd folder.now _kind _scope _privilege holder.now))) }
+    ensures { IfOk result (λ found. found
+        ≡ first_of (barred (K.held kept.now) facts.now _by.now who.now
+        (InheritAdd folder.now _kind _scope _privilege holder.now))) }
 {
     let id = facts.folder_id(folder.as_str());
     if id.is_none() {
@@ -50,7 +52,8 @@ fn inherit_stands(
     privilege: Privilege,
     holder: &Entity,
 ) -> bool
-    ensures { result ≡ inherit_stands (inherit_for found.now kind scope privilege (holder_of holder.now facts.now)) facts.now }
+    ensures { result ≡ inherit_stands
+        (inherit_for found.now kind scope privilege (holder_of holder.now facts.now)) facts.now }
 {
     let Some(folder) = found else {
         return false;
@@ -80,7 +83,9 @@ pub fn inherit_remove<K: Kept>(
     privilege: Privilege,
     holder: &Entity,
 ) -> Result<Option<Refusal>, AllocError>
-    ensures { IfOk result (λ found. found ≡ first_of (barred (K.held kept.now) facts.now _by.now who.now (InheritRemove folder.now kind scope privilege holder.now))) }
+    ensures { IfOk result (λ found. found
+        ≡ first_of (barred (K.held kept.now) facts.now _by.now who.now
+        (InheritRemove folder.now kind scope privilege holder.now))) }
 {
     let id = facts.folder_id(folder.as_str());
     if id.is_none() {

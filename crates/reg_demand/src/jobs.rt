@@ -20,7 +20,9 @@ pub fn job_simple<K: Kept>(
     who: &Who,
     group: &Name,
 ) -> Result<Option<Refusal>, AllocError>
-    ensures { IfOk result (λ found. found ≡ first_of (no_group (K.held kept.now) facts.now who.now group.now ∷ denial (K.held kept.now) facts.now who.now Root ∷ [])) }
+    ensures { IfOk result (λ found. found
+        ≡ first_of (no_group (K.held kept.now) facts.now who.now group.now
+        ∷ denial (K.held kept.now) facts.now who.now Root ∷ [])) }
 {
     if is_unseen(facts, kept, who, &facts.group_id(group.as_str())) {
         return not_found(alloc, group.as_str());
@@ -36,7 +38,9 @@ pub fn job_list<K: Kept>(
     who: &Who,
     folder: &Text,
 ) -> Result<Option<Refusal>, AllocError>
-    ensures { IfOk result (λ found. found ≡ first_of (no_folder folder.now facts.now ∷ denial (K.held kept.now) facts.now who.now Root ∷ [])) }
+    ensures { IfOk result (λ found. found
+        ≡ first_of (no_folder folder.now facts.now ∷ denial (K.held kept.now) facts.now who.now Root
+        ∷ [])) }
 {
     if facts.folder_id(folder.as_str()).is_none() {
         return not_found(alloc, folder.as_str());
@@ -44,7 +48,8 @@ pub fn job_list<K: Kept>(
     demand_root(alloc, facts, kept, who)
 }
 
-/// A command about a job that is named: the caller is root, who alone sees jobs, and the job stands.
+/// A command about a job that is named: the caller is root, who alone sees jobs, and the job
+/// stands.
 pub fn of_job<K: Kept>(
     alloc: Global,
     facts: &Facts,
@@ -52,7 +57,9 @@ pub fn of_job<K: Kept>(
     who: &Who,
     job: &Text,
 ) -> Result<Option<Refusal>, AllocError>
-    ensures { IfOk result (λ found. found ≡ first_of (no_job (K.held kept.now) facts.now who.now job.now ∷ denial (K.held kept.now) facts.now who.now Root ∷ [])) }
+    ensures { IfOk result (λ found. found
+        ≡ first_of (no_job (K.held kept.now) facts.now who.now job.now
+        ∷ denial (K.held kept.now) facts.now who.now Root ∷ [])) }
 {
     if !is_root(facts, kept, who) {
         return not_found(alloc, job.as_str());

@@ -58,7 +58,8 @@ pub fn lacks_on_group<K: Kept>(
     found: &Option<GroupId>,
     privilege: Privilege,
 ) -> bool
-    ensures { result ≡ not (may (K.held kept.now) facts.now who.now (Group (the_id found.now)) privilege) }
+    ensures { result ≡ not (may (K.held kept.now) facts.now who.now
+        (Group (the_id found.now)) privilege) }
 {
     let id = the_group(found);
     !may(facts, kept, who, &Object::Group(id), privilege)
@@ -72,7 +73,8 @@ pub fn lacks_on_folder<K: Kept>(
     found: &Option<FolderId>,
     privilege: Privilege,
 ) -> bool
-    ensures { result ≡ not (may (K.held kept.now) facts.now who.now (Folder (the_id found.now)) privilege) }
+    ensures { result ≡ not (may (K.held kept.now) facts.now who.now
+        (Folder (the_id found.now)) privilege) }
 {
     let id = the_folder(found);
     !may(facts, kept, who, &Object::Folder(id), privilege)
@@ -86,7 +88,8 @@ pub fn lacks_on_definition<K: Kept>(
     found: &Option<AttrDefId>,
     privilege: Privilege,
 ) -> bool
-    ensures { result ≡ not (may (K.held kept.now) facts.now who.now (Def (the_id found.now)) privilege) }
+    ensures { result ≡ not (may (K.held kept.now) facts.now who.now
+        (Def (the_id found.now)) privilege) }
 {
     let id = the_definition(found);
     !may(facts, kept, who, &Object::Def(id), privilege)

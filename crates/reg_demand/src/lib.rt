@@ -1,5 +1,5 @@
-//! What comes before all else that may refuse a command: who is no caller, what isn't found or isn't
-//! seen, and what the caller lacks.
+//! What comes before all else that may refuse a command: who is no caller, what isn't found or
+//! isn't seen, and what the caller lacks.
 #![tactic(auto)]
 
 mod attributes;

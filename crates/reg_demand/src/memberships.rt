@@ -1,6 +1,7 @@
 // What comes before all else that may refuse a command about memberships.
 ghost use Rattle.std.specs.Prelude.{◌≡◌, IfOk};
-ghost use Rattle.reg_terms.specs.declared.command.Command.TheVariants.{MemberAdd, MemberRemove, MemberWindow};
+ghost use Rattle.reg_terms.specs.declared.command.Command.TheVariants.{MemberAdd, MemberRemove};
+ghost use Rattle.reg_terms.specs.declared.command.Command.TheVariants.{MemberWindow};
 ghost use Rattle.reg_facts.specs.Edits.{member_of};
 ghost use Rattle.reg_facts.specs.Naming.{group_id};
 ghost use Rattle.reg_demand.specs.Refusing.{first_of, barred, refused};
@@ -32,7 +33,9 @@ fn row_add<K: Kept>(
 ) -> Result<Option<Refusal>, AllocError>
     requires group { id ≡ group_id group.now facts.now }
     requires member { found.now ≡ member_of member.now facts.now }
-    ensures { IfOk result (λ refusal. refusal ≡ first_of (barred (K.held kept.now) facts.now by.now who.now (MemberAdd group.now member.now _from _until))) }
+    ensures { IfOk result (λ refusal. refusal
+        ≡ first_of (barred (K.held kept.now) facts.now by.now who.now
+        (MemberAdd group.now member.now _from _until))) }
 {
     if is_unseen(facts, kept, who, &id) {
         return not_found(alloc, group.as_str());
@@ -69,7 +72,9 @@ pub fn member_add<K: Kept>(
     from: Option<Moment>,
     until: Option<Moment>,
 ) -> Result<Option<Refusal>, AllocError>
-    ensures { IfOk result (λ refusal. refusal ≡ first_of (barred (K.held kept.now) facts.now by.now who.now (MemberAdd group.now member.now from until))) }
+    ensures { IfOk result (λ refusal. refusal
+        ≡ first_of (barred (K.held kept.now) facts.now by.now who.now
+        (MemberAdd group.now member.now from until))) }
 {
     let id = facts.group_id(group.as_str());
     let found = facts.member_of(member);
@@ -78,9 +83,9 @@ pub fn member_add<K: Kept>(
     )
 }
 
-/// What refuses a membership to come before all else, as `refused` has it, where its names were looked
-/// up: they stand for this group and this member, if for any. It changes nothing. The only error is out
-/// of memory.
+/// What refuses a membership to come before all else, as `refused` has it, where its names were
+/// looked up: they stand for this group and this member, if for any. It changes nothing. The only
+/// error is out of memory.
 pub fn refused_member<K: Kept>(
     alloc: Global,
     facts: &Facts,
@@ -95,7 +100,8 @@ pub fn refused_member<K: Kept>(
 ) -> Result<Option<Refusal>, AllocError>
     requires group { id ≡ group_id group.now facts.now }
     requires member { found.now ≡ member_of member.now facts.now }
-    ensures { IfOk result (λ refusal. refusal ≡ refused (K.held kept.now) facts.now by.now (MemberAdd group.now member.now from until)) }
+    ensures { IfOk result (λ refusal. refusal
+        ≡ refused (K.held kept.now) facts.now by.now (MemberAdd group.now member.now from until)) }
 {
     match who_of(facts, by) {
         Some(who) => row_add(
@@ -105,8 +111,8 @@ pub fn refused_member<K: Kept>(
     }
 }
 
-/// The caller sees the group and may update it; for the caller's own membership OPTOUT is enough. What
-/// is a member of the group counts as found.
+/// The caller sees the group and may update it; for the caller's own membership OPTOUT is enough.
+/// What is a member of the group counts as found.
 pub fn member_remove<K: Kept>(
     alloc: Global,
     facts: &Facts,
@@ -116,7 +122,9 @@ pub fn member_remove<K: Kept>(
     group: &Name,
     member: &Entity,
 ) -> Result<Option<Refusal>, AllocError>
-    ensures { IfOk result (λ found. found ≡ first_of (barred (K.held kept.now) facts.now by.now who.now (MemberRemove group.now member.now))) }
+    ensures { IfOk result (λ found. found
+        ≡ first_of (barred (K.held kept.now) facts.now by.now who.now
+        (MemberRemove group.now member.now))) }
 {
     let id = facts.group_id(group.as_str());
     if is_unseen(facts, kept, who, &id) {
@@ -148,7 +156,9 @@ pub fn member_window<K: Kept>(
     _from: Option<Moment>,
     _until: Option<Moment>,
 ) -> Result<Option<Refusal>, AllocError>
-    ensures { IfOk result (λ found. found ≡ first_of (barred (K.held kept.now) facts.now _by.now who.now (MemberWindow group.now member.now _from _until))) }
+    ensures { IfOk result (λ found. found
+        ≡ first_of (barred (K.held kept.now) facts.now _by.now who.now
+        (MemberWindow group.now member.now _from _until))) }
 {
     let id = facts.group_id(group.as_str());
     if is_unseen(facts, kept, who, &id) {

@@ -23,7 +23,8 @@ pub fn denied(
     name: &str,
     privilege: Privilege,
 ) -> Result<Option<Refusal>, AllocError>
-    ensures { IfOk result (λ found. found ≡ Some (Refusal.Denied name.now (line_of privilege).name)) }
+    ensures { IfOk result (λ found. found
+        ≡ Some (Refusal.Denied name.now (line_of privilege).name)) }
 {
     let object = Text::new(alloc, name)?;
     let privilege = Text::new(alloc, privilege_name(privilege))?;
@@ -51,7 +52,8 @@ fn bare_text(alloc: Global, text: &Text) -> Result<Text, AllocError>
 
 /// What a text names doesn't stand, or the caller may not see it.
 pub fn object_not_found(alloc: Global, text: &Text) -> Result<Option<Refusal>, AllocError>
-    ensures { IfOk result (λ found. found ≡ Some (Refusal.NotFound (bare_text (entity_of text.now) text.now))) }
+    ensures { IfOk result (λ found. found
+        ≡ Some (Refusal.NotFound (bare_text (entity_of text.now) text.now))) }
 {
     let object = bare_text(alloc, text)?;
     Ok(Some(Refusal::NotFound { object }))
@@ -63,7 +65,9 @@ pub fn object_denied(
     text: &Text,
     privilege: Privilege,
 ) -> Result<Option<Refusal>, AllocError>
-    ensures { IfOk result (λ found. found ≡ Some (Refusal.Denied (bare_text (entity_of text.now) text.now) (line_of privilege).name)) }
+    ensures { IfOk result (λ found. found
+        ≡ Some (Refusal.Denied (bare_text (entity_of text.now) text.now)
+        (line_of privilege).name)) }
 {
     let bare = bare_text(alloc, text)?;
     denied(alloc, bare.as_str(), privilege)

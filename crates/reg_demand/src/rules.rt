@@ -21,7 +21,10 @@ pub fn rule_of_groups<K: Kept>(
     first: &Name,
     second: &Name,
 ) -> Result<Option<Refusal>, AllocError>
-    ensures { IfOk result (λ found. found ≡ first_of (no_group (K.held kept.now) facts.now who.now first.now ∷ no_group (K.held kept.now) facts.now who.now second.now ∷ denial (K.held kept.now) facts.now who.now Root ∷ [])) }
+    ensures { IfOk result (λ found. found
+        ≡ first_of (no_group (K.held kept.now) facts.now who.now first.now
+        ∷ no_group (K.held kept.now) facts.now who.now second.now
+        ∷ denial (K.held kept.now) facts.now who.now Root ∷ [])) }
 {
     if is_unseen(facts, kept, who, &facts.group_id(first.as_str())) {
         return not_found(alloc, first.as_str());
@@ -41,7 +44,10 @@ pub fn rule_on_create<K: Kept>(
     folder: &Text,
     holder: &Entity,
 ) -> Result<Option<Refusal>, AllocError>
-    ensures { IfOk result (λ found. found ≡ first_of (no_folder folder.now facts.now ∷ no_entity (K.held kept.now) facts.now who.now holder.now ∷ denial (K.held kept.now) facts.now who.now Root ∷ [])) }
+    ensures { IfOk result (λ found. found
+        ≡ first_of (no_folder folder.now facts.now
+        ∷ no_entity (K.held kept.now) facts.now who.now holder.now
+        ∷ denial (K.held kept.now) facts.now who.now Root ∷ [])) }
 {
     if facts.folder_id(folder.as_str()).is_none() {
         return not_found(alloc, folder.as_str());

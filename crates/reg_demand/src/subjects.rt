@@ -16,7 +16,8 @@ pub fn demand_root<K: Kept>(
     kept: &K,
     who: &Who,
 ) -> Result<Option<Refusal>, AllocError>
-    ensures { IfOk result (λ found. found ≡ first_of (denial (K.held kept.now) facts.now who.now Root ∷ [])) }
+    ensures { IfOk result (λ found. found
+        ≡ first_of (denial (K.held kept.now) facts.now who.now Root ∷ [])) }
 {
     if !is_root(facts, kept, who) {
         return not_root(alloc);

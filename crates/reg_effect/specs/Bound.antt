@@ -1,5 +1,6 @@
 -- The most steps that a change may take: a step is one person tested, added, removed or listed.
-use Rattle.std.specs.Prelude.{ℕ, ◌+◌, ◌*◌, ◌==◌, ◌&&◌, List, [], ◌∷◌, not, max, length, filter, if◌then◌else◌}
+use Rattle.std.specs.Prelude.{ℕ, ◌+◌, ◌*◌, ◌==◌, ◌&&◌, List, [], ◌∷◌, not, max, length, filter}
+use Rattle.std.specs.Prelude.{if◌then◌else◌}
 use Rattle.std.specs.List.{list_any}
 use Rattle.reg_terms.specs.declared.kinds.Member.{Member}
 use Rattle.reg_terms.specs.declared.kinds.Member.TheVariants.{Person, Group}
@@ -21,7 +22,9 @@ asked_by_row L (Group h) = length (members_of L h)
 -- factors ask for the members of both
 abbrev pub asked_by_factors : Live → ℕ → List CompositeRow → ℕ
 asked_by_factors L g [] = 0
-asked_by_factors L g (c ∷ cs) = if c.group == g then length (members_of L c.left) + length (members_of L c.right) else asked_by_factors L g cs
+asked_by_factors L g (c ∷ cs) =
+    if c.group == g then length (members_of L c.left) + length (members_of L c.right)
+    else asked_by_factors L g cs
 
 -- how many are asked for at the group itself
 abbrev pub asked : Change → Live → ℕ
@@ -54,7 +57,9 @@ most_climb es g = edges_above es g + 2 * (1 + length (dependants es g))
 
 -- the persons whose membership of a group differs
 abbrev pub differing : Live → Live → ℕ → List ℕ
-differing L N g = filter (λ s. if member L g s then not (member N g s) else member N g s) (below (max (top L) (top N)))
+differing L N g =
+    filter (λ s. if member L g s then not (member N g s)
+    else member N g s) (below (max (top L) (top N)))
 
 -- the most steps that a change may take
 unfoldable pub most_steps : Change → Live → ℕ

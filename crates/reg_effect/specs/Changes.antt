@@ -1,5 +1,6 @@
 -- What a change does to live data, and what it asks of them.
-use Rattle.std.specs.Prelude.{◌≡◌, ⊤, ℕ, ◌==◌, List, [], ◌∷◌, Bool, true, false, map, if◌then◌else◌, nat_le}
+use Rattle.std.specs.Prelude.{◌≡◌, ⊤, ℕ, ◌==◌, List, [], ◌∷◌, Bool, true, false, map, if◌then◌else◌}
+use Rattle.std.specs.Prelude.{nat_le}
 use Rattle.std.specs.BTreeSet.{insert_key}
 use Rattle.std.specs.Set.{remove_key}
 use Rattle.reg_terms.specs.declared.kinds.Member.{Member}
@@ -21,14 +22,25 @@ nothing = record { rows = []; composites = [] }
 abbrev pub changed : Change → Live → Live
 changed (RowOn g m) L = record L { rows = insert_key row_cmp L.rows (g, m) }
 changed (RowOff g m) L = record L { rows = remove_key (is_live_row g m) L.rows }
-changed (FactorsOn g op left right) L = record L { composites = insert_key composite_cmp L.composites (record { group = g; op = op; left = left; right = right }) }
-changed (FactorsOff g) L = record L { composites = remove_key (λ (c : CompositeRow). c.group == g) L.composites }
+changed (FactorsOn g op left right) L =
+    record L {
+      composites = insert_key composite_cmp L.composites (record {
+        group = g;
+        op = op;
+        left = left;
+        right = right;
+      });
+    }
+changed (FactorsOff g) L =
+    record L { composites = remove_key (λ (c : CompositeRow). c.group == g) L.composites }
 
--- whether a change fits live data: what comes isn't there, what goes is, and a composite has no rows
+-- whether a change fits live data: what comes isn't there, what goes is, and a composite has no
+-- rows
 abbrev pub Fits : Change → Live → Type 0
 Fits (RowOn g m) L = (has_live_row g m L.rows ≡ false) × (is_composite g L.composites ≡ false)
 Fits (RowOff g m) L = has_live_row g m L.rows ≡ true
-Fits (FactorsOn g op left right) L = (is_composite g L.composites ≡ false) × (has_live_rows g L.rows ≡ false)
+Fits (FactorsOn g op left right) L =
+    (is_composite g L.composites ≡ false) × (has_live_rows g L.rows ≡ false)
 Fits (FactorsOff g) L = is_composite g L.composites ≡ true
 
 -- the group that a change is of
@@ -64,7 +76,9 @@ all_on rows = map (λ (row : ℕ × Member). RowOn row.0 row.1) rows
 -- the rows that pass a test, in order, beside others
 abbrev pub rows_where : (MemberRow → Bool) → List MemberRow → List (ℕ × Member) → List (ℕ × Member)
 rows_where test [] rows = rows
-rows_where test (row ∷ rest) rows = rows_where test rest (if test row then insert_key row_cmp rows (row.group, row.member) else rows)
+rows_where test (row ∷ rest) rows =
+    rows_where test rest (if test row then insert_key row_cmp rows (row.group, row.member)
+    else rows)
 
 -- the rows that are on at a moment, in order, beside others
 abbrev pub rows_on : ℕ → List MemberRow → List (ℕ × Member) → List (ℕ × Member)
@@ -77,4 +91,7 @@ composites_in (c ∷ rest) composites = composites_in rest (insert_key composite
 
 -- the live data at a moment: the rows that are on, those with from <= at, and the composites
 abbrev pub live_of : ℕ → List MemberRow → List CompositeRow → Live
-live_of at rows composites = record { rows = rows_on at rows []; composites = composites_in composites [] }
+live_of at rows composites = record {
+  rows = rows_on at rows [];
+  composites = composites_in composites [];
+}

@@ -1,4 +1,5 @@
--- The order of rows and composites: rows by group, then persons, then groups, and composites by group.
+-- The order of rows and composites: rows by group, then persons, then groups, and composites by
+-- group.
 use Rattle.std.specs.Prelude.{⊤, ℕ, ◌==◌, ◌&&◌, ◌<◌, ◌^◌, List, [], ◌∷◌, Bool, if◌then◌else◌}
 use Rattle.std.specs.List.{list_any, All}
 use Rattle.std.specs.Ordering.{nat_cmp, ordering_then}

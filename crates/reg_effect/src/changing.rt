@@ -11,8 +11,8 @@ use reg_facts::Member;
 use std::alloc::AllocError;
 use std::sync::ledger::Ledger;
 
-/// Carries out one change, and remembers whom it turns. It takes at most the steps of the change. Out of memory the
-/// memberships are given up.
+/// Carries out one change, and remembers whom it turns. It takes at most the steps of the change.
+/// Out of memory the memberships are given up.
 pub fn change_one<K: Kept, L: Ledger>(
     kept: K,
     change: &Change,
@@ -21,7 +21,8 @@ pub fn change_one<K: Kept, L: Ledger>(
 ) -> Result<K, AllocError>
     requires { Suits change.now (K.held kept) }
     ensures held { IfOk result (λ k. K.held k ≡ changed change.now (K.held kept)) }
-    ensures told { IfOk result (λ k. (M : Live) → Remembers M (K.held kept) turned.old → Remembers M (K.held k) turned.new) }
+    ensures told { IfOk result (λ k. (M : Live) → Remembers M (K.held kept) turned.old
+        → Remembers M (K.held k) turned.new) }
     ensures cost { OnOk result (steps.new ≤ steps.old + most_steps change.now (K.held kept)) }
 {
     let (kept, delta) = kept.change(change, steps)?;
@@ -39,8 +40,10 @@ pub fn put_on<K: Kept, L: Ledger>(
 ) -> Result<K, AllocError>
     requires { SuitAll (all_on rows.now) (K.held kept) }
     ensures held { IfOk result (λ k. K.held k ≡ changed_by (all_on rows.now) (K.held kept)) }
-    ensures told { IfOk result (λ k. (M : Live) → Remembers M (K.held kept) turned.old → Remembers M (K.held k) turned.new) }
-    ensures cost { OnOk result (steps.new ≤ steps.old + most_steps_of (all_on rows.now) (K.held kept)) }
+    ensures told { IfOk result (λ k. (M : Live) → Remembers M (K.held kept) turned.old
+        → Remembers M (K.held k) turned.new) }
+    ensures cost { OnOk result (steps.new
+        ≤ steps.old + most_steps_of (all_on rows.now) (K.held kept)) }
 {
     let mut kept = kept;
     for row in rows {

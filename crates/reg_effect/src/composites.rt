@@ -77,7 +77,8 @@ impl Composites {
         self.of(group).is_some()
     }
 
-    /// Puts a composite at its place; its group must be none. Out of memory the composites stay as they were.
+    /// Puts a composite at its place; its group must be none. Out of memory the composites stay as
+    /// they were.
     pub fn insert(&mut self, row: CompositeRow) -> Result<(), AllocError>
         requires { is_composite row.group self.old ≡ false }
         ensures ok { OnOk result (self.new ≡ insert_key composite_cmp self.old row) }

@@ -1,4 +1,5 @@
-// Effective memberships kept in a set for each group, which a change touches only from its group upwards.
+// Effective memberships kept in a set for each group, which a change touches only from its group
+// upwards.
 ghost use Rattle.std.specs.Prelude.{◌≡◌, ◌+◌, ◌≤◌, ℕ, IfOk, OnOk, length, [], nat_eq};
 ghost use Rattle.std.specs.List.{IsDistinct};
 ghost use Rattle.std.specs.List.Sorted.{IsStrictlySortedBy};
@@ -66,7 +67,8 @@ fn ask_row<L: Ledger>(
     named: Member,
     steps: &mut Steps<L>,
 ) -> Result<Vec<SubjectId>, AllocError>
-    ensures value { IfOk result (λ v. (q : ℕ) → among q v.items ≡ asks_row (λ y s. holds y s sets.now) named q) }
+    ensures value { IfOk result (λ v. (q : ℕ)
+        → among q v.items ≡ asks_row (λ y s. holds y s sets.now) named q) }
     ensures distinct { IfOk result (λ v. IsDistinct nat_eq v.items) }
     ensures cost { IfOk result (λ v. steps.new ≤ steps.old + length v.items) }
 {
@@ -87,7 +89,8 @@ fn ask<L: Ledger>(
     change: &Change,
     steps: &mut Steps<L>,
 ) -> Result<Vec<SubjectId>, AllocError>
-    ensures value { IfOk result (λ v. (q : ℕ) → among q v.items ≡ asks change.now (λ y s. holds y s sets.now) q) }
+    ensures value { IfOk result (λ v. (q : ℕ)
+        → among q v.items ≡ asks change.now (λ y s. holds y s sets.now) q) }
     ensures distinct { IfOk result (λ v. IsDistinct nat_eq v.items) }
     ensures cost { IfOk result (λ v. steps.new ≤ steps.old + length v.items) }
 {

@@ -25,15 +25,16 @@ pub trait Kept: Drop {
     fn start(alloc: Global) -> Result<Self, AllocError>
         ensures { IfOk result (λ k. held k ≡ nothing) };
 
-    /// The live data. No path of nested groups and factors leads back to where it began, each group is a composite once at
-    /// most, and a composite has no rows.
+    /// The live data. No path of nested groups and factors leads back to where it began, each group
+    /// is a composite once at most, and a composite has no rows.
     fn live(&self) -> &Live
         ensures live { result.now ≡ held self.now }
         ensures no_circle { IsAcyclic (edges (held self.now)) }
         ensures well { IsWell (held self.now) };
 
-    /// Whether the person is an effective member of the group: one of a composite as its factors say, and of another group
-    /// where a row names the person or a group that has the person. Takes no memory.
+    /// Whether the person is an effective member of the group: one of a composite as its factors
+    /// say, and of another group where a row names the person or a group that has the person. Takes
+    /// no memory.
     fn is_member(&self, g: GroupId, s: SubjectId) -> bool
         ensures value { result ≡ member (held self.now) g s }
         ensures by_level { result ≡ level (λ h. member (held self.now) h s) (held self.now) g s };
@@ -49,8 +50,8 @@ pub trait Kept: Drop {
         ensures each { IfOk result (λ v. (g : ℕ) → among g v.items ≡ member (held self.now) g s) }
         ensures sorted { IfOk result (λ v. IsStrictlySortedBy nat_cmp v.items) };
 
-    /// Changes the live data, and gives what that begins and ends. A step is one person tested, added, removed or listed in
-    /// a group's set. Out of memory the value is given up.
+    /// Changes the live data, and gives what that begins and ends. A step is one person tested,
+    /// added, removed or listed in a group's set. Out of memory the value is given up.
     fn change<L: Ledger>(
         self,
         change: &Change,
@@ -58,7 +59,9 @@ pub trait Kept: Drop {
     ) -> Result<(Self, Delta), AllocError>
         requires { Suits change.now (held self) }
         ensures live { IfOk result (λ r. held r.0 ≡ changed change.now (held self)) }
-        ensures began { IfOk result (λ r. r.1.began ≡ began (held self) (changed change.now (held self))) }
-        ensures ended { IfOk result (λ r. r.1.ended ≡ ended (held self) (changed change.now (held self))) }
+        ensures began { IfOk result (λ r. r.1.began
+            ≡ began (held self) (changed change.now (held self))) }
+        ensures ended { IfOk result (λ r. r.1.ended
+            ≡ ended (held self) (changed change.now (held self))) }
         ensures cost { OnOk result (steps.new ≤ steps.old + most_steps change.now (held self)) };
 }

@@ -1,5 +1,5 @@
-//! Effective membership: who is a member of which group, by rows, nested groups and composites, and what a change of them
-//! begins and ends.
+//! Effective membership: who is a member of which group, by rows, nested groups and composites, and
+//! what a change of them begins and ends.
 #![tactic(auto)]
 
 mod changing;

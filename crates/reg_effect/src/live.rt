@@ -3,14 +3,16 @@ ghost use Rattle.std.specs.Prelude.{◌≡◌, ◌==◌, [], IfOk, OnOk};
 ghost use Rattle.std.specs.List.{find};
 ghost use Rattle.reg_facts.specs.Edits.{is_composite};
 ghost use Rattle.reg_effect.specs.Order.{has_live_rows};
-ghost use Rattle.reg_effect.specs.Changes.{nothing, changed, group_of, Fits, rows_on, composites_in, live_of};
+ghost use Rattle.reg_effect.specs.Changes.{nothing, changed, group_of, Fits, rows_on};
+ghost use Rattle.reg_effect.specs.Changes.{composites_in, live_of};
 
 use crate::{Composites, Pairs, Rows};
 use reg_base::{GroupId, Moment};
 use reg_facts::{CompositeRow, Facts, Member, MemberRow, SetOp};
 use std::alloc::{AllocError, Global};
 
-/// The rows that are on at a moment, and the composites, each in order: what effective membership is computed from.
+/// The rows that are on at a moment, and the composites, each in order: what effective membership
+/// is computed from.
 #[derive(Drop)]
 pub struct Live {
     pub rows: Rows,

@@ -1,5 +1,6 @@
 // Memberships as an ordered set.
-ghost use Rattle.std.specs.Prelude.{◌≡◌, ◌==◌, ◌&&◌, ◌||◌, not, [], ℕ, IfOk, OnOk, OnErr, IsTrue, filter};
+ghost use Rattle.std.specs.Prelude.{◌≡◌, ◌==◌, ◌&&◌, ◌||◌, not, [], ℕ, IfOk, OnOk, OnErr, IsTrue};
+ghost use Rattle.std.specs.Prelude.{filter};
 ghost use Rattle.std.specs.List.Sorted.{IsStrictlySortedBy};
 ghost use Rattle.std.specs.Ordering.{nat_cmp};
 ghost use Rattle.reg_graph.specs.Sets.{holds, subjects_of, pair_cmp};
@@ -11,7 +12,8 @@ use std::alloc::{AllocError, Global};
 use std::collections::BTreeSet;
 use std::marker::Model;
 
-/// Pairs of a group and a person, each once. Contracts see the list in order. No use of it counts as a step.
+/// Pairs of a group and a person, each once. Contracts see the list in order. No use of it counts
+/// as a step.
 #[derive(Drop)]
 pub(crate) struct Marks {
     alloc: Global,
@@ -110,7 +112,8 @@ impl Marks {
 
     /// The pairs that the other one hasn't, in order.
     pub(crate) fn beyond(&self, other: &Marks) -> Result<Pairs, AllocError>
-        ensures value { IfOk result (λ p. p ≡ filter (λ q. not (holds q.0 q.1 other.now)) self.now) }
+        ensures value { IfOk result (λ p. p
+            ≡ filter (λ q. not (holds q.0 q.1 other.now)) self.now) }
         ensures ordered { IfOk result (λ p. IsStrictlySortedBy pair_cmp p) }
     {
         let mut pairs = Pairs::new(self.alloc);

@@ -21,8 +21,8 @@ use std::alloc::{AllocError, Global};
 use std::marker::Model;
 use std::sync::ledger::Ledger;
 
-/// The plain program of the definition: a table of all effective memberships, computed from the live data in rounds, each a
-/// level deeper, until a round changes nothing.
+/// The plain program of the definition: a table of all effective memberships, computed from the
+/// live data in rounds, each a level deeper, until a round changes nothing.
 #[derive(Drop)]
 pub struct Plain {
     alloc: Global,
@@ -76,7 +76,8 @@ fn add_factor(
     next: &mut Marks,
 ) -> Result<(), AllocError>
     ensures { OnOk result ((y q : ℕ) → holds y q next.new
-        ≡ ((((y == c.now.group) && (q == person)) && combine c.now.op true (holds c.now.right person table.now)) || holds y q next.old)) }
+        ≡ ((((y == c.now.group) && (q == person))
+        && combine c.now.op true (holds c.now.right person table.now)) || holds y q next.old)) }
 {
     if combine(c.op, true, table.has(c.right, person)) {
         next.add(c.group, person)?;
@@ -87,7 +88,8 @@ fn add_factor(
 /// Adds whom the factors of a composite give, by the table of the level below.
 fn add_composite(table: &Marks, c: &CompositeRow, next: &mut Marks) -> Result<(), AllocError>
     ensures { OnOk result ((y q : ℕ) → holds y q next.new
-        ≡ (((c.now.group == y) && combine c.now.op (holds c.now.left q table.now) (holds c.now.right q table.now)) || holds y q next.old)) }
+        ≡ (((c.now.group == y) && combine c.now.op (holds c.now.left q table.now)
+        (holds c.now.right q table.now)) || holds y q next.old)) }
 {
     let persons = table.subjects(c.left)?;
     for person in &persons {
@@ -129,7 +131,8 @@ fn deepen(
     composites: &[CompositeRow],
 ) -> Result<Marks, AllocError>
     ensures { IfOk result (λ next. (y q : ℕ) → holds y q next
-        ≡ (in_factors (λ h. holds h q table.now) composites.now y || in_rows (λ h. holds h q table.now) rows.now y q)) }
+        ≡ (in_factors (λ h. holds h q table.now) composites.now y
+        || in_rows (λ h. holds h q table.now) rows.now y q)) }
 {
     let mut next = Marks::new(alloc);
     add_rows(table, rows, &mut next)?;

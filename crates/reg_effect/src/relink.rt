@@ -2,7 +2,8 @@
 ghost use Rattle.std.specs.Prelude.{◌≡◌, ◌∷◌, false, OnOk};
 ghost use Rattle.std.specs.List.Sorted.{IsPermutation};
 ghost use Rattle.reg_graph.specs.Edges.{reaches};
-ghost use Rattle.reg_effect.specs.declared.live.Change.TheVariants.{RowOn, RowOff, FactorsOn, FactorsOff};
+ghost use Rattle.reg_effect.specs.declared.live.Change.TheVariants.{RowOn, RowOff, FactorsOn};
+ghost use Rattle.reg_effect.specs.declared.live.Change.TheVariants.{FactorsOff};
 ghost use Rattle.reg_effect.specs.Changes.{changed, Fits, Suits};
 ghost use Rattle.reg_effect.specs.Invariant.{IsCounted};
 
@@ -12,7 +13,8 @@ use reg_facts::{Member, SetOp};
 use reg_graph::{Dag, EdgeFault};
 use std::alloc::AllocError;
 
-/// One more edge, which closes no circle, so that only memory can be wanting. Out of memory the graph stays as it was.
+/// One more edge, which closes no circle, so that only memory can be wanting. Out of memory the
+/// graph stays as it was.
 pub fn link(graph: &mut Dag, from: GroupId, to: GroupId) -> Result<(), AllocError>
     requires { reaches graph.old to from ≡ false }
     ensures { OnOk result (IsPermutation ((from, to) ∷ graph.old) graph.new) }

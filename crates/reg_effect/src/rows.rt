@@ -2,7 +2,8 @@
 ghost use Rattle.std.specs.Prelude.{◌≡◌, ◌++◌, [], IfOk, OnOk, OnErr};
 ghost use Rattle.std.specs.BTreeSet.{insert_key};
 ghost use Rattle.std.specs.Set.{remove_key};
-ghost use Rattle.reg_effect.specs.Order.{row_cmp, is_live_row, has_live_row, has_live_rows, nested, groups_of};
+ghost use Rattle.reg_effect.specs.Order.{row_cmp, is_live_row, has_live_row, has_live_rows, nested};
+ghost use Rattle.reg_effect.specs.Order.{groups_of};
 
 use reg_base::{GroupId, SubjectId};
 use reg_facts::Member;
@@ -10,7 +11,8 @@ use std::alloc::{AllocError, Global};
 use std::collections::BTreeSet;
 use std::marker::Model;
 
-/// Rows (group, member), each once, by group, persons before groups, and the member's id. Contracts see the list.
+/// Rows (group, member), each once, by group, persons before groups, and the member's id. Contracts
+/// see the list.
 #[derive(Drop)]
 pub struct Rows {
     alloc: Global,

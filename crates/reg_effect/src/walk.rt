@@ -1,5 +1,6 @@
 // The sets of one group after another are brought up to date.
-ghost use Rattle.std.specs.Prelude.{◌≡◌, ◌==◌, ◌&&◌, ◌||◌, ◌+◌, ◌*◌, ◌≤◌, ℕ, IfOk, OnOk, length, false, filter, [], if◌then◌else◌};
+ghost use Rattle.std.specs.Prelude.{◌≡◌, ◌==◌, ◌&&◌, ◌||◌, ◌+◌, ◌*◌, ◌≤◌, ℕ, IfOk, OnOk, length};
+ghost use Rattle.std.specs.Prelude.{false, filter, [], if◌then◌else◌};
 ghost use Rattle.std.specs.List.{list_any};
 ghost use Rattle.reg_graph.specs.Sets.{holds};
 ghost use Rattle.reg_graph.specs.Edges.{has_edge, among, IsAcyclic};
@@ -33,7 +34,8 @@ fn any_has<L: Ledger>(groups: &[GroupId], sets: &Sets, s: SubjectId, steps: &mut
     false
 }
 
-/// Whether the group has the person, by the sets of the groups below it. `below` are the groups that its rows name.
+/// Whether the group has the person, by the sets of the groups below it. `below` are the groups
+/// that its rows name.
 #[tactic(auto, using(crate::proofs::Own::by_rows, crate::proofs::Own::by_factors, crate::proofs::Own::rows_cost, crate::proofs::Own::factors_cost))]
 fn test<L: Ledger>(
     live: &Live,
@@ -72,10 +74,19 @@ fn update<L: Ledger>(
 ) -> Result<bool, AllocError>
     requires below { below.now ≡ nested g live.now.rows }
     requires once { Once live.now.composites }
-    ensures changed { IfOk result (λ b. b ≡ differ (holds g s sets.old) (level (λ h. holds h s sets.old) live.now g s)) }
-    ensures sets { OnOk result ((y q : ℕ) → holds y q sets.new ≡ (if (y == g) && (q == s) then level (λ h. holds h s sets.old) live.now g s else holds y q sets.old)) }
-    ensures began { OnOk result ((y q : ℕ) → holds y q began.new ≡ ((((y == g) && (q == s)) && begins (holds g s sets.old) (level (λ h. holds h s sets.old) live.now g s)) || holds y q began.old)) }
-    ensures ended { OnOk result ((y q : ℕ) → holds y q ended.new ≡ ((((y == g) && (q == s)) && ends (holds g s sets.old) (level (λ h. holds h s sets.old) live.now g s)) || holds y q ended.old)) }
+    ensures changed { IfOk result (λ b. b
+        ≡ differ (holds g s sets.old) (level (λ h. holds h s sets.old) live.now g s)) }
+    ensures sets { OnOk result ((y q : ℕ)
+        → holds y q sets.new ≡ (if (y == g) && (q == s)
+        then level (λ h. holds h s sets.old) live.now g s else holds y q sets.old)) }
+    ensures began { OnOk result ((y q : ℕ)
+        → holds y q began.new ≡ ((((y == g) && (q == s))
+        && begins (holds g s sets.old) (level (λ h. holds h s sets.old) live.now g s))
+        || holds y q began.old)) }
+    ensures ended { OnOk result ((y q : ℕ)
+        → holds y q ended.new ≡ ((((y == g) && (q == s))
+        && ends (holds g s sets.old) (level (λ h. holds h s sets.old) live.now g s))
+        || holds y q ended.old)) }
     ensures cost { steps.new ≤ steps.old + leaving (edges live.now) g + 2 }
 {
     if test(live, below, sets, g, s, steps) {
@@ -105,12 +116,25 @@ fn pass<L: Ledger>(
 ) -> Result<Vec<SubjectId>, AllocError>
     requires loop_free { has_edge (edges live.now) g g ≡ false }
     requires once { Once live.now.composites }
-    ensures changed { IfOk result (λ v. (q : ℕ) → among q v.items ≡ (among q persons.now && differ (holds g q sets.old) (level (λ h. holds h q sets.old) live.now g q))) }
-    ensures sets { OnOk result (Passed sets.old sets.new g (λ q. level (λ h. holds h q sets.old) live.now g q) persons.now) }
-    ensures began { OnOk result ((y q : ℕ) → holds y q began.new ≡ ((((y == g) && among q persons.now) && begins (holds g q sets.old) (level (λ h. holds h q sets.old) live.now g q)) || holds y q began.old)) }
-    ensures ended { OnOk result ((y q : ℕ) → holds y q ended.new ≡ ((((y == g) && among q persons.now) && ends (holds g q sets.old) (level (λ h. holds h q sets.old) live.now g q)) || holds y q ended.old)) }
-    ensures few { IfOk result (λ v. length v.items ≤ length (filter (λ q. differ (holds g q sets.old) (level (λ h. holds h q sets.old) live.now g q)) persons.now)) }
-    ensures cost { OnOk result (steps.new ≤ steps.old + length persons.now * (leaving (edges live.now) g + 2)) }
+    ensures changed { IfOk result (λ v. (q : ℕ)
+        → among q v.items ≡ (among q persons.now
+        && differ (holds g q sets.old) (level (λ h. holds h q sets.old) live.now g q))) }
+    ensures sets { OnOk result
+        (Passed sets.old sets.new g
+        (λ q. level (λ h. holds h q sets.old) live.now g q) persons.now) }
+    ensures began { OnOk result ((y q : ℕ)
+        → holds y q began.new ≡ ((((y == g) && among q persons.now)
+        && begins (holds g q sets.old) (level (λ h. holds h q sets.old) live.now g q))
+        || holds y q began.old)) }
+    ensures ended { OnOk result ((y q : ℕ)
+        → holds y q ended.new ≡ ((((y == g) && among q persons.now)
+        && ends (holds g q sets.old) (level (λ h. holds h q sets.old) live.now g q))
+        || holds y q ended.old)) }
+    ensures few { IfOk result (λ v. length v.items
+        ≤ length (filter (λ q. differ (holds g q sets.old)
+        (level (λ h. holds h q sets.old) live.now g q)) persons.now)) }
+    ensures cost { OnOk result (steps.new
+        ≤ steps.old + length persons.now * (leaving (edges live.now) g + 2)) }
 {
     let below = live.rows.nested(g)?;
     let mut changed = Vec::new(alloc);
@@ -122,8 +146,9 @@ fn pass<L: Ledger>(
     Ok(changed)
 }
 
-/// Brings the sets to the live data after a change of the group `g`: first that group for the persons who are asked, and then
-/// the groups above it, each after those that it depends on, for the persons whose membership of `g` changed.
+/// Brings the sets to the live data after a change of the group `g`: first that group for the
+/// persons who are asked, and then the groups above it, each after those that it depends on, for
+/// the persons whose membership of `g` changed.
 pub(crate) fn walk<L: Ledger>(
     alloc: Global,
     live: &Live,
@@ -139,13 +164,19 @@ pub(crate) fn walk<L: Ledger>(
     requires once { Once live.now.composites }
     requires counted { IsCounted live.now graph.now }
     requires touches { Touches (λ y q. holds y q sets.old) live.now g }
-    requires asked { (q : ℕ) → among q asked.now ≡ false → holds g q sets.old ≡ member live.now g q }
+    requires asked { (q : ℕ) → among q asked.now ≡ false
+        → holds g q sets.old ≡ member live.now g q }
     requires none_began { began.old ≡ [] }
     requires none_ended { ended.old ≡ [] }
     ensures sets { OnOk result ((y q : ℕ) → holds y q sets.new ≡ member live.now y q) }
-    ensures began { OnOk result ((y q : ℕ) → holds y q began.new ≡ begins (holds y q sets.old) (member live.now y q)) }
-    ensures ended { OnOk result ((y q : ℕ) → holds y q ended.new ≡ ends (holds y q sets.old) (member live.now y q)) }
-    ensures cost { OnOk result (steps.new ≤ steps.old + length asked.now * (leaving (edges live.now) g + 2) + length (filter (λ q. differ (holds g q sets.old) (member live.now g q)) asked.now) * most_climb (edges live.now) g) }
+    ensures began { OnOk result ((y q : ℕ)
+        → holds y q began.new ≡ begins (holds y q sets.old) (member live.now y q)) }
+    ensures ended { OnOk result ((y q : ℕ)
+        → holds y q ended.new ≡ ends (holds y q sets.old) (member live.now y q)) }
+    ensures cost { OnOk result (steps.new
+        ≤ steps.old + length asked.now * (leaving (edges live.now) g + 2)
+        + length (filter (λ q. differ (holds g q sets.old) (member live.now g q)) asked.now)
+        * most_climb (edges live.now) g) }
 {
     let changed = pass(alloc, live, sets, began, ended, g, asked, steps)?;
     if changed.is_empty() {

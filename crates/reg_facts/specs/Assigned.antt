@@ -1,4 +1,5 @@
--- What is true of the attributes of every history: ids of assignments ascend, each attribute's definition stands, what an assignment speaks of stands, and no more values stand than may.
+-- What is true of the attributes of every history: ids of assignments ascend, each attribute's
+-- definition stands, what an assignment speaks of stands, and no more values stand than may.
 use Rattle.std.specs.Prelude.{◌≡◌, ◌≤◌, true, IsSome, map}
 use Rattle.std.specs.List.{AllByRecursion}
 use Rattle.reg_terms.specs.Limits.{max_values}
@@ -25,6 +26,7 @@ pub record AssignStands (f : Lists) (row : AssignRow) : Type 0 where
 
 pub record AreAssigned (f : Lists) : Type 0 where
   pub ascend : Ascend f.made.assigns (map (λ (row : AssignRow). row.id) f.assigns)
-  pub defined : AllByRecursion (λ (row : AttributeRow). IsSome (definition_row row.definition f.definitions)) f.attributes
+  pub defined : AllByRecursion
+      (λ (row : AttributeRow). IsSome (definition_row row.definition f.definitions)) f.attributes
   pub stand : AllByRecursion (λ (row : AssignRow). AssignStands f row) f.assigns
   pub few : value_count f.assigns ≤ max_values

@@ -16,7 +16,9 @@ by_pair key = record { key = key }
 
 -- the two keys are one
 abbrev pub same_key : AssignKey → AssignKey → Bool
-same_key key other = same_object other.owner key.owner && ((other.id == key.id) && (other.attribute == key.attribute))
+same_key key other =
+    same_object other.owner key.owner
+    && ((other.id == key.id) && (other.attribute == key.attribute))
 
 -- the id of each key is below that of the next
 abbrev pub KeysAscend : List AssignKey → Type 0

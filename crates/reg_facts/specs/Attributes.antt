@@ -1,5 +1,7 @@
--- Definitions, attributes and assignments: which are found by what, and what the texts of a command name.
-use Rattle.std.specs.Prelude.{ℕ, ◌+◌, ◌==◌, ◌&&◌, List, [], ◌∷◌, Bool, Option, None, Some, filter, length, option_and_then}
+-- Definitions, attributes and assignments: which are found by what, and what the texts of a command
+-- name.
+use Rattle.std.specs.Prelude.{ℕ, ◌+◌, ◌==◌, ◌&&◌, List, [], ◌∷◌, Bool, Option, None, Some, filter}
+use Rattle.std.specs.Prelude.{length, option_and_then}
 use Rattle.std.specs.List.{find, list_any}
 use Rattle.reg_terms.specs.Kinds.{same_object}
 use Rattle.reg_terms.specs.Values.{taken}
@@ -19,7 +21,9 @@ pub use Rattle.reg_facts.specs.Rows.{definition_row, attribute_row}
 
 -- the definition of an attribute
 abbrev pub definition_of : ℕ → Lists → Option DefinitionRow
-definition_of a f = option_and_then (λ (row : AttributeRow). definition_row row.definition f.definitions) (attribute_row a f.attributes)
+definition_of a f =
+    option_and_then (λ (row : AttributeRow). definition_row row.definition f.definitions)
+    (attribute_row a f.attributes)
 
 -- whether an attribute is of a definition
 abbrev pub has_attributes : ℕ → List AttributeRow → Bool
@@ -39,11 +43,14 @@ is_assigned a rows = list_any (λ (row : AssignRow). row.attribute == a) rows
 
 -- whether an attribute is assigned to an owner
 abbrev pub is_assigned_to : Object → ℕ → List AssignRow → Bool
-is_assigned_to o a rows = list_any (λ (row : AssignRow). same_object row.owner o && (row.attribute == a)) rows
+is_assigned_to o a rows =
+    list_any (λ (row : AssignRow). same_object row.owner o && (row.attribute == a)) rows
 
 -- whether the assignment of an id is of this attribute to this owner
 abbrev pub has_assign : ℕ → Object → ℕ → List AssignRow → Bool
-has_assign id o a rows = list_any (λ (row : AssignRow). (row.id == id) && (same_object row.owner o && (row.attribute == a))) rows
+has_assign id o a rows =
+    list_any (λ (row : AssignRow). (row.id == id)
+    && (same_object row.owner o && (row.attribute == a))) rows
 
 -- how many values stand in some assignments
 abbrev pub value_count : List AssignRow → ℕ

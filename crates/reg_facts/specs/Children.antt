@@ -9,12 +9,14 @@ use Rattle.reg_terms.specs.declared.kinds.Object.{Object}
 use Rattle.reg_terms.specs.declared.kinds.Object.TheVariants.{Folder, Group, Def, Attr, Subject}
 use Rattle.reg_facts.specs.declared.child_names.ChildNames.{ChildNames}
 use Rattle.reg_facts.specs.Lists.{Lists}
-use Rattle.reg_facts.specs.Naming.{Placed, placed_folders, placed_group, placed_definition, placed_attribute, name_in}
+use Rattle.reg_facts.specs.Naming.{Placed, placed_folders, placed_group, placed_definition}
+use Rattle.reg_facts.specs.Naming.{placed_attribute, name_in}
 
 -- the extensions of those that stand directly in a folder
 abbrev pub extensions_in : ℕ → List Placed → List (List ℕ)
 extensions_in d [] = []
-extensions_in d (p ∷ ps) = if p.folder == d then p.extension ∷ extensions_in d ps else extensions_in d ps
+extensions_in d (p ∷ ps) =
+    if p.folder == d then p.extension ∷ extensions_in d ps else extensions_in d ps
 
 -- texts in the order of their bytes, each once
 abbrev pub by_bytes : List (List ℕ) → List (List ℕ)
@@ -50,6 +52,8 @@ with_name (Attr a) name names = record names { attributes = names.attributes ++ 
 with_name (Subject s) name names = names
 
 -- the names of objects by their extensions, put one after another
-abbrev pub with_names : {K : Type 0} → (K → List ℕ) → List ℕ → List (K × Object) → ChildNames → ChildNames
+abbrev pub with_names : {K : Type 0} → (K → List ℕ) → List ℕ → List (K × Object) → ChildNames
+    → ChildNames
 with_names bytes home [] names = names
-with_names bytes home (e ∷ es) names = with_names bytes home es (with_name e.1 (name_in home (bytes e.0)) names)
+with_names bytes home (e ∷ es) names =
+    with_names bytes home es (with_name e.1 (name_in home (bytes e.0)) names)

@@ -1,11 +1,37 @@
 -- What happens to the facts, event by event, and the events that a command makes.
-use Rattle.std.specs.Prelude.{ℕ, ◌+◌, ◌==◌, Bool, true, false, List, [], ◌∷◌, ◌++◌, not, Option, None, Some, map, filter, if◌then◌else◌}
+use Rattle.std.specs.Prelude.{ℕ, ◌+◌, ◌==◌, Bool, true, false, List, [], ◌∷◌, ◌++◌, not, Option}
+use Rattle.std.specs.Prelude.{None, Some, map, filter, if◌then◌else◌}
 use Rattle.reg_base.specs.NameParts.{extension_of}
 use Rattle.reg_base.specs.declared.entity.Entity.{Entity}
 use Rattle.reg_terms.specs.declared.command.Command.{Command}
-use Rattle.reg_terms.specs.declared.command.Command.TheVariants.{FolderAdd, FolderRename, FolderMove, FolderDelete, SubjectAdd, GroupAdd, GroupRename, GroupMove, GroupDelete, MemberAdd, MemberRemove, MemberWindow, CompositeSet, CompositeClear, GrantAdd, GrantRemove, InheritAdd, InheritRemove, AttrdefAdd, AttrdefDelete, AttrAdd, AttrDelete, AssignAdd, AssignRemove, ValueAdd, ValueRemove, RuleRemoveLost, RuleEndLost, RuleVeto, RuleOnCreate, RuleDelete, JobSimple, JobList, JobDelete, Load, ConsumerAdd, ConsumerAck}
+use Rattle.reg_terms.specs.declared.command.Command.TheVariants.{FolderAdd, FolderRename}
+use Rattle.reg_terms.specs.declared.command.Command.TheVariants.{FolderMove, FolderDelete}
+use Rattle.reg_terms.specs.declared.command.Command.TheVariants.{SubjectAdd, GroupAdd, GroupRename}
+use Rattle.reg_terms.specs.declared.command.Command.TheVariants.{GroupMove, GroupDelete, MemberAdd}
+use Rattle.reg_terms.specs.declared.command.Command.TheVariants.{MemberRemove, MemberWindow}
+use Rattle.reg_terms.specs.declared.command.Command.TheVariants.{CompositeSet, CompositeClear}
+use Rattle.reg_terms.specs.declared.command.Command.TheVariants.{GrantAdd, GrantRemove, InheritAdd}
+use Rattle.reg_terms.specs.declared.command.Command.TheVariants.{InheritRemove, AttrdefAdd}
+use Rattle.reg_terms.specs.declared.command.Command.TheVariants.{AttrdefDelete, AttrAdd, AttrDelete}
+use Rattle.reg_terms.specs.declared.command.Command.TheVariants.{AssignAdd, AssignRemove, ValueAdd}
+use Rattle.reg_terms.specs.declared.command.Command.TheVariants.{ValueRemove, RuleRemoveLost}
+use Rattle.reg_terms.specs.declared.command.Command.TheVariants.{RuleEndLost, RuleVeto}
+use Rattle.reg_terms.specs.declared.command.Command.TheVariants.{RuleOnCreate, RuleDelete}
+use Rattle.reg_terms.specs.declared.command.Command.TheVariants.{JobSimple, JobList, JobDelete}
+use Rattle.reg_terms.specs.declared.command.Command.TheVariants.{Load, ConsumerAdd, ConsumerAck}
 use Rattle.reg_terms.specs.declared.event.Event.{Event}
-use Rattle.reg_terms.specs.declared.event.Event.TheVariants.{FolderMade, FolderRenamed, FolderMoved, FolderGone, SubjectMade, GroupMade, GroupRenamed, GroupMoved, GroupGone, RowAdded, RowRemoved, RowRedated, Composed, Decomposed, GrantAdded, GrantRemoved, InheritAdded, InheritRemoved, DefinitionMade, DefinitionGone, AttributeMade, AttributeGone, AssignMade, AssignGone, ValueAdded, ValueRemoved, RuleMade, RuleGone, JobMade, JobGone, ConsumerAdded, ConsumerAcked}
+use Rattle.reg_terms.specs.declared.event.Event.TheVariants.{FolderMade, FolderRenamed, FolderMoved}
+use Rattle.reg_terms.specs.declared.event.Event.TheVariants.{FolderGone, SubjectMade, GroupMade}
+use Rattle.reg_terms.specs.declared.event.Event.TheVariants.{GroupRenamed, GroupMoved, GroupGone}
+use Rattle.reg_terms.specs.declared.event.Event.TheVariants.{RowAdded, RowRemoved, RowRedated}
+use Rattle.reg_terms.specs.declared.event.Event.TheVariants.{Composed, Decomposed, GrantAdded}
+use Rattle.reg_terms.specs.declared.event.Event.TheVariants.{GrantRemoved, InheritAdded}
+use Rattle.reg_terms.specs.declared.event.Event.TheVariants.{InheritRemoved, DefinitionMade}
+use Rattle.reg_terms.specs.declared.event.Event.TheVariants.{DefinitionGone, AttributeMade}
+use Rattle.reg_terms.specs.declared.event.Event.TheVariants.{AttributeGone, AssignMade, AssignGone}
+use Rattle.reg_terms.specs.declared.event.Event.TheVariants.{ValueAdded, ValueRemoved, RuleMade}
+use Rattle.reg_terms.specs.declared.event.Event.TheVariants.{RuleGone, JobMade, JobGone}
+use Rattle.reg_terms.specs.declared.event.Event.TheVariants.{ConsumerAdded, ConsumerAcked}
 use Rattle.reg_terms.specs.declared.kinds.Member.{Member}
 use Rattle.reg_terms.specs.declared.kinds.Member.TheVariants.{Person}
 use Rattle.reg_terms.specs.declared.kinds.AttrValue.{AttrValue}
@@ -31,9 +57,12 @@ use Rattle.reg_terms.specs.declared.rows.PersonRow.{PersonRow}
 use Rattle.reg_base.specs.declared.privilege.Privilege.TheVariants.{Admin, StemAdmin, AttrAdmin}
 use Rattle.reg_terms.specs.Values.{with_value, without_value}
 use Rattle.reg_facts.specs.Attributes.{attribute_id, definition_id, value_of}
-use Rattle.reg_facts.specs.Edits.{member_of, is_row, is_composite, the_id, person_text, from_or, folder_renamed, folder_moved, group_renamed, group_moved, subject_id, windowed, without_notes}
+use Rattle.reg_facts.specs.Edits.{member_of, is_row, is_composite, the_id, person_text, from_or}
+use Rattle.reg_facts.specs.Edits.{folder_renamed, folder_moved, group_renamed, group_moved}
+use Rattle.reg_facts.specs.Edits.{subject_id, windowed, without_notes}
 use Rattle.reg_facts.specs.Consumers.{acknowledged}
-use Rattle.reg_facts.specs.Grants.{same_grant, same_inherit, object_of, grant_of, inherit_of, makers_grant}
+use Rattle.reg_facts.specs.Grants.{same_grant, same_inherit, object_of, grant_of, inherit_of}
+use Rattle.reg_facts.specs.Grants.{makers_grant}
 use Rattle.reg_facts.specs.Jobs.{job_by}
 use Rattle.reg_facts.specs.Lists.{Lists}
 use Rattle.reg_facts.specs.Rules.{creation_grants, form_of, not_yet}
@@ -42,38 +71,67 @@ use Rattle.reg_facts.specs.RowOrder.{rows_of}
 
 -- the facts after an event
 abbrev pub happened : Event → Lists → Lists
-happened (FolderMade row) f = record f { folders = f.folders ++ row ∷ []; made = record f.made { folders = row.id } }
-happened (FolderRenamed id extension) f = record f { folders = map (folder_renamed id extension) f.folders }
+happened (FolderMade row) f =
+    record f { folders = f.folders ++ row ∷ []; made = record f.made { folders = row.id } }
+happened (FolderRenamed id extension) f =
+    record f { folders = map (folder_renamed id extension) f.folders }
 happened (FolderMoved id to) f = record f { folders = map (folder_moved id to) f.folders }
-happened (FolderGone id) f = record (without_notes (Folder id) f) { folders = filter (λ (row : FolderRow). not (row.id == id)) f.folders; inherits = filter (λ (row : InheritRow). not (row.folder == id)) f.inherits }
-happened (SubjectMade row) f = record f { subjects = f.subjects ++ row ∷ []; made = record f.made { subjects = row.id } }
-happened (GroupMade row) f = record f { groups = f.groups ++ row ∷ []; made = record f.made { groups = row.id } }
-happened (GroupRenamed id extension) f = record f { groups = map (group_renamed id extension) f.groups }
+happened (FolderGone id) f =
+    record (without_notes (Folder id) f) {
+      folders = filter (λ (row : FolderRow). not (row.id == id)) f.folders;
+      inherits = filter (λ (row : InheritRow). not (row.folder == id)) f.inherits;
+    }
+happened (SubjectMade row) f =
+    record f { subjects = f.subjects ++ row ∷ []; made = record f.made { subjects = row.id } }
+happened (GroupMade row) f =
+    record f { groups = f.groups ++ row ∷ []; made = record f.made { groups = row.id } }
+happened (GroupRenamed id extension) f =
+    record f { groups = map (group_renamed id extension) f.groups }
 happened (GroupMoved id to) f = record f { groups = map (group_moved id to) f.groups }
-happened (GroupGone id) f = record (without_notes (Group id) f) { groups = filter (λ (row : GroupRow). not (row.id == id)) f.groups }
+happened (GroupGone id) f =
+    record (without_notes (Group id) f)
+    { groups = filter (λ (row : GroupRow). not (row.id == id)) f.groups }
 happened (RowAdded row) f = record f { rows = f.rows ++ row ∷ [] }
-happened (RowRemoved g m) f = record f { rows = filter (λ (row : MemberRow). not (is_row g m row)) f.rows }
+happened (RowRemoved g m) f =
+    record f { rows = filter (λ (row : MemberRow). not (is_row g m row)) f.rows }
 happened (RowRedated g m from until) f = record f { rows = map (windowed from until g m) f.rows }
 happened (Composed row) f = record f { composites = f.composites ++ row ∷ [] }
-happened (Decomposed g) f = record f { composites = filter (λ (row : CompositeRow). not (row.group == g)) f.composites }
+happened (Decomposed g) f =
+    record f { composites = filter (λ (row : CompositeRow). not (row.group == g)) f.composites }
 happened (GrantAdded row) f = record f { grants = f.grants ++ row ∷ [] }
-happened (GrantRemoved row) f = record f { grants = filter (λ (other : GrantRow). not (same_grant row other)) f.grants }
+happened (GrantRemoved row) f =
+    record f { grants = filter (λ (other : GrantRow). not (same_grant row other)) f.grants }
 happened (InheritAdded row) f = record f { inherits = f.inherits ++ row ∷ [] }
-happened (InheritRemoved row) f = record f { inherits = filter (λ (other : InheritRow). not (same_inherit row other)) f.inherits }
-happened (DefinitionMade row) f = record f { definitions = f.definitions ++ row ∷ []; made = record f.made { definitions = row.id } }
-happened (DefinitionGone id) f = record (without_notes (Def id) f) { definitions = filter (λ (row : DefinitionRow). not (row.id == id)) f.definitions }
-happened (AttributeMade row) f = record f { attributes = f.attributes ++ row ∷ []; made = record f.made { attributes = row.id } }
-happened (AttributeGone id) f = record f { attributes = filter (λ (row : AttributeRow). not (row.id == id)) f.attributes }
-happened (AssignMade row) f = record f { assigns = f.assigns ++ row ∷ []; made = record f.made { assigns = row.id } }
-happened (AssignGone id) f = record f { assigns = filter (λ (row : AssignRow). not (row.id == id)) f.assigns }
+happened (InheritRemoved row) f =
+    record f { inherits = filter (λ (other : InheritRow). not (same_inherit row other)) f.inherits }
+happened (DefinitionMade row) f =
+    record f {
+      definitions = f.definitions ++ row ∷ [];
+      made = record f.made { definitions = row.id };
+    }
+happened (DefinitionGone id) f =
+    record (without_notes (Def id) f)
+    { definitions = filter (λ (row : DefinitionRow). not (row.id == id)) f.definitions }
+happened (AttributeMade row) f =
+    record f { attributes = f.attributes ++ row ∷ []; made = record f.made { attributes = row.id } }
+happened (AttributeGone id) f =
+    record f { attributes = filter (λ (row : AttributeRow). not (row.id == id)) f.attributes }
+happened (AssignMade row) f =
+    record f { assigns = f.assigns ++ row ∷ []; made = record f.made { assigns = row.id } }
+happened (AssignGone id) f =
+    record f { assigns = filter (λ (row : AssignRow). not (row.id == id)) f.assigns }
 happened (ValueAdded id v) f = record f { assigns = map (with_value id v) f.assigns }
 happened (ValueRemoved id v) f = record f { assigns = map (without_value id v) f.assigns }
-happened (RuleMade row) f = record f { rules = f.rules ++ row ∷ []; made = record f.made { rules = row.id } }
-happened (RuleGone id) f = record f { rules = filter (λ (row : RuleRow). not (row.id == id)) f.rules }
-happened (JobMade row) f = record f { jobs = f.jobs ++ row ∷ []; made = record f.made { jobs = row.id } }
+happened (RuleMade row) f =
+    record f { rules = f.rules ++ row ∷ []; made = record f.made { rules = row.id } }
+happened (RuleGone id) f =
+    record f { rules = filter (λ (row : RuleRow). not (row.id == id)) f.rules }
+happened (JobMade row) f =
+    record f { jobs = f.jobs ++ row ∷ []; made = record f.made { jobs = row.id } }
 happened (JobGone id) f = record f { jobs = filter (λ (row : JobRow). not (row.id == id)) f.jobs }
 happened (ConsumerAdded row) f = record f { consumers = f.consumers ++ row ∷ [] }
-happened (ConsumerAcked name seq) f = record f { consumers = map (acknowledged name seq) f.consumers }
+happened (ConsumerAcked name seq) f =
+    record f { consumers = map (acknowledged name seq) f.consumers }
 
 -- the facts after some events, one after another
 abbrev pub all_happened : List Event → Lists → Lists
@@ -131,25 +189,64 @@ group_gone g f = map row_gone (rows_of g f.rows) ++ factors_gone g f.composites 
 
 -- the rows that are made next
 abbrev pub new_folder : List ℕ → List ℕ → Lists → FolderRow
-new_folder folder display f = record { id = f.made.folders + 1; parent = home_id folder f; extension = extension_of folder; display = display }
+new_folder folder display f = record {
+  id = f.made.folders + 1;
+  parent = home_id folder f;
+  extension = extension_of folder;
+  display = display;
+}
 
 abbrev pub new_subject : Entity → List ℕ → Lists → SubjectRow
-new_subject subject display f = record { id = f.made.subjects + 1; text = person_text subject; display = display }
+new_subject subject display f = record {
+  id = f.made.subjects + 1;
+  text = person_text subject;
+  display = display;
+}
 
 abbrev pub new_group : List ℕ → List ℕ → Lists → GroupRow
-new_group group display f = record { id = f.made.groups + 1; folder = the_id (home_id group f); extension = extension_of group; display = display }
+new_group group display f = record {
+  id = f.made.groups + 1;
+  folder = the_id (home_id group f);
+  extension = extension_of group;
+  display = display;
+}
 
 abbrev pub new_definition : List ℕ → Owners → Bool → DefKind → Bool → Lists → DefinitionRow
-new_definition definition owners several kind many f = record { id = f.made.definitions + 1; folder = the_id (home_id definition f); extension = extension_of definition; owners = owners; several = several; kind = kind; many = many }
+new_definition definition owners several kind many f = record {
+  id = f.made.definitions + 1;
+  folder = the_id (home_id definition f);
+  extension = extension_of definition;
+  owners = owners;
+  several = several;
+  kind = kind;
+  many = many;
+}
 
 abbrev pub new_attribute : List ℕ → List ℕ → Lists → AttributeRow
-new_attribute attribute definition f = record { id = f.made.attributes + 1; folder = the_id (home_id attribute f); extension = extension_of attribute; definition = the_id (definition_id definition f) }
+new_attribute attribute definition f = record {
+  id = f.made.attributes + 1;
+  folder = the_id (home_id attribute f);
+  extension = extension_of attribute;
+  definition = the_id (definition_id definition f);
+}
 
 abbrev pub new_assign : List ℕ → Object → Lists → AssignRow
-new_assign attribute o f = record { id = f.made.assigns + 1; attribute = the_id (attribute_id attribute f); owner = o; values = [] }
+new_assign attribute o f = record {
+  id = f.made.assigns + 1;
+  attribute = the_id (attribute_id attribute f);
+  owner = o;
+  values = [];
+}
 
 abbrev pub new_job : List ℕ → Object → List ℕ → ℕ → ℕ → Lists → JobRow
-new_job job target source min_size max_percent f = record { id = f.made.jobs + 1; name = job; target = target; source = source; min_size = min_size; max_percent = max_percent }
+new_job job target source min_size max_percent f = record {
+  id = f.made.jobs + 1;
+  name = job;
+  target = target;
+  source = source;
+  min_size = min_size;
+  max_percent = max_percent;
+}
 
 -- the grants on a group that is made: that of its maker, and those of rules by id, each once
 abbrev pub new_groups_grants : Entity → List ℕ → Lists → List GrantRow
@@ -162,12 +259,14 @@ new_groups_grants by group f =
 
 -- a group of this name is made, with no display text, and the grants on it
 abbrev pub group_events : Entity → List ℕ → Lists → List Event
-group_events by name f = GroupMade (new_group name [] f) ∷ grants_added (new_groups_grants by name f)
+group_events by name f =
+    GroupMade (new_group name [] f) ∷ grants_added (new_groups_grants by name f)
 
 -- groups are made, each on the facts after those before
 abbrev pub groups_events : Entity → List (List ℕ) → Lists → List Event
 groups_events by [] f = []
-groups_events by (name ∷ names) f = group_events by name f ++ groups_events by names (all_happened (group_events by name f) f)
+groups_events by (name ∷ names) f =
+    group_events by name f ++ groups_events by names (all_happened (group_events by name f) f)
 
 -- the facts after groups are made
 abbrev pub with_groups : Entity → List (List ℕ) → Lists → Lists
@@ -175,7 +274,10 @@ with_groups by names f = all_happened (groups_events by names f) f
 
 -- the row that two names speak of
 abbrev pub row_named : Lists → LoadRow → PersonRow
-row_named f row = record { group = the_id (group_id row.group f); person = the_id (subject_id row.person f.subjects) }
+row_named f row = record {
+  group = the_id (group_id row.group f);
+  person = the_id (subject_id row.person f.subjects);
+}
 
 -- a row goes
 abbrev pub row_goes : PersonRow → Event
@@ -192,11 +294,14 @@ row_comes at row = RowAdded (new_row at row)
 abbrev pub rows_events : ℕ → List PersonRow → List PersonRow → List Event
 rows_events at removed added = map row_goes removed ++ map (row_comes at) added
 
--- the events of a load that acts at a moment, by a caller: its groups are made, then its rows go and come; names are those of the facts with the groups
-unfoldable pub load_events : ℕ → Entity → List (List ℕ) → List LoadRow → List LoadRow → Lists → List Event
+-- the events of a load that acts at a moment, by a caller: its groups are made, then its rows go
+-- and come; names are those of the facts with the groups
+unfoldable pub load_events : ℕ → Entity → List (List ℕ) → List LoadRow → List LoadRow → Lists
+    → List Event
 load_events at by created removed added f =
     let g = with_groups by created f in
-    groups_events by created f ++ rows_events at (map (row_named g) removed) (map (row_named g) added)
+    groups_events by created f
+    ++ rows_events at (map (row_named g) removed) (map (row_named g) added)
 
 -- ---- what a command makes happen
 
@@ -207,42 +312,82 @@ is_load _ = false
 
 -- the events of a command that acts at a moment, by a caller, in order
 unfoldable pub events_of : ℕ → Entity → Command → Lists → List Event
-events_of at by (FolderAdd folder display) f = FolderMade (new_folder folder display f) ∷ grants_added (makers_grant by (Folder (f.made.folders + 1)) StemAdmin f)
-events_of at by (FolderRename folder extension) f = FolderRenamed (the_id (folder_id folder f)) extension ∷ []
-events_of at by (FolderMove folder to) f = FolderMoved (the_id (folder_id folder f)) (the_id (folder_id to f)) ∷ []
+events_of at by (FolderAdd folder display) f =
+    FolderMade (new_folder folder display f)
+    ∷ grants_added (makers_grant by (Folder (f.made.folders + 1)) StemAdmin f)
+events_of at by (FolderRename folder extension) f =
+    FolderRenamed (the_id (folder_id folder f)) extension ∷ []
+events_of at by (FolderMove folder to) f =
+    FolderMoved (the_id (folder_id folder f)) (the_id (folder_id to f)) ∷ []
 events_of at by (FolderDelete folder) f = FolderGone (the_id (folder_id folder f)) ∷ []
 events_of at by (SubjectAdd subject display) f = SubjectMade (new_subject subject display f) ∷ []
-events_of at by (GroupAdd group display) f = GroupMade (new_group group display f) ∷ grants_added (new_groups_grants by group f)
-events_of at by (GroupRename group extension) f = GroupRenamed (the_id (group_id group f)) extension ∷ []
-events_of at by (GroupMove group to) f = GroupMoved (the_id (group_id group f)) (the_id (folder_id to f)) ∷ []
+events_of at by (GroupAdd group display) f =
+    GroupMade (new_group group display f) ∷ grants_added (new_groups_grants by group f)
+events_of at by (GroupRename group extension) f =
+    GroupRenamed (the_id (group_id group f)) extension ∷ []
+events_of at by (GroupMove group to) f =
+    GroupMoved (the_id (group_id group f)) (the_id (folder_id to f)) ∷ []
 events_of at by (GroupDelete group) f = group_gone (the_id (group_id group f)) f
-events_of at by (MemberAdd group member from until) f = on_member (λ m. RowAdded (record { group = the_id (group_id group f); member = m; from = from_or at from; until = until })) (member_of member f)
-events_of at by (MemberRemove group member) f = on_member (λ m. RowRemoved (the_id (group_id group f)) m) (member_of member f)
-events_of at by (MemberWindow group member from until) f = on_member (λ m. RowRedated (the_id (group_id group f)) m (from_or at from) until) (member_of member f)
-events_of at by (CompositeSet group kind left right) f = Composed (record { group = the_id (group_id group f); op = kind; left = the_id (group_id left f); right = the_id (group_id right f) }) ∷ []
+events_of at by (MemberAdd group member from until) f =
+    on_member (λ m. RowAdded (record {
+      group = the_id (group_id group f);
+      member = m;
+      from = from_or at from;
+      until = until;
+    })) (member_of member f)
+events_of at by (MemberRemove group member) f =
+    on_member (λ m. RowRemoved (the_id (group_id group f)) m) (member_of member f)
+events_of at by (MemberWindow group member from until) f =
+    on_member (λ m. RowRedated (the_id (group_id group f)) m (from_or at from) until)
+    (member_of member f)
+events_of at by (CompositeSet group kind left right) f =
+    Composed (record {
+      group = the_id (group_id group f);
+      op = kind;
+      left = the_id (group_id left f);
+      right = the_id (group_id right f);
+    }) ∷ []
 events_of at by (CompositeClear group) f = Decomposed (the_id (group_id group f)) ∷ []
-events_of at by (GrantAdd object privilege holder) f = on_grant (λ row. GrantAdded row) (grant_of object privilege holder f)
-events_of at by (GrantRemove object privilege holder) f = on_grant (λ row. GrantRemoved row) (grant_of object privilege holder f)
-events_of at by (InheritAdd folder kind scope privilege holder) f = on_inherit (λ row. InheritAdded row) (inherit_of folder kind scope privilege holder f)
-events_of at by (InheritRemove folder kind scope privilege holder) f = on_inherit (λ row. InheritRemoved row) (inherit_of folder kind scope privilege holder f)
-events_of at by (AttrdefAdd definition owners several kind many) f = DefinitionMade (new_definition definition owners several kind many f) ∷ grants_added (makers_grant by (Def (f.made.definitions + 1)) AttrAdmin f)
-events_of at by (AttrdefDelete definition) f = DefinitionGone (the_id (definition_id definition f)) ∷ []
-events_of at by (AttrAdd attribute definition) f = AttributeMade (new_attribute attribute definition f) ∷ []
+events_of at by (GrantAdd object privilege holder) f =
+    on_grant (λ row. GrantAdded row) (grant_of object privilege holder f)
+events_of at by (GrantRemove object privilege holder) f =
+    on_grant (λ row. GrantRemoved row) (grant_of object privilege holder f)
+events_of at by (InheritAdd folder kind scope privilege holder) f =
+    on_inherit (λ row. InheritAdded row) (inherit_of folder kind scope privilege holder f)
+events_of at by (InheritRemove folder kind scope privilege holder) f =
+    on_inherit (λ row. InheritRemoved row) (inherit_of folder kind scope privilege holder f)
+events_of at by (AttrdefAdd definition owners several kind many) f =
+    DefinitionMade (new_definition definition owners several kind many f)
+    ∷ grants_added (makers_grant by (Def (f.made.definitions + 1)) AttrAdmin f)
+events_of at by (AttrdefDelete definition) f =
+    DefinitionGone (the_id (definition_id definition f)) ∷ []
+events_of at by (AttrAdd attribute definition) f =
+    AttributeMade (new_attribute attribute definition f) ∷ []
 events_of at by (AttrDelete attribute) f = AttributeGone (the_id (attribute_id attribute f)) ∷ []
-events_of at by (AssignAdd attribute object) f = on_owner (λ o. AssignMade (new_assign attribute o f)) (object_of object f)
+events_of at by (AssignAdd attribute object) f =
+    on_owner (λ o. AssignMade (new_assign attribute o f)) (object_of object f)
 events_of at by (AssignRemove attribute object id) f = AssignGone id ∷ []
-events_of at by (ValueAdd attribute object id value) f = on_value (λ v. ValueAdded id v) (value_of (the_id (attribute_id attribute f)) value f)
-events_of at by (ValueRemove attribute object id value) f = on_value (λ v. ValueRemoved id v) (value_of (the_id (attribute_id attribute f)) value f)
-events_of at by (RuleRemoveLost check owner) f = on_rule (f.made.rules + 1) (form_of (RuleRemoveLost check owner) f)
-events_of at by (RuleEndLost check owner days) f = on_rule (f.made.rules + 1) (form_of (RuleEndLost check owner days) f)
-events_of at by (RuleVeto owner condition) f = on_rule (f.made.rules + 1) (form_of (RuleVeto owner condition) f)
-events_of at by (RuleOnCreate folder scope privilege holder) f = on_rule (f.made.rules + 1) (form_of (RuleOnCreate folder scope privilege holder) f)
+events_of at by (ValueAdd attribute object id value) f =
+    on_value (λ v. ValueAdded id v) (value_of (the_id (attribute_id attribute f)) value f)
+events_of at by (ValueRemove attribute object id value) f =
+    on_value (λ v. ValueRemoved id v) (value_of (the_id (attribute_id attribute f)) value f)
+events_of at by (RuleRemoveLost check owner) f =
+    on_rule (f.made.rules + 1) (form_of (RuleRemoveLost check owner) f)
+events_of at by (RuleEndLost check owner days) f =
+    on_rule (f.made.rules + 1) (form_of (RuleEndLost check owner days) f)
+events_of at by (RuleVeto owner condition) f =
+    on_rule (f.made.rules + 1) (form_of (RuleVeto owner condition) f)
+events_of at by (RuleOnCreate folder scope privilege holder) f =
+    on_rule (f.made.rules + 1) (form_of (RuleOnCreate folder scope privilege holder) f)
 events_of at by (RuleDelete id) f = RuleGone id ∷ []
-events_of at by (JobSimple job group source min_size max_percent) f = JobMade (new_job job (Group (the_id (group_id group f))) source min_size max_percent f) ∷ []
-events_of at by (JobList job folder source min_size max_percent) f = JobMade (new_job job (Folder (the_id (folder_id folder f))) source min_size max_percent f) ∷ []
+events_of at by (JobSimple job group source min_size max_percent) f =
+    JobMade (new_job job (Group (the_id (group_id group f))) source min_size max_percent f) ∷ []
+events_of at by (JobList job folder source min_size max_percent) f =
+    JobMade (new_job job (Folder (the_id (folder_id folder f))) source min_size max_percent f) ∷ []
 events_of at by (JobDelete job) f = on_job (job_by job f.jobs)
 events_of at by (Load job created removed added) f = load_events at by created removed added f
-events_of at by (ConsumerAdd consumer) f = ConsumerAdded (record { name = consumer; place = 0 }) ∷ []
+events_of at by (ConsumerAdd consumer) f =
+    ConsumerAdded (record { name = consumer; place = 0 }) ∷ []
 events_of at by (ConsumerAck consumer seq) f = ConsumerAcked consumer seq ∷ []
 
 -- the facts after a command that acts at a moment, by a caller

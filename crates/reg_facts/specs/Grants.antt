@@ -1,5 +1,7 @@
--- Grants and inherits: which row is which, what is written where, who holds them, and what the texts of a command name.
-use Rattle.std.specs.Prelude.{ℕ, ◌==◌, ◌&&◌, ◌||◌, List, [], ◌∷◌, Bool, Option, None, Some, filter, option_map, if◌then◌else◌}
+-- Grants and inherits: which row is which, what is written where, who holds them, and what the
+-- texts of a command name.
+use Rattle.std.specs.Prelude.{ℕ, ◌==◌, ◌&&◌, ◌||◌, List, [], ◌∷◌, Bool, Option, None, Some, filter}
+use Rattle.std.specs.Prelude.{option_map, if◌then◌else◌}
 use Rattle.std.specs.List.{list_any}
 use Rattle.reg_base.specs.Entities.{entity_of}
 use Rattle.reg_base.specs.declared.entity.Entity.{Entity}
@@ -23,7 +25,9 @@ use Rattle.reg_facts.specs.Naming.{resolve, folder_id, group_id}
 
 -- the two grants are one
 abbrev pub same_grant : GrantRow → GrantRow → Bool
-same_grant row other = same_object other.object row.object && (same_privilege other.privilege row.privilege && same_holder other.holder row.holder)
+same_grant row other =
+    same_object other.object row.object
+    && (same_privilege other.privilege row.privilege && same_holder other.holder row.holder)
 
 -- whether this grant stands
 abbrev pub has_grant : GrantRow → List GrantRow → Bool
@@ -35,7 +39,11 @@ grants_on o rows = filter (λ (row : GrantRow). same_object row.object o) rows
 
 -- the two inherits are one
 abbrev pub same_inherit : InheritRow → InheritRow → Bool
-same_inherit row other = (other.folder == row.folder) && (same_kind other.kind row.kind && (same_scope other.scope row.scope && (same_privilege other.privilege row.privilege && same_holder other.holder row.holder)))
+same_inherit row other =
+    (other.folder == row.folder)
+    && (same_kind other.kind row.kind
+    && (same_scope other.scope row.scope
+    && (same_privilege other.privilege row.privilege && same_holder other.holder row.holder)))
 
 -- whether this inherit stands
 abbrev pub has_inherit : InheritRow → List InheritRow → Bool
@@ -53,9 +61,11 @@ is_holder g f =
 
 -- ---- what texts and entities name
 
--- the object that an entity names, if it names one that stands; the registry's own entities are no objects
+-- the object that an entity names, if it names one that stands; the registry's own entities are no
+-- objects
 abbrev pub entity_object : Entity → Lists → Option Object
-entity_object (entity.Person text) f = option_map (λ s. object.Subject s) (subject_id text f.subjects)
+entity_object (entity.Person text) f =
+    option_map (λ s. object.Subject s) (subject_id text f.subjects)
 entity_object (entity.Group name) f = option_map (λ g. object.Group g) (group_id name f)
 entity_object entity.System f = None
 entity_object entity.Everyone f = None
@@ -66,7 +76,8 @@ of_entity (Some e) f = entity_object e f
 
 -- the object that a text names: an entity where it has a `/`, and else by its name
 unfoldable pub object_of : List ℕ → Lists → Option Object
-object_of text f = if list_any (λ b. b == 47) text then of_entity (entity_of text) f else resolve text f
+object_of text f =
+    if list_any (λ b. b == 47) text then of_entity (entity_of text) f else resolve text f
 
 -- the holder that an entity names, if it may hold and stands
 abbrev pub holder_of : Entity → Lists → Option Holder
@@ -86,13 +97,16 @@ abbrev pub grant_of : List ℕ → Privilege → Entity → Lists → Option Gra
 grant_of text p e f = grant_for (object_of text f) p (holder_of e f)
 
 -- the inherit of a privilege, where its folder and its holder stand
-abbrev pub inherit_for : Option ℕ → InheritKind → Scope → Privilege → Option Holder → Option InheritRow
+abbrev pub inherit_for : Option ℕ → InheritKind → Scope → Privilege → Option Holder
+    → Option InheritRow
 inherit_for None k s p h = None
 inherit_for (Some d) k s p None = None
-inherit_for (Some d) k s p (Some h) = Some (record { folder = d; kind = k; scope = s; privilege = p; holder = h })
+inherit_for (Some d) k s p (Some h) =
+    Some (record { folder = d; kind = k; scope = s; privilege = p; holder = h })
 
 -- the inherit that a command speaks of
-abbrev pub inherit_of : List ℕ → InheritKind → Scope → Privilege → Entity → Lists → Option InheritRow
+abbrev pub inherit_of : List ℕ → InheritKind → Scope → Privilege → Entity → Lists
+    → Option InheritRow
 inherit_of folder k s p e f = inherit_for (folder_id folder f) k s p (holder_of e f)
 
 -- ---- who makes something
@@ -102,7 +116,8 @@ abbrev pub grant_to : Object → Privilege → Option ℕ → List GrantRow
 grant_to o p None = []
 grant_to o p (Some s) = (record { object = o; privilege = p; holder = holder.Person s }) ∷ []
 
--- a person who makes an object is granted its administration; the registry itself is granted nothing
+-- a person who makes an object is granted its administration; the registry itself is granted
+-- nothing
 abbrev pub makers_grant : Entity → Object → Privilege → Lists → List GrantRow
 makers_grant (entity.Person text) o p f = grant_to o p (subject_id text f.subjects)
 makers_grant (entity.Group name) o p f = []

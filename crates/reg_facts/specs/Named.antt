@@ -8,4 +8,5 @@ use Rattle.reg_facts.specs.Sound.{is_named}
 -- an object that has a name is found by it, and what is found by a text has that name
 pub record AreNamed (f : Lists) : Type 0 where
   pub finds : (o : Object) → is_named o f ≡ true → resolve (name_of o f) f ≡ Some o
-  pub found : (text : List ℕ) (o : Object) → resolve text f ≡ Some o → (name_of o f ≡ text) × (is_named o f ≡ true)
+  pub found : (text : List ℕ) (o : Object) → resolve text f ≡ Some o
+      → (name_of o f ≡ text) × (is_named o f ≡ true)

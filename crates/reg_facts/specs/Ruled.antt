@@ -1,4 +1,5 @@
--- What is true of the rules of every history: ids ascend, no two say the same, what they speak of stands, and days are in their range.
+-- What is true of the rules of every history: ids ascend, no two say the same, what they speak of
+-- stands, and days are in their range.
 use Rattle.std.specs.Prelude.{◌≡◌, ◌≤◌, ⊤, List, [], ◌∷◌, true, false, map}
 use Rattle.std.specs.List.{AllByRecursion}
 use Rattle.reg_terms.specs.declared.kinds.Object.TheVariants.{Folder}
@@ -11,10 +12,15 @@ use Rattle.reg_facts.specs.Sound.{Ascend, HolderStands, has_group, is_named}
 
 -- what a rule speaks of stands
 abbrev pub FormStands : Lists → RuleForm → Type 0
-FormStands f (RemoveLost check owner) = (has_group check f.groups ≡ true) × (has_group owner f.groups ≡ true)
-FormStands f (EndLost check owner days) = (has_group check f.groups ≡ true) × (has_group owner f.groups ≡ true) × (1 ≤ days) × (days ≤ 3650)
-FormStands f (Veto owner condition) = (has_group owner f.groups ≡ true) × (has_group condition f.groups ≡ true)
-FormStands f (OnCreate d scope p h) = (is_named (Folder d) f ≡ true) × HolderStands f.subjects f.groups h
+FormStands f (RemoveLost check owner) =
+    (has_group check f.groups ≡ true) × (has_group owner f.groups ≡ true)
+FormStands f (EndLost check owner days) =
+    (has_group check f.groups ≡ true) × (has_group owner f.groups ≡ true) × (1 ≤ days)
+    × (days ≤ 3650)
+FormStands f (Veto owner condition) =
+    (has_group owner f.groups ≡ true) × (has_group condition f.groups ≡ true)
+FormStands f (OnCreate d scope p h) =
+    (is_named (Folder d) f ≡ true) × HolderStands f.subjects f.groups h
 
 -- no two rules say the same
 abbrev pub AreRulesOnce : List RuleRow → Type 0

@@ -1,5 +1,6 @@
 -- The rules of a new group's folders, and the grants that they make on it.
-use Rattle.std.specs.Prelude.{◌≡◌, ◌≤◌, ⊤, ℕ, ◌||◌, List, [], ◌∷◌, Bool, Option, Some, None, option_map, if◌then◌else◌}
+use Rattle.std.specs.Prelude.{◌≡◌, ◌≤◌, ⊤, ℕ, ◌||◌, List, [], ◌∷◌, Bool, Option, Some, None}
+use Rattle.std.specs.Prelude.{option_map, if◌then◌else◌}
 use Rattle.std.specs.BTreeMap.{insert_entry}
 use Rattle.std.specs.Ordering.{nat_cmp}
 use Rattle.reg_terms.specs.Kinds.{same_scope}
@@ -20,7 +21,9 @@ pub record AreIndexed (index rows : List RuleRow) : Type 0 where
 
 -- the grant that a rule makes on a group that is made in its folder, or below it, if it does
 abbrev pub grant_made : ℕ → Bool → RuleForm → Option GrantRow
-grant_made g home (OnCreate d scope p h) = if home || same_scope scope Sub then Some (record { object = object.Group g; privilege = p; holder = h }) else None
+grant_made g home (OnCreate d scope p h) =
+    if home || same_scope scope Sub
+    then Some (record { object = object.Group g; privilege = p; holder = h }) else None
 grant_made g home (RemoveLost check owner) = None
 grant_made g home (EndLost check owner days) = None
 grant_made g home (Veto owner condition) = None

@@ -1,5 +1,6 @@
 // What assignments are found by beside their ids.
-ghost use Rattle.std.specs.Prelude.{◌≡◌, ◌==◌, ◌&&◌, ◌++◌, ◌∷◌, [], not, Some, false, true, filter, IfOk, MatchOption};
+ghost use Rattle.std.specs.Prelude.{◌≡◌, ◌==◌, ◌&&◌, ◌++◌, ◌∷◌, [], not, Some, false, true, filter};
+ghost use Rattle.std.specs.Prelude.{IfOk, MatchOption};
 ghost use Rattle.std.specs.List.{list_any};
 ghost use Rattle.reg_terms.specs.Kinds.{same_object};
 ghost use Rattle.reg_facts.specs.Assigning.{by_pair, same_key, KeysAscend};
@@ -44,7 +45,8 @@ impl LinkedRow for AssignKey {
 
     ghost link_at = { λ _ place. Some place.1 };
 
-    ghost link_alike = { λ g h p q group_is place_is. (and_parts (p.0 == q.0) (p.1 == q.1) place_is).1 };
+    ghost link_alike = { λ g h p q group_is place_is.
+        (and_parts (p.0 == q.0) (p.1 == q.1) place_is).1 };
 
     fn link(_owner: Object, place: (AssignId, AttrId)) -> Option<AttrId> {
         Some(place.1)
@@ -128,7 +130,8 @@ impl AssignIndex {
 
     /// Whether an attribute is assigned to an owner. It takes no memory, and costs a logarithm.
     pub fn is_assigned_to(&self, owner: &Object, attribute: AttrId) -> bool
-        ensures { result ≡ list_any (λ (key : AssignKey). same_object key.owner owner.now && (key.attribute == attribute)) self.now }
+        ensures { result ≡ list_any (λ (key : AssignKey). same_object key.owner owner.now
+            && (key.attribute == attribute)) self.now }
     {
         self.pairs.has_rows((*owner, attribute))
     }
@@ -145,7 +148,10 @@ impl AssignIndex {
     /// costs a logarithm.
     pub fn first_on(&self, owner: &Object) -> Option<AssignId>
         requires { KeysAscend self.now }
-        ensures { MatchOption result (list_any (λ (key : AssignKey). same_object key.owner owner.now) self.now ≡ false) (λ id. list_any (λ (key : AssignKey). (key.id == id) && same_object key.owner owner.now) self.now ≡ true) }
+        ensures { MatchOption result
+            (list_any (λ (key : AssignKey). same_object key.owner owner.now) self.now
+            ≡ false) (λ id. list_any (λ (key : AssignKey). (key.id == id)
+            && same_object key.owner owner.now) self.now ≡ true) }
     {
         let key = self.on(owner).next()?;
         Some(key.id)

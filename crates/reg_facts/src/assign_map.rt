@@ -1,5 +1,6 @@
 // The assignments by their ids.
-ghost use Rattle.std.specs.Prelude.{◌≡◌, ◌==◌, ◌+◌, ◌<◌, ◌≤◌, ◌++◌, ◌∷◌, [], not, filter, map, length, IfOk, OnOk};
+ghost use Rattle.std.specs.Prelude.{◌≡◌, ◌==◌, ◌+◌, ◌<◌, ◌≤◌, ◌++◌, ◌∷◌, [], not, filter, map};
+ghost use Rattle.std.specs.Prelude.{length, IfOk, OnOk};
 ghost use Rattle.std.specs.Map.{values_of};
 ghost use Rattle.std.specs.Option.{option_copied};
 ghost use Rattle.reg_terms.specs.Limits.{max_values};
@@ -34,7 +35,10 @@ impl Model for AssignMap {
 
     ghost view = { λ t. values t.rows };
 
-    ghost invariant = { λ t. record { by_id : AreById t.rows.entries; counted : t.total ≡ value_count (values t.rows) } };
+    ghost invariant = { λ t. record {
+      by_id : AreById t.rows.entries;
+      counted : t.total ≡ value_count (values t.rows);
+    } };
 }
 
 /// An equal assignment.
@@ -57,8 +61,10 @@ fn add_to(
     value: AttrValue,
 ) -> Result<usize, AllocError>
     requires { AreById rows.old.entries }
-    ensures added { OnOk result (rows.new.entries ≡ map (changed (with_value id value)) rows.old.entries) }
-    ensures count { IfOk result (λ n. value_count (values_of rows.new.entries) ≡ value_count (values_of rows.old.entries) + n) }
+    ensures added { OnOk result (rows.new.entries
+        ≡ map (changed (with_value id value)) rows.old.entries) }
+    ensures count { IfOk result (λ n. value_count (values_of rows.new.entries)
+        ≡ value_count (values_of rows.old.entries) + n) }
     ensures one { IfOk result (λ n. n ≤ 1) }
 {
     match rows.get_mut(&id) {
@@ -86,7 +92,8 @@ fn shorten(row: &mut AssignRow, value: &AttrValue) -> usize
 fn take_from(rows: &mut BTreeMap<AssignId, AssignRow>, id: AssignId, value: &AttrValue) -> usize
     requires { AreById rows.old.entries }
     ensures taken { rows.new.entries ≡ map (changed (without_value id value.now)) rows.old.entries }
-    ensures count { value_count (values_of rows.new.entries) + result ≡ value_count (values_of rows.old.entries) }
+    ensures count { value_count (values_of rows.new.entries) + result
+        ≡ value_count (values_of rows.old.entries) }
 {
     match rows.get_mut(&id) {
         Some(row) => shorten(row, value),

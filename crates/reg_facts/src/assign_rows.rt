@@ -1,5 +1,6 @@
 // The assignments as contracts see them.
-ghost use Rattle.std.specs.Prelude.{◌≡◌, ◌==◌, ◌&&◌, ◌<◌, ◌++◌, ◌∷◌, [], not, false, true, filter, map, IfOk, MatchOption};
+ghost use Rattle.std.specs.Prelude.{◌≡◌, ◌==◌, ◌&&◌, ◌<◌, ◌++◌, ◌∷◌, [], not, false, true, filter};
+ghost use Rattle.std.specs.Prelude.{map, IfOk, MatchOption};
 ghost use Rattle.std.specs.List.{list_any};
 ghost use Rattle.std.specs.Option.{option_copied};
 ghost use Rattle.reg_terms.specs.Kinds.{same_object};
@@ -8,7 +9,8 @@ ghost use Rattle.reg_terms.specs.Values.{with_value, without_value};
 ghost use Rattle.reg_terms.specs.declared.rows.AssignRow.{AssignRow};
 ghost use Rattle.reg_facts.specs.Ascending.{AssignsAscend};
 ghost use Rattle.reg_facts.specs.Assigning.{key_of};
-ghost use Rattle.reg_facts.specs.Attributes.{assign_row, assigns_on, has_assign, is_assigned, is_assigned_to, value_count};
+ghost use Rattle.reg_facts.specs.Attributes.{assign_row, assigns_on, has_assign, is_assigned};
+ghost use Rattle.reg_facts.specs.Attributes.{is_assigned_to, value_count};
 
 use crate::assign_index::{AssignIndex, AssignKey};
 use crate::assign_map::{AssignMap, copy_assign};
@@ -66,8 +68,8 @@ impl AssignRows {
         self.rows.get(AssignId::new(id))
     }
 
-    /// Whether the assignment of this id is of this attribute to this owner. It takes no memory, and
-    /// costs a logarithm.
+    /// Whether the assignment of this id is of this attribute to this owner. It takes no memory,
+    /// and costs a logarithm.
     pub fn has(&self, id: u32, owner: &Object, attribute: AttrId) -> bool
         ensures { result ≡ has_assign id owner.now attribute self.now }
     {
@@ -92,7 +94,8 @@ impl AssignRows {
         self.index.is_assigned_to(owner, attribute)
     }
 
-    /// The assignments to an owner, by id, with their values. It costs a logarithm for each of them.
+    /// The assignments to an owner, by id, with their values. It costs a logarithm for each of
+    /// them.
     pub fn on(&self, alloc: Global, owner: &Object) -> Result<Vec<AssignRow>, AllocError>
         ensures { IfOk result (λ found. found.items ≡ assigns_on owner.now self.now) }
     {
@@ -143,7 +146,10 @@ impl AssignRows {
 
     /// The id of the first assignment to an owner.
     fn first_on(&self, owner: &Object) -> Option<AssignId>
-        ensures first { MatchOption result (list_any (λ (row : AssignRow). same_object row.owner owner.now) self.now ≡ false) (λ id. list_any (λ (row : AssignRow). (row.id == id) && same_object row.owner owner.now) self.now ≡ true) }
+        ensures first { MatchOption result
+            (list_any (λ (row : AssignRow). same_object row.owner owner.now) self.now
+            ≡ false) (λ id. list_any (λ (row : AssignRow). (row.id == id)
+            && same_object row.owner owner.now) self.now ≡ true) }
         ensures ascend { AssignsAscend self.now }
     {
         self.index.first_on(owner)
@@ -152,7 +158,8 @@ impl AssignRows {
     /// Takes the assignments to an owner away, one after another. It takes no memory, and costs a
     /// logarithm for each of them.
     pub fn remove_on(&mut self, owner: &Object)
-        ensures { self.new ≡ filter (λ (row : AssignRow). not (same_object row.owner owner.now)) self.old }
+        ensures { self.new ≡ filter
+            (λ (row : AssignRow). not (same_object row.owner owner.now)) self.old }
     {
         while let Some(id) = self.first_on(owner) {
             self.remove(id);

@@ -2,11 +2,14 @@
 ghost use Rattle.std.specs.Prelude.{◌≡◌, ◌<◌, ◌∷◌, [], IfOk, IsSome};
 ghost use Rattle.reg_base.specs.declared.privilege.Privilege.TheVariants.{AttrAdmin};
 ghost use Rattle.reg_terms.specs.Limits.{max_definitions, max_attributes, max_assigns};
-ghost use Rattle.reg_terms.specs.declared.event.Event.TheVariants.{DefinitionMade, AssignMade, AssignGone, ValueAdded, ValueRemoved};
+ghost use Rattle.reg_terms.specs.declared.event.Event.TheVariants.{DefinitionMade, AssignMade};
+ghost use Rattle.reg_terms.specs.declared.event.Event.TheVariants.{AssignGone, ValueAdded};
+ghost use Rattle.reg_terms.specs.declared.event.Event.TheVariants.{ValueRemoved};
 ghost use Rattle.reg_terms.specs.declared.kinds.Object.TheVariants as object;
 ghost use Rattle.reg_facts.specs.Attributes.{assign_row, attribute_id, definition_id, value_of};
 ghost use Rattle.reg_facts.specs.Edits.{the_id};
-ghost use Rattle.reg_facts.specs.Events.{new_definition, new_attribute, new_assign, grants_added, on_owner, on_value};
+ghost use Rattle.reg_facts.specs.Events.{new_definition, new_attribute, new_assign, grants_added};
+ghost use Rattle.reg_facts.specs.Events.{on_owner, on_value};
 ghost use Rattle.reg_facts.specs.Grants.{makers_grant, object_of};
 ghost use Rattle.reg_facts.specs.Suiting.{AllSuit};
 
@@ -55,7 +58,8 @@ impl Facts {
         many: bool,
     ) -> Result<DefinitionRow, AllocError>
         requires { self.now.made.definitions < max_definitions }
-        ensures { IfOk result (λ row. row ≡ new_definition definition.now owners several kind many self.now) }
+        ensures { IfOk result (λ row. row
+            ≡ new_definition definition.now owners several kind many self.now) }
     {
         let (folder, extension) = self.home(definition);
         Ok(DefinitionRow {
@@ -76,7 +80,9 @@ impl Facts {
         by: &Entity,
         row: DefinitionRow,
     ) -> Result<Vec<Event>, AllocError>
-        ensures { IfOk result (λ events. events.items ≡ DefinitionMade row ∷ grants_added (makers_grant by.now (object.Def row.id) AttrAdmin self.now)) }
+        ensures { IfOk result (λ events. events.items
+            ≡ DefinitionMade row ∷ grants_added
+            (makers_grant by.now (object.Def row.id) AttrAdmin self.now)) }
     {
         let object = Object::Def(row.id);
         let mut events = one(alloc, Event::DefinitionMade { row })?;
@@ -123,8 +129,11 @@ impl Facts {
         attribute: &Name,
         object: &Text,
     ) -> Result<Vec<Event>, AllocError>
-        requires { AllSuit (on_owner (λ o. AssignMade (new_assign attribute.now o self.now)) (object_of object.now self.now)) self.now }
-        ensures { IfOk result (λ events. events.items ≡ on_owner (λ o. AssignMade (new_assign attribute.now o self.now)) (object_of object.now self.now)) }
+        requires { AllSuit (on_owner (λ o. AssignMade (new_assign attribute.now o self.now))
+            (object_of object.now self.now)) self.now }
+        ensures { IfOk result (λ events. events.items
+            ≡ on_owner (λ o. AssignMade (new_assign attribute.now o self.now))
+            (object_of object.now self.now)) }
     {
         let Some(owner) = self.object_of(alloc, object)? else {
             return Ok(Vec::new(alloc));
@@ -150,8 +159,11 @@ impl Facts {
         id: u64,
         value: &Value,
     ) -> Result<Vec<Event>, AllocError>
-        requires { AllSuit (on_value (λ v. ValueAdded id v) (value_of (the_id (attribute_id attribute.now self.now)) value.now self.now)) self.now }
-        ensures { IfOk result (λ events. events.items ≡ on_value (λ v. ValueAdded id v) (value_of (the_id (attribute_id attribute.now self.now)) value.now self.now)) }
+        requires { AllSuit (on_value (λ v. ValueAdded id v)
+            (value_of (the_id (attribute_id attribute.now self.now)) value.now self.now)) self.now }
+        ensures { IfOk result (λ events. events.items
+            ≡ on_value (λ v. ValueAdded id v)
+            (value_of (the_id (attribute_id attribute.now self.now)) value.now self.now)) }
     {
         let attribute = self.the_attribute(attribute);
         let Some(value) = self.value_of(alloc, attribute, value)? else {
@@ -169,8 +181,11 @@ impl Facts {
         id: u64,
         value: &Value,
     ) -> Result<Vec<Event>, AllocError>
-        requires { AllSuit (on_value (λ v. ValueRemoved id v) (value_of (the_id (attribute_id attribute.now self.now)) value.now self.now)) self.now }
-        ensures { IfOk result (λ events. events.items ≡ on_value (λ v. ValueRemoved id v) (value_of (the_id (attribute_id attribute.now self.now)) value.now self.now)) }
+        requires { AllSuit (on_value (λ v. ValueRemoved id v)
+            (value_of (the_id (attribute_id attribute.now self.now)) value.now self.now)) self.now }
+        ensures { IfOk result (λ events. events.items
+            ≡ on_value (λ v. ValueRemoved id v)
+            (value_of (the_id (attribute_id attribute.now self.now)) value.now self.now)) }
     {
         let attribute = self.the_attribute(attribute);
         let Some(value) = self.value_of(alloc, attribute, value)? else {

@@ -61,7 +61,8 @@ impl Model for AttributeRows {
 /// Takes the attribute of this id out of the index of a list, if it is there.
 fn unlist(index: &mut Table<Defined>, list: &[AttributeRow], id: u32)
     requires { AreDefined index.old list.now }
-    ensures { index.new ≡ map defined_by (filter (λ (row : AttributeRow). not (row.id == id)) list.now) }
+    ensures { index.new ≡ map defined_by
+        (filter (λ (row : AttributeRow). not (row.id == id)) list.now) }
 {
     if let Some(row) = row_by_id(list, id) {
         index.remove(row.definition, row.id);

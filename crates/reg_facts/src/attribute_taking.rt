@@ -2,7 +2,10 @@
 ghost use Rattle.std.specs.Prelude.{◌≡◌, IfOk};
 ghost use Rattle.reg_facts.specs.Events.{happened};
 ghost use Rattle.reg_facts.specs.Suiting.{Suits};
-ghost use Rattle.reg_terms.specs.declared.event.Event.TheVariants.{DefinitionMade, DefinitionGone, AttributeMade, AttributeGone, AssignMade, AssignGone, ValueAdded, ValueRemoved};
+ghost use Rattle.reg_terms.specs.declared.event.Event.TheVariants.{DefinitionMade, DefinitionGone};
+ghost use Rattle.reg_terms.specs.declared.event.Event.TheVariants.{AttributeMade, AttributeGone};
+ghost use Rattle.reg_terms.specs.declared.event.Event.TheVariants.{AssignMade, AssignGone};
+ghost use Rattle.reg_terms.specs.declared.event.Event.TheVariants.{ValueAdded, ValueRemoved};
 
 use crate::facts::{both, finished};
 use crate::{AssignRow, AttrValue, AttributeRow, DefinitionRow, Facts, Object};

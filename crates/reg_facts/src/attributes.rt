@@ -1,5 +1,6 @@
 // Definitions, attributes and assignments: looked up, and as a command names them.
-ghost use Rattle.std.specs.Prelude.{◌≡◌, ◌<◌, ◌≤◌, ◌+◌, ℕ, Bool, List, Some, IsSome, IfOk, length, true};
+ghost use Rattle.std.specs.Prelude.{◌≡◌, ◌<◌, ◌≤◌, ◌+◌, ℕ, Bool, List, Some, IsSome, IfOk, length};
+ghost use Rattle.std.specs.Prelude.{true};
 ghost use Rattle.std.specs.Option.{option_copied};
 ghost use Rattle.reg_base.specs.NameParts.{extension_of};
 ghost use Rattle.reg_base.specs.declared.entity.Entity.{Entity};
@@ -13,7 +14,10 @@ ghost use Rattle.reg_terms.specs.declared.kinds.Object.{Object};
 ghost use Rattle.reg_terms.specs.declared.kinds.Object.TheVariants as object;
 ghost use Rattle.reg_terms.specs.declared.kinds.Owners.{Owners};
 ghost use Rattle.reg_facts.specs.Assigned.{AreAssigned, OwnerStands};
-ghost use Rattle.reg_facts.specs.Attributes.{definition_row, attribute_row, definition_of, has_attributes, assign_row, assigns_on, is_assigned, is_assigned_to, has_assign, definition_id, attribute_id, value_of};
+ghost use Rattle.reg_facts.specs.Attributes.{definition_row, attribute_row, definition_of};
+ghost use Rattle.reg_facts.specs.Attributes.{has_attributes, assign_row, assigns_on, is_assigned};
+ghost use Rattle.reg_facts.specs.Attributes.{is_assigned_to, has_assign, definition_id};
+ghost use Rattle.reg_facts.specs.Attributes.{attribute_id, value_of};
 ghost use Rattle.reg_facts.specs.Edits.{the_id};
 ghost use Rattle.reg_facts.specs.Events.{events_of};
 ghost use Rattle.reg_facts.specs.Grants.{makers_grant, object_of};
@@ -147,9 +151,12 @@ impl Facts {
     /// A law, which does nothing: the definition or the attribute that a name names stands, and so
     /// does an object that a text names and some definition suits.
     pub fn law_owners(&self)
-        ensures definitions { (name : List ℕ) (a : ℕ) → definition_id name self.now ≡ Some a → IsSome (definition_row a self.now.definitions) }
-        ensures attributes { (name : List ℕ) (a : ℕ) → attribute_id name self.now ≡ Some a → IsSome (attribute_row a self.now.attributes) }
-        ensures owners { (text : List ℕ) (o : Object) (owners : Owners) → object_of text self.now ≡ Some o → suits owners o ≡ true → OwnerStands self.now o }
+        ensures definitions { (name : List ℕ) (a : ℕ) → definition_id name self.now ≡ Some a
+            → IsSome (definition_row a self.now.definitions) }
+        ensures attributes { (name : List ℕ) (a : ℕ) → attribute_id name self.now ≡ Some a
+            → IsSome (attribute_row a self.now.attributes) }
+        ensures owners { (text : List ℕ) (o : Object) (owners : Owners)
+            → object_of text self.now ≡ Some o → suits owners o ≡ true → OwnerStands self.now o }
     {
         self.law_sound();
     }
@@ -157,10 +164,15 @@ impl Facts {
     /// A law, which does nothing: where a new definition may stand and its maker's grant has room,
     /// what making it brings suits the facts.
     pub fn law_new_definition(&self)
-        ensures { (at : ℕ) (by : Entity) (definition : List ℕ) (owners : Owners) (several : Bool) (kind : DefKind) (many : Bool) → CanStand (the_id (home_id definition self.now)) (extension_of definition) 0 self.now
+        ensures { (at : ℕ) (by : Entity) (definition : List ℕ) (owners : Owners) (several : Bool)
+            (kind : DefKind) (many : Bool)
+            → CanStand (the_id (home_id definition self.now)) (extension_of definition) 0 self.now
             → self.now.made.definitions < max_definitions
-            → length self.now.grants + length (makers_grant by (object.Def (self.now.made.definitions + 1)) AttrAdmin self.now) ≤ max_grants
-            → AllSuit (events_of at by (AttrdefAdd definition owners several kind many) self.now) self.now }
+            → length self.now.grants
+            + length (makers_grant by (object.Def (self.now.made.definitions
+            + 1)) AttrAdmin self.now) ≤ max_grants
+            → AllSuit (events_of at by (AttrdefAdd definition owners several kind many) self.now)
+            self.now }
     {
         self.law_grants();
         self.law_held();

@@ -4,7 +4,8 @@ ghost use Rattle.std.specs.List.Sorted.{IsStrictlySortedBy};
 ghost use Rattle.std.specs.Cmp.Lexicographic.{slice_cmp};
 ghost use Rattle.std.specs.Ordering.{nat_cmp};
 ghost use Rattle.std.specs.BTreeMap.{IsOrdered};
-ghost use Rattle.reg_facts.specs.Children.{by_bytes, is_among, child_names, no_names, with_name, with_names};
+ghost use Rattle.reg_facts.specs.Children.{by_bytes, is_among, child_names, no_names, with_name};
+ghost use Rattle.reg_facts.specs.Children.{with_names};
 
 use crate::{Facts, Object, Texts, name_in};
 use reg_base::{FolderId, Text};
@@ -52,7 +53,8 @@ fn names_of(
     index: &BTreeMap<String, Object>,
     home: &str,
 ) -> Result<ChildNames, AllocError>
-    ensures names { IfOk result (λ names. names ≡ with_names string_bytes home.now index.now.entries no_names) }
+    ensures names { IfOk result (λ names. names
+        ≡ with_names string_bytes home.now index.now.entries no_names) }
     ensures ordered { IsOrdered string_cmp index.now }
 {
     let mut names = ChildNames::new(alloc);
@@ -82,9 +84,11 @@ impl Facts {
     }
 }
 
-/// What it means that the names of a folder are in order: they ascend by their bytes, each once, and
-/// are the same texts.
+/// What it means that the names of a folder are in order: they ascend by their bytes, each once,
+/// and are the same texts.
 pub fn law_by_bytes()
-    ensures sorted { (texts : List (List ℕ)) → IsStrictlySortedBy (slice_cmp nat_cmp) (by_bytes texts) }
-    ensures same { (text : List ℕ) (texts : List (List ℕ)) → is_among text (by_bytes texts) ≡ is_among text texts }
+    ensures sorted { (texts : List (List ℕ))
+        → IsStrictlySortedBy (slice_cmp nat_cmp) (by_bytes texts) }
+    ensures same { (text : List ℕ) (texts : List (List ℕ))
+        → is_among text (by_bytes texts) ≡ is_among text texts }
 {}

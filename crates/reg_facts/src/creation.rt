@@ -1,5 +1,6 @@
 // The grants on a group that is made: that of its maker, and those of rules.
-ghost use Rattle.std.specs.Prelude.{◌≡◌, ◌∷◌, ◌+◌, ◌++◌, ◌<◌, [], IfOk, OnOk, filter_map, if◌then◌else◌};
+ghost use Rattle.std.specs.Prelude.{◌≡◌, ◌∷◌, ◌+◌, ◌++◌, ◌<◌, [], IfOk, OnOk, filter_map};
+ghost use Rattle.std.specs.Prelude.{if◌then◌else◌};
 ghost use Rattle.std.specs.BTreeMap.{values};
 ghost use Rattle.std.specs.Option.{option_to_list};
 ghost use Rattle.reg_base.specs.declared.privilege.Privilege.TheVariants.{Admin};
@@ -64,7 +65,8 @@ fn alone(alloc: Global, first: Option<GrantRow>) -> Result<Vec<GrantRow>, AllocE
 
 /// Adds a grant behind the others, if it isn't one of them.
 fn add_new(rows: &mut GrantRows, row: &GrantRow) -> Result<(), AllocError>
-    ensures { OnOk result (rows.new ≡ (if has_grant row.now rows.old then rows.old else rows.old ++ row.now ∷ [])) }
+    ensures { OnOk result (rows.new
+        ≡ (if has_grant row.now rows.old then rows.old else rows.old ++ row.now ∷ [])) }
 {
     if !rows.contains(row) {
         rows.push(*row)?;
@@ -78,7 +80,8 @@ fn each_once(
     first: Option<GrantRow>,
     found: &BTreeMap<RuleId, GrantRow>,
 ) -> Result<Vec<GrantRow>, AllocError>
-    ensures { IfOk result (λ rows. rows.items ≡ option_to_list first ++ not_yet (option_to_list first) (values found.now)) }
+    ensures { IfOk result (λ rows. rows.items
+        ≡ option_to_list first ++ not_yet (option_to_list first) (values found.now)) }
 {
     if found.is_empty() {
         return alone(alloc, first);
@@ -132,7 +135,9 @@ impl Facts {
         folder: FolderId,
         home: bool,
     ) -> Result<(), AllocError>
-        ensures { OnOk result (found.new.entries ≡ put_all found.old.entries (filter_map (entry_made group home) (rules_at (key.Folder folder) self.now.rules))) }
+        ensures { OnOk result (found.new.entries
+            ≡ put_all found.old.entries
+            (filter_map (entry_made group home) (rules_at (key.Folder folder) self.now.rules))) }
     {
         for row in self.rules_at(RuleKey::Folder(folder)) {
             if let Some(grant) = grant_made(group, home, &row.form) {
@@ -150,7 +155,8 @@ impl Facts {
         group: GroupId,
         home: FolderId,
     ) -> Result<BTreeMap<RuleId, GrantRow>, AllocError>
-        ensures { IfOk result (λ found. values found ≡ creation_grants group home self.now.folders self.now.rules) }
+        ensures { IfOk result (λ found. values found
+            ≡ creation_grants group home self.now.folders self.now.rules) }
     {
         let mut found = BTreeMap::new(alloc);
         if self.rules().is_empty() {

@@ -1,5 +1,6 @@
 // The grants as contracts see them.
-ghost use Rattle.std.specs.Prelude.{◌≡◌, ◌++◌, ◌∷◌, ◌<◌, ◌^◌, [], not, Bool, false, filter, length, IfOk, OnOk};
+ghost use Rattle.std.specs.Prelude.{◌≡◌, ◌++◌, ◌∷◌, ◌<◌, ◌^◌, [], not, Bool, false, filter, length};
+ghost use Rattle.std.specs.Prelude.{IfOk, OnOk};
 ghost use Rattle.std.specs.List.{list_any};
 ghost use Rattle.reg_terms.specs.Kinds.{same_object, same_holder};
 ghost use Rattle.reg_terms.specs.declared.kinds.Holder.TheVariants as holder;
@@ -64,7 +65,8 @@ impl GrantRows {
 
     /// The grants on an object, each once. It takes no memory.
     pub fn on(&self, object: &Object) -> GroupRows<'_, GrantRow>
-        ensures same { (test : GrantRow → Bool) → list_any test result ≡ list_any test (grants_on object.now self.now) }
+        ensures same { (test : GrantRow → Bool)
+            → list_any test result ≡ list_any test (grants_on object.now self.now) }
         ensures fits { length result < 2 ^ 63 }
     {
         self.rows.rows_of(*object)
@@ -72,7 +74,8 @@ impl GrantRows {
 
     /// Whether a group holds a grant. It takes no memory.
     pub fn is_holder(&self, group: GroupId) -> bool
-        ensures { result ≡ list_any (λ (row : GrantRow). same_holder row.holder (holder.Group group)) self.now }
+        ensures { result ≡ list_any
+            (λ (row : GrantRow). same_holder row.holder (holder.Group group)) self.now }
     {
         self.rows.is_linked(group)
     }
@@ -87,14 +90,16 @@ impl GrantRows {
 
     /// Takes a grant away. It takes no memory.
     pub fn remove(&mut self, row: &GrantRow)
-        ensures { self.new ≡ filter (λ (other : GrantRow). not (same_grant row.now other)) self.old }
+        ensures { self.new ≡ filter
+            (λ (other : GrantRow). not (same_grant row.now other)) self.old }
     {
         self.rows.remove(row.object, row.place());
     }
 
     /// Takes the grants on an object away. It takes no memory.
     pub fn remove_on(&mut self, object: &Object)
-        ensures { self.new ≡ filter (λ (row : GrantRow). not (same_object row.object object.now)) self.old }
+        ensures { self.new ≡ filter
+            (λ (row : GrantRow). not (same_object row.object object.now)) self.old }
     {
         self.rows.remove_group(*object);
     }

@@ -4,7 +4,9 @@ ghost use Rattle.std.specs.List.{list_any};
 ghost use Rattle.reg_terms.specs.declared.rows.GrantRow.{GrantRow};
 ghost use Rattle.reg_terms.specs.declared.rows.InheritRow.{InheritRow};
 ghost use Rattle.reg_base.specs.Entities.{entity_of};
-ghost use Rattle.reg_facts.specs.Grants.{has_grant, has_inherit, grants_on, inherits_on, is_holder, entity_object, of_entity, object_of, holder_of, grant_of, inherit_of};
+ghost use Rattle.reg_facts.specs.Grants.{has_grant, has_inherit, grants_on, inherits_on, is_holder};
+ghost use Rattle.reg_facts.specs.Grants.{entity_object, of_entity, object_of, holder_of, grant_of};
+ghost use Rattle.reg_facts.specs.Grants.{inherit_of};
 
 use crate::{Facts, GrantRow, Holder, InheritKind, InheritRow, Object, Scope};
 use reg_base::{Entity, FolderId, GroupId, Privilege, Text};
@@ -28,7 +30,8 @@ impl Facts {
 
     /// The grants that are written on an object, each once. It takes no memory.
     pub fn grants_of(&self, object: &Object) -> GroupRows<'_, GrantRow>
-        ensures same { (test : GrantRow → Bool) → list_any test result ≡ list_any test (grants_on object.now self.now.grants) }
+        ensures same { (test : GrantRow → Bool)
+            → list_any test result ≡ list_any test (grants_on object.now self.now.grants) }
         ensures fits { length result < 2 ^ 63 }
     {
         self.tables.grant_rows.on(object)
@@ -36,7 +39,8 @@ impl Facts {
 
     /// The inherits that are written on a folder, each once. It takes no memory.
     pub fn inherits_of(&self, folder: FolderId) -> GroupRows<'_, InheritRow>
-        ensures same { (test : InheritRow → Bool) → list_any test result ≡ list_any test (inherits_on folder self.now.inherits) }
+        ensures same { (test : InheritRow → Bool)
+            → list_any test result ≡ list_any test (inherits_on folder self.now.inherits) }
         ensures fits { length result < 2 ^ 63 }
     {
         self.tables.inherit_rows.on(folder)

@@ -1,5 +1,6 @@
 // The inherits as contracts see them.
-ghost use Rattle.std.specs.Prelude.{◌≡◌, ◌==◌, ◌++◌, ◌∷◌, ◌<◌, ◌^◌, [], not, Bool, false, filter, length, IfOk, OnOk};
+ghost use Rattle.std.specs.Prelude.{◌≡◌, ◌==◌, ◌++◌, ◌∷◌, ◌<◌, ◌^◌, [], not, Bool, false, filter};
+ghost use Rattle.std.specs.Prelude.{length, IfOk, OnOk};
 ghost use Rattle.std.specs.List.{list_any};
 ghost use Rattle.reg_terms.specs.Kinds.{same_holder};
 ghost use Rattle.reg_terms.specs.declared.kinds.Holder.TheVariants as holder;
@@ -64,7 +65,8 @@ impl InheritRows {
 
     /// The inherits on a folder, each once. It takes no memory.
     pub fn on(&self, folder: FolderId) -> GroupRows<'_, InheritRow>
-        ensures same { (test : InheritRow → Bool) → list_any test result ≡ list_any test (inherits_on folder self.now) }
+        ensures same { (test : InheritRow → Bool)
+            → list_any test result ≡ list_any test (inherits_on folder self.now) }
         ensures fits { length result < 2 ^ 63 }
     {
         self.rows.rows_of(folder)
@@ -72,7 +74,8 @@ impl InheritRows {
 
     /// Whether a group holds an inherit. It takes no memory.
     pub fn is_holder(&self, group: GroupId) -> bool
-        ensures { result ≡ list_any (λ (row : InheritRow). same_holder row.holder (holder.Group group)) self.now }
+        ensures { result ≡ list_any
+            (λ (row : InheritRow). same_holder row.holder (holder.Group group)) self.now }
     {
         self.rows.is_linked(group)
     }
@@ -87,7 +90,8 @@ impl InheritRows {
 
     /// Takes an inherit away. It takes no memory.
     pub fn remove(&mut self, row: &InheritRow)
-        ensures { self.new ≡ filter (λ (other : InheritRow). not (same_inherit row.now other)) self.old }
+        ensures { self.new ≡ filter
+            (λ (other : InheritRow). not (same_inherit row.now other)) self.old }
     {
         self.rows.remove(row.folder, row.place());
     }

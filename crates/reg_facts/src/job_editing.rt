@@ -47,7 +47,8 @@ impl Facts {
         max_percent: u64,
     ) -> Result<Vec<Event>, AllocError>
         requires { self.now.made.jobs < max_jobs }
-        ensures { IfOk result (λ events. events.items ≡ JobMade (new_job job.now target source.now min_size max_percent self.now) ∷ []) }
+        ensures { IfOk result (λ events. events.items
+            ≡ JobMade (new_job job.now target source.now min_size max_percent self.now) ∷ []) }
     {
         let row = JobRow {
             id: JobId::new(self.made().jobs + 1),

@@ -53,7 +53,8 @@ impl Facts {
 
     /// A law, which does nothing: what deleting a loader job brings suits the facts.
     pub fn law_job_delete(&self)
-        ensures { (at : ℕ) (by : Entity) (job : List ℕ) → AllSuit (events_of at by (JobDelete job) self.now) self.now }
+        ensures { (at : ℕ) (by : Entity) (job : List ℕ)
+            → AllSuit (events_of at by (JobDelete job) self.now) self.now }
     {
         let _ = &self.tables;
     }

@@ -12,7 +12,8 @@ use reg_table::Table;
 use std::alloc::{AllocError, Global};
 use std::marker::Model;
 
-/// The immediate memberships. Contracts see the list of them, in the order in which they were added.
+/// The immediate memberships. Contracts see the list of them, in the order in which they were
+/// added.
 #[derive(Drop)]
 pub struct MemberRows {
     rows: Table<MemberRow>,
@@ -120,7 +121,8 @@ impl MemberRows {
 
     /// Takes a membership away. It takes no memory.
     pub fn remove(&mut self, group: GroupId, member: &Member)
-        ensures { self.new ≡ filter (λ (row : MemberRow). not (is_row group member.now row)) self.old }
+        ensures { self.new ≡ filter
+            (λ (row : MemberRow). not (is_row group member.now row)) self.old }
     {
         remove_nest(&mut self.nests, group, member);
         self.rows.remove(group, *member);

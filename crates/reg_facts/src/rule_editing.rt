@@ -18,8 +18,10 @@ impl Facts {
         alloc: Global,
         command: &Command,
     ) -> Result<Vec<Event>, AllocError>
-        requires { AllSuit (on_rule (self.now.made.rules + 1) (form_of command.now self.now)) self.now }
-        ensures { IfOk result (λ events. events.items ≡ on_rule (self.now.made.rules + 1) (form_of command.now self.now)) }
+        requires { AllSuit (on_rule (self.now.made.rules
+            + 1) (form_of command.now self.now)) self.now }
+        ensures { IfOk result (λ events. events.items
+            ≡ on_rule (self.now.made.rules + 1) (form_of command.now self.now)) }
     {
         match self.rule_form(command) {
             Some(form) => self.rule_of(alloc, form),
@@ -30,7 +32,8 @@ impl Facts {
     /// A rule of the next id is made.
     fn rule_of(&self, alloc: Global, form: RuleForm) -> Result<Vec<Event>, AllocError>
         requires { self.now.made.rules < max_rules }
-        ensures { IfOk result (λ events. events.items ≡ RuleMade (record { id = self.now.made.rules + 1; form = form }) ∷ []) }
+        ensures { IfOk result (λ events. events.items
+            ≡ RuleMade (record { id = self.now.made.rules + 1; form = form }) ∷ []) }
     {
         let id = RuleId::new(self.made().rules + 1);
         let row = RuleRow { id, form };

@@ -106,14 +106,18 @@ impl RuleRows {
 
     /// Whether a group is what a rule watches.
     fn is_watched(&self, group: GroupId) -> bool
-        ensures { result ≡ (list_any (λ (row : RuleRow). same_key (key_of row.form) (key.Check group)) self.now || list_any (λ (row : RuleRow). same_key (key_of row.form) (key.Owner group)) self.now) }
+        ensures { result ≡ (list_any
+            (λ (row : RuleRow). same_key (key_of row.form) (key.Check group)) self.now
+            || list_any (λ (row : RuleRow). same_key (key_of row.form) (key.Owner group))
+            self.now) }
     {
         self.index.has_rows(RuleKey::Check(group)) || self.index.has_rows(RuleKey::Owner(group))
     }
 
     /// Whether a rule speaks of a group beside what it watches.
     fn is_other(&self, group: GroupId) -> bool
-        ensures { result ≡ list_any (λ (row : RuleRow). same_holder (other_of row.form) (holder.Group group)) self.now }
+        ensures { result ≡ list_any
+            (λ (row : RuleRow). same_holder (other_of row.form) (holder.Group group)) self.now }
     {
         self.index.is_linked(group)
     }

@@ -13,7 +13,8 @@ ghost use Rattle.reg_facts.specs.Events.{events_of, new_groups_grants};
 ghost use Rattle.reg_facts.specs.Grants.{holder_of, makers_grant};
 ghost use Rattle.reg_facts.specs.Naming.{home_id};
 ghost use Rattle.reg_facts.specs.Ruled.{AreRuled};
-ghost use Rattle.reg_facts.specs.Rules.{rule_by, rules_at, has_rule, is_ruled, is_ruled_folder, on_create_for, form_of};
+ghost use Rattle.reg_facts.specs.Rules.{rule_by, rules_at, has_rule, is_ruled, is_ruled_folder};
+ghost use Rattle.reg_facts.specs.Rules.{on_create_for, form_of};
 ghost use Rattle.reg_facts.specs.Ruling.{HasDays};
 ghost use Rattle.reg_facts.specs.Suiting.{AllSuit, CanStand};
 
@@ -131,9 +132,12 @@ impl Facts {
     /// A law, which does nothing: where a new folder may stand and its maker's grant has room, what
     /// making it brings suits the facts.
     pub fn law_new_folder(&self)
-        ensures { (at : ℕ) (by : Entity) (folder display : List ℕ) (d : ℕ) → home_id folder self.now ≡ Some d → CanStand d (extension_of folder) 0 self.now
+        ensures { (at : ℕ) (by : Entity) (folder display : List ℕ) (d : ℕ)
+            → home_id folder self.now ≡ Some d → CanStand d (extension_of folder) 0 self.now
             → self.now.made.folders < max_folders
-            → length self.now.grants + length (makers_grant by (object.Folder (self.now.made.folders + 1)) StemAdmin self.now) ≤ max_grants
+            → length self.now.grants
+            + length (makers_grant by (object.Folder (self.now.made.folders
+            + 1)) StemAdmin self.now) ≤ max_grants
             → AllSuit (events_of at by (FolderAdd folder display) self.now) self.now }
     {
         self.law_grants();
@@ -143,7 +147,8 @@ impl Facts {
     /// A law, which does nothing: where a new group may stand and the grants on it have room, what
     /// making it brings suits the facts.
     pub fn law_new_group(&self)
-        ensures { (at : ℕ) (by : Entity) (group display : List ℕ) → CanStand (the_id (home_id group self.now)) (extension_of group) 0 self.now
+        ensures { (at : ℕ) (by : Entity) (group display : List ℕ)
+            → CanStand (the_id (home_id group self.now)) (extension_of group) 0 self.now
             → self.now.made.groups < max_groups
             → length self.now.grants + length (new_groups_grants by group self.now) ≤ max_grants
             → AllSuit (events_of at by (GroupAdd group display) self.now) self.now }

@@ -5,8 +5,23 @@ ghost use Rattle.reg_facts.specs.Attributes.{value_count};
 ghost use Rattle.reg_facts.specs.Edits.{has_row, is_composite};
 ghost use Rattle.reg_facts.specs.Grants.{has_grant, has_inherit};
 ghost use Rattle.reg_facts.specs.Events.{happened};
-ghost use Rattle.reg_terms.specs.declared.event.Event.TheVariants.{FolderMade, FolderRenamed, FolderMoved, FolderGone, SubjectMade, GroupMade, GroupRenamed, GroupMoved, GroupGone, RowAdded, RowRemoved, RowRedated, Composed, Decomposed, GrantAdded, GrantRemoved, InheritAdded, InheritRemoved, DefinitionMade, DefinitionGone, AttributeMade, AttributeGone, AssignMade, AssignGone, ValueAdded, ValueRemoved, RuleMade, RuleGone, ConsumerAdded, ConsumerAcked};
-ghost use Rattle.reg_facts.specs.Ascending.{FoldersAscend, GroupsAscend, DefinitionsAscend, AttributesAscend, AssignsAscend, RulesAscend};
+ghost use Rattle.reg_terms.specs.declared.event.Event.TheVariants.{FolderMade, FolderRenamed};
+ghost use Rattle.reg_terms.specs.declared.event.Event.TheVariants.{FolderMoved, FolderGone};
+ghost use Rattle.reg_terms.specs.declared.event.Event.TheVariants.{SubjectMade, GroupMade};
+ghost use Rattle.reg_terms.specs.declared.event.Event.TheVariants.{GroupRenamed, GroupMoved};
+ghost use Rattle.reg_terms.specs.declared.event.Event.TheVariants.{GroupGone, RowAdded, RowRemoved};
+ghost use Rattle.reg_terms.specs.declared.event.Event.TheVariants.{RowRedated, Composed};
+ghost use Rattle.reg_terms.specs.declared.event.Event.TheVariants.{Decomposed, GrantAdded};
+ghost use Rattle.reg_terms.specs.declared.event.Event.TheVariants.{GrantRemoved, InheritAdded};
+ghost use Rattle.reg_terms.specs.declared.event.Event.TheVariants.{InheritRemoved, DefinitionMade};
+ghost use Rattle.reg_terms.specs.declared.event.Event.TheVariants.{DefinitionGone, AttributeMade};
+ghost use Rattle.reg_terms.specs.declared.event.Event.TheVariants.{AttributeGone, AssignMade};
+ghost use Rattle.reg_terms.specs.declared.event.Event.TheVariants.{AssignGone, ValueAdded};
+ghost use Rattle.reg_terms.specs.declared.event.Event.TheVariants.{ValueRemoved, RuleMade};
+ghost use Rattle.reg_terms.specs.declared.event.Event.TheVariants.{RuleGone, ConsumerAdded};
+ghost use Rattle.reg_terms.specs.declared.event.Event.TheVariants.{ConsumerAcked};
+ghost use Rattle.reg_facts.specs.Ascending.{FoldersAscend, GroupsAscend, DefinitionsAscend};
+ghost use Rattle.reg_facts.specs.Ascending.{AttributesAscend, AssignsAscend, RulesAscend};
 ghost use Rattle.reg_terms.specs.Limits.{max_values};
 
 use crate::assign_rows::AssignRows;
@@ -71,7 +86,16 @@ impl Model for Tables {
 }
 
 fn none_made() -> Made
-    ensures { result ≡ record { folders = 0; groups = 0; subjects = 0; definitions = 0; attributes = 0; assigns = 0; rules = 0; jobs = 0 } }
+    ensures { result ≡ record {
+      folders = 0;
+      groups = 0;
+      subjects = 0;
+      definitions = 0;
+      attributes = 0;
+      assigns = 0;
+      rules = 0;
+      jobs = 0;
+    } }
 {
     Made {
         folders: 0,
@@ -335,8 +359,8 @@ impl Tables {
         self.assign_rows.remove(id);
     }
 
-    /// Adds a value behind the others of an assignment. Where there is no memory all assignments are
-    /// gone.
+    /// Adds a value behind the others of an assignment. Where there is no memory all assignments
+    /// are gone.
     pub fn push_value(
         &mut self,
         alloc: Global,

@@ -2,7 +2,17 @@
 ghost use Rattle.std.specs.Prelude.{◌≡◌, IfOk, Some, true, false};
 ghost use Rattle.reg_facts.specs.Events.{happened};
 ghost use Rattle.reg_facts.specs.Suiting.{Suits};
-ghost use Rattle.reg_terms.specs.declared.event.Event.TheVariants.{FolderMade, FolderRenamed, FolderMoved, FolderGone, SubjectMade, GroupMade, GroupRenamed, GroupMoved, GroupGone, RowAdded, RowRemoved, RowRedated, Composed, Decomposed, GrantAdded, GrantRemoved, InheritAdded, InheritRemoved, RuleMade, RuleGone, ConsumerAdded, ConsumerAcked};
+ghost use Rattle.reg_terms.specs.declared.event.Event.TheVariants.{FolderMade, FolderRenamed};
+ghost use Rattle.reg_terms.specs.declared.event.Event.TheVariants.{FolderMoved, FolderGone};
+ghost use Rattle.reg_terms.specs.declared.event.Event.TheVariants.{SubjectMade, GroupMade};
+ghost use Rattle.reg_terms.specs.declared.event.Event.TheVariants.{GroupRenamed, GroupMoved};
+ghost use Rattle.reg_terms.specs.declared.event.Event.TheVariants.{GroupGone, RowAdded, RowRemoved};
+ghost use Rattle.reg_terms.specs.declared.event.Event.TheVariants.{RowRedated, Composed};
+ghost use Rattle.reg_terms.specs.declared.event.Event.TheVariants.{Decomposed, GrantAdded};
+ghost use Rattle.reg_terms.specs.declared.event.Event.TheVariants.{GrantRemoved, InheritAdded};
+ghost use Rattle.reg_terms.specs.declared.event.Event.TheVariants.{InheritRemoved, RuleMade};
+ghost use Rattle.reg_terms.specs.declared.event.Event.TheVariants.{RuleGone, ConsumerAdded};
+ghost use Rattle.reg_terms.specs.declared.event.Event.TheVariants.{ConsumerAcked};
 
 use crate::facts::{both, finished};
 use crate::{

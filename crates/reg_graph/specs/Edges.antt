@@ -1,4 +1,5 @@
--- A list of edges, each from a group to a group that it depends on: paths, circles and topological order. An edge may stand several times.
+-- A list of edges, each from a group to a group that it depends on: paths, circles and topological
+-- order. An edge may stand several times.
 use Rattle.std.specs.Prelude.{◌≡◌, ⊤, ℕ, ◌==◌, ◌&&◌, ◌||◌, List, [], ◌∷◌, Bool, true, false}
 use Rattle.std.specs.List.{list_any, AllByRecursion}
 use Rattle.reg_graph.specs.declared.dag.EdgeFault.{EdgeFault}
@@ -37,7 +38,8 @@ among q xs = list_any (λ x. x == q) xs
 -- each group stands once, and before the later ones that depend on it
 abbrev pub InputsFirst : List (ℕ × ℕ) → List ℕ → Type 0
 InputsFirst es [] = ⊤
-InputsFirst es (x ∷ xs) = (among x xs ≡ false) × AllByRecursion (λ y. has_edge es x y ≡ false) xs × InputsFirst es xs
+InputsFirst es (x ∷ xs) =
+    (among x xs ≡ false) × AllByRecursion (λ y. has_edge es x y ≡ false) xs × InputsFirst es xs
 
 -- the group and all that depend on it, each once, inputs first
 pub record IsAbove (es : List (ℕ × ℕ)) (g : ℕ) (xs : List ℕ) : Type 0 where

@@ -1,5 +1,6 @@
 -- Levels of groups, which fall along each edge, and what is kept beside the list of edges.
-use Rattle.std.specs.Prelude.{◌≡◌, ⊤, ℕ, ◌==◌, ◌<◌, ◌^◌, List, [], ◌∷◌, Bool, true, max, unwrap_or, is_some, if◌then◌else◌}
+use Rattle.std.specs.Prelude.{◌≡◌, ⊤, ℕ, ◌==◌, ◌<◌, ◌^◌, List, [], ◌∷◌, Bool, true, max, unwrap_or}
+use Rattle.std.specs.Prelude.{is_some, if◌then◌else◌}
 use Rattle.std.specs.List.{All, AllByRecursion}
 use Rattle.std.specs.Map.{lookup}
 use Rattle.std.specs.BTreeMap.{is_at}
@@ -42,7 +43,9 @@ target level plan q = max (level q) (planned plan q)
 -- the groups of a plan stand in the order of their levels and numbers
 abbrev pub IsRising : (ℕ → ℕ) → List (ℕ × ℕ) → Type 0
 IsRising level [] = ⊤
-IsRising level (e ∷ es) = AllByRecursion (λ (f : ℕ × ℕ). pair_cmp (level e.0, e.0) (level f.0, f.0) ≡ Less) es × IsRising level es
+IsRising level (e ∷ es) =
+    AllByRecursion (λ (f : ℕ × ℕ). pair_cmp (level e.0, e.0) (level f.0, f.0) ≡ Less) es
+    × IsRising level es
 
 -- the level that a group that waits at its level l shall have, or 0
 abbrev pub wanted : List ((ℕ × ℕ) × ℕ) → ℕ → ℕ → ℕ

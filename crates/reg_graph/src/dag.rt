@@ -1,8 +1,10 @@
 // Which group depends on which, without circles.
-ghost use Rattle.std.specs.Prelude.{◌≡◌, ◌↔◌, [], ◌∷◌, ℕ, ◌==◌, ◌&&◌, ◌||◌, IfOk, IfErr, OnOk, OnErr, IsTrue, true, false};
+ghost use Rattle.std.specs.Prelude.{◌≡◌, ◌↔◌, [], ◌∷◌, ℕ, ◌==◌, ◌&&◌, ◌||◌, IfOk, IfErr, OnOk};
+ghost use Rattle.std.specs.Prelude.{OnErr, IsTrue, true, false};
 ghost use Rattle.std.specs.List.Sorted.{IsPermutation};
 ghost use Rattle.reg_graph.specs.Sets.{holds};
-ghost use Rattle.reg_graph.specs.Edges.{has_edge, is_needed, reaches, HasPath, IsAcyclic, IsAbove, IsRefused};
+ghost use Rattle.reg_graph.specs.Edges.{has_edge, is_needed, reaches, HasPath, IsAcyclic, IsAbove};
+ghost use Rattle.reg_graph.specs.Edges.{IsRefused};
 ghost use Rattle.reg_graph.specs.Levels.{level_of, IsLevelled};
 
 use crate::edges::Edges;
@@ -82,7 +84,8 @@ fn await_above(
     pending: &mut BTreeSet<(u64, u32)>,
 ) -> Result<(), AllocError>
     ensures { OnOk result ((l q : ℕ) → holds l q pending.new.keys
-        ≡ (((l == level_of levels.now q) && has_edge edges.now q group) || holds l q pending.old.keys)) }
+        ≡ (((l == level_of levels.now q) && has_edge edges.now q group)
+        || holds l q pending.old.keys)) }
 {
     let above = edges.above(group)?;
     for higher in &above {

@@ -1,7 +1,9 @@
 // Levels that make room for one more edge.
-ghost use Rattle.std.specs.Prelude.{◌≡◌, ◌==◌, ◌&&◌, ◌||◌, ◌⊎◌, ◌≤◌, ◌<◌, ℕ, IfOk, IfErr, OnOk, true, max, if◌then◌else◌};
+ghost use Rattle.std.specs.Prelude.{◌≡◌, ◌==◌, ◌&&◌, ◌||◌, ◌⊎◌, ◌≤◌, ◌<◌, ℕ, IfOk, IfErr, OnOk};
+ghost use Rattle.std.specs.Prelude.{true, max, if◌then◌else◌};
 ghost use Rattle.reg_graph.specs.Edges.{has_edge, IsRefused};
-ghost use Rattle.reg_graph.specs.Levels.{level_of, has_level, IsLevelled, planned, target, IsRising, wanted, awaits};
+ghost use Rattle.reg_graph.specs.Levels.{level_of, has_level, IsLevelled, planned, target};
+ghost use Rattle.reg_graph.specs.Levels.{IsRising, wanted, awaits};
 
 use crate::EdgeFault;
 use crate::edges::Edges;
@@ -39,7 +41,8 @@ fn ask_above(
     ensures more { OnOk result ((l q : ℕ) →
         wanted pending.old.entries l q ≤ wanted pending.new.entries l q) }
     ensures raised { OnOk result ((q : ℕ) → has_edge edges.now q group ≡ true
-        → level < max (level_of levels.now q) (wanted pending.new.entries (level_of levels.now q) q)) }
+        → level < max (level_of levels.now q)
+        (wanted pending.new.entries (level_of levels.now q) q)) }
     ensures only { OnOk result ((l q : ℕ) → awaits pending.new.entries l q ≡ true
         → (awaits pending.old.entries l q ≡ true)
         ⊎ ((l ≡ level_of levels.now q) × (has_edge edges.now q group ≡ true))) }

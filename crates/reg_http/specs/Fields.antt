@@ -1,5 +1,6 @@
 -- What the fields of a head say, from the list of their names and values.
-use Rattle.std.specs.Prelude.{ℕ, Bool, ◌&&◌, List, [], ◌∷◌, map, filter, length, Option, Some, None, ◌==◌, nat_le, codes}
+use Rattle.std.specs.Prelude.{ℕ, Bool, ◌&&◌, List, [], ◌∷◌, map, filter, length, Option, Some, None}
+use Rattle.std.specs.Prelude.{◌==◌, nat_le, codes}
 use Rattle.std.specs.List.{list_all, list_any, slice_split}
 use Rattle.std.specs.Char.{is_ascii_digit}
 use Rattle.std.specs.Str.{str_eq_ignore_ascii_case}
@@ -33,7 +34,8 @@ lists_close value = list_any is_close (slice_split (λ byte. byte == 44) value)
 
 -- a `Connection` field holds the token `close`
 abbrev pub closes : List Field → Bool
-closes fields = list_any (λ field. is_named (codes "connection") field && lists_close field.1) fields
+closes fields =
+    list_any (λ field. is_named (codes "connection") field && lists_close field.1) fields
 
 -- 1 to 19 digits
 abbrev pub is_length : List ℕ → Bool

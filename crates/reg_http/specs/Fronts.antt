@@ -39,5 +39,6 @@ IsFront bytes (front.Bad fault) = HasFault bytes fault
 
 -- a message of the bytes, or none yet
 abbrev pub IsTaken : List ℕ → Taken → Type 0
-IsTaken bytes (taken.Whole call used) = (used ≤ length bytes) × IsMessage bytes call (drop used bytes)
+IsTaken bytes (taken.Whole call used) =
+    (used ≤ length bytes) × IsMessage bytes call (drop used bytes)
 IsTaken bytes (taken.Part read) = AwaitsBody bytes × IsHeadAt bytes read

@@ -1,10 +1,12 @@
 -- What a head says of its message, and why it isn't taken.
-use Rattle.std.specs.Prelude.{ℕ, Bool, not, ◌&&◌, ◌||◌, List, [], ◌∷◌, map, length, Option, is_some, Result, Ok, Err, ◌==◌, nat_lt, bytes_eq, codes, if◌then◌else◌}
+use Rattle.std.specs.Prelude.{ℕ, Bool, not, ◌&&◌, ◌||◌, List, [], ◌∷◌, map, length, Option, is_some}
+use Rattle.std.specs.Prelude.{Result, Ok, Err, ◌==◌, nat_lt, bytes_eq, codes, if◌then◌else◌}
 use Rattle.std.specs.Str.Parse.{digits_value}
 use Rattle.httparse.specs.Grammar.{RequestHead}
 use Rattle.httparse.specs.Spans.{name_and_value}
 use Rattle.reg_http.specs.declared.call.HeadFault.{HeadFault}
-use Rattle.reg_http.specs.declared.call.HeadFault.TheVariants.{HeadTooLong, BadHead, Coding, TooLong, NoLength}
+use Rattle.reg_http.specs.declared.call.HeadFault.TheVariants.{HeadTooLong, BadHead, Coding}
+use Rattle.reg_http.specs.declared.call.HeadFault.TheVariants.{TooLong, NoLength}
 use Rattle.reg_http.specs.declared.call.Call.{Call}
 use Rattle.reg_http.specs.Fields.{Field, values_named, only, closes, is_length}
 
@@ -12,7 +14,8 @@ use Rattle.reg_http.specs.Fields.{Field, values_named, only, closes, is_length}
 abbrev pub stated_length : List ℕ → Result ℕ HeadFault
 stated_length text =
     let number = digits_value 10 text in
-    if is_length text then (if nat_lt 8388608 number then Err TooLong else Ok number) else Err BadHead
+    if is_length text then (if nat_lt 8388608 number then Err TooLong else Ok number)
+    else Err BadHead
 
 -- the length by all values of `Content-Length`
 abbrev pub length_by : List ℕ → List (List ℕ) → Result ℕ HeadFault
@@ -20,11 +23,13 @@ length_by method [] = if bytes_eq method (codes "POST") then Err NoLength else O
 length_by method (text ∷ []) = stated_length text
 length_by method (text ∷ other ∷ more) = Err BadHead
 
--- the length of the body after a head of this minor version, method and fields, or why it isn't taken
+-- the length of the body after a head of this minor version, method and fields, or why it isn't
+-- taken
 abbrev pub body_length : ℕ → List ℕ → List Field → Result ℕ HeadFault
 body_length minor method fields =
     if nat_lt 64 (length fields) then Err HeadTooLong
-    else (if (minor == 1) && not (is_some (only (values_named (codes "host") fields))) then Err BadHead
+    else (if (minor == 1) && not (is_some (only (values_named (codes "host") fields)))
+    then Err BadHead
     else (if nat_lt 0 (length (values_named (codes "transfer-encoding") fields)) then Err Coding
     else length_by method (values_named (codes "content-length") fields)))
 

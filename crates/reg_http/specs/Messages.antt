@@ -1,6 +1,7 @@
 -- What stands at the front of the bytes of a connection: a message, a fault, or neither yet.
 use Rattle.std.specs.Prelude.{◌≡◌, ℕ, ◌<◌, ◌≤◌, ◌⊎◌, List, ◌++◌, length, take, Ok, Err}
-use Rattle.httparse.specs.Grammar.{RequestHead, print_request, ReadsRequest, HasNoRequest, NeverHasRequest, MayBecomeRequest}
+use Rattle.httparse.specs.Grammar.{RequestHead, print_request, ReadsRequest, HasNoRequest}
+use Rattle.httparse.specs.Grammar.{NeverHasRequest, MayBecomeRequest}
 use Rattle.reg_http.specs.declared.call.HeadFault.{HeadFault}
 use Rattle.reg_http.specs.declared.call.HeadFault.TheVariants.{HeadTooLong, BadHead}
 use Rattle.reg_http.specs.declared.call.Call.{Call}

@@ -1,18 +1,22 @@
 -- What a target tells beside its route.
-use Rattle.std.specs.Prelude.{ℕ, List, [], Option, Some, None, Result, Ok, Err, codes, option_and_then, ◌==◌}
+use Rattle.std.specs.Prelude.{ℕ, List, [], Option, Some, None, Result, Ok, Err, codes}
+use Rattle.std.specs.Prelude.{option_and_then, ◌==◌}
 use Rattle.std.specs.List.{before_first, after_first}
 use Rattle.percent_encoding.specs.Percent.{percent_decode}
 use Rattle.reg_http.specs.declared.query.Pair.{Pair}
 use Rattle.reg_http.specs.declared.parameters.Parameters.{Parameters}
 use Rattle.reg_http.specs.declared.route.Route.{Route}
-use Rattle.reg_http.specs.declared.route.Route.TheVariants.{Requests, Load, Group, Members, Rows, History, Folder, Groups, Grants, Privileges, Attributes, Log, Admin}
+use Rattle.reg_http.specs.declared.route.Route.TheVariants.{Requests, Load, Group, Members, Rows}
+use Rattle.reg_http.specs.declared.route.Route.TheVariants.{History, Folder, Groups, Grants}
+use Rattle.reg_http.specs.declared.route.Route.TheVariants.{Privileges, Attributes, Log, Admin}
 use Rattle.reg_http.specs.Routes.{path_of}
 use Rattle.reg_http.specs.Queries.{wrong_key, value_of, number_of}
 
 -- what stands between the second and the third slash
 abbrev pub second_segment : List ℕ → List ℕ
 second_segment path =
-    before_first (λ byte. byte == 47) (after_first (λ byte. byte == 47) (after_first (λ byte. byte == 47) path))
+    before_first (λ byte. byte
+    == 47) (after_first (λ byte. byte == 47) (after_first (λ byte. byte == 47) path))
 
 -- what the parameter of a target's path stands for; a `+` stays
 unfoldable pub parameter_in : List ℕ → List ℕ

@@ -2,7 +2,9 @@
 use Rattle.std.specs.Prelude.{◌≡◌, ℕ, ◌<◌, Bool, true, false, List, [], ◌++◌, length, codes}
 use Rattle.matchit.specs.Seek.{has_slash}
 use Rattle.reg_http.specs.declared.route.Route.{Route}
-use Rattle.reg_http.specs.declared.route.Route.TheVariants.{Requests, Load, Group, Members, Rows, History, Folder, Groups, Grants, Privileges, Attributes, Log, Admin}
+use Rattle.reg_http.specs.declared.route.Route.TheVariants.{Requests, Load, Group, Members, Rows}
+use Rattle.reg_http.specs.declared.route.Route.TheVariants.{History, Folder, Groups, Grants}
+use Rattle.reg_http.specs.declared.route.Route.TheVariants.{Privileges, Attributes, Log, Admin}
 
 -- one byte at least, and no slash
 pub record IsSegment (part : List ℕ) : Type 0 where

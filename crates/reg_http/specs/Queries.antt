@@ -1,5 +1,6 @@
 -- The query of a target, as `form_urlencoded` reads it.
-use Rattle.std.specs.Prelude.{ℕ, Bool, not, ◌&&◌, List, [], ◌∷◌, ◌++◌, length, map, Option, Some, None, codes, bytes_eq, nat_le, if◌then◌else◌}
+use Rattle.std.specs.Prelude.{ℕ, Bool, not, ◌&&◌, List, [], ◌∷◌, ◌++◌, length, map, Option, Some}
+use Rattle.std.specs.Prelude.{None, codes, bytes_eq, nat_le, if◌then◌else◌}
 use Rattle.std.specs.List.{list_any, list_all}
 use Rattle.std.specs.Char.{is_ascii_digit}
 use Rattle.std.specs.Str.Lossy.{utf8_lossy}
@@ -7,7 +8,8 @@ use Rattle.std.specs.Str.Parse.{digits_value}
 use Rattle.form_urlencoded.specs.Form.{raw_pairs, decode}
 use Rattle.reg_http.specs.declared.query.Pair.{Pair}
 use Rattle.reg_http.specs.declared.route.Route.{Route}
-use Rattle.reg_http.specs.declared.route.Route.TheVariants.{Members, Groups, Grants, Privileges, Attributes, Log}
+use Rattle.reg_http.specs.declared.route.Route.TheVariants.{Members, Groups, Grants, Privileges}
+use Rattle.reg_http.specs.declared.route.Route.TheVariants.{Attributes, Log}
 
 -- the text of a key or of a value
 abbrev pub text_of : List ℕ → List ℕ
@@ -41,7 +43,8 @@ has key found = list_any (λ pair. bytes_eq pair.key key) found
 abbrev pub wrong_key : Route → List Pair → List Pair → Option (List ℕ)
 wrong_key route earlier [] = None
 wrong_key route earlier (pair ∷ later) =
-    if lists route pair.key && not (has pair.key earlier) then wrong_key route (earlier ++ pair ∷ []) later else Some pair.key
+    if lists route pair.key && not (has pair.key earlier)
+    then wrong_key route (earlier ++ pair ∷ []) later else Some pair.key
 
 -- the value of the first pair of this key
 abbrev pub value_of : List ℕ → List Pair → Option (List ℕ)
@@ -51,7 +54,8 @@ value_of key (pair ∷ later) = if bytes_eq pair.key key then Some pair.value el
 -- 1 to 20 digits of a number from 1 to 1,000
 abbrev pub is_count : List ℕ → Bool
 is_count text =
-    nat_le (length text) 20 && (list_all is_ascii_digit text && (nat_le 1 (digits_value 10 text) && nat_le (digits_value 10 text) 1000))
+    nat_le (length text) 20 && (list_all is_ascii_digit text
+    && (nat_le 1 (digits_value 10 text) && nat_le (digits_value 10 text) 1000))
 
 abbrev pub number_of : List ℕ → Option ℕ
 number_of text = if is_count text then Some (digits_value 10 text) else None

@@ -1,5 +1,6 @@
 -- The bytes of a response.
-use Rattle.std.specs.Prelude.{ℕ, Bool, List, [], ◌∷◌, ◌++◌, length, Option, Some, None, ◌==◌, IsTrue, codes, decimal, unwrap_or, if◌then◌else◌}
+use Rattle.std.specs.Prelude.{ℕ, Bool, List, [], ◌∷◌, ◌++◌, length, Option, Some, None, ◌==◌}
+use Rattle.std.specs.Prelude.{IsTrue, codes, decimal, unwrap_or, if◌then◌else◌}
 use Rattle.std.specs.List.{list_any}
 use Rattle.http.specs.StatusCode.{reason_phrase}
 
@@ -32,4 +33,5 @@ first_lines status size =
 
 -- a response
 abbrev pub response : ℕ → Option (List ℕ) → Bool → List ℕ → List ℕ
-response status allow close body = first_lines status (length body) ++ allow_line allow ++ close_line close ++ codes "\r\n" ++ body
+response status allow close body =
+    first_lines status (length body) ++ allow_line allow ++ close_line close ++ codes "\r\n" ++ body

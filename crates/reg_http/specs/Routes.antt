@@ -8,7 +8,9 @@ use Rattle.matchit.specs.Router.{RouteOf, route_from}
 use Rattle.matchit.specs.Seek.{first}
 use Rattle.matchit.specs.declared.error.InsertError.{InsertError}
 use Rattle.reg_http.specs.declared.route.Route.{Route}
-use Rattle.reg_http.specs.declared.route.Route.TheVariants.{Requests, Load, Group, Members, Rows, History, Folder, Groups, Grants, Privileges, Attributes, Log, Admin}
+use Rattle.reg_http.specs.declared.route.Route.TheVariants.{Requests, Load, Group, Members, Rows}
+use Rattle.reg_http.specs.declared.route.Route.TheVariants.{History, Folder, Groups, Grants}
+use Rattle.reg_http.specs.declared.route.Route.TheVariants.{Privileges, Attributes, Log, Admin}
 
 -- the rows of a router
 abbrev pub Table : Type 0

@@ -9,7 +9,8 @@ use Rattle.reg_http.specs.Turns.{Reading, fed, GivesTurn}
 -- the bytes are these messages, one after another, and then the rest
 abbrev pub AreMessages : List ℕ → List Call → List ℕ → Type 0
 AreMessages bytes [] rest = bytes ≡ rest
-AreMessages bytes (call ∷ calls) rest = (later : List ℕ) × IsMessage bytes call later × AreMessages later calls rest
+AreMessages bytes (call ∷ calls) rest =
+    (later : List ℕ) × IsMessage bytes call later × AreMessages later calls rest
 
 -- of all bytes fed these messages were given, and then perhaps the fault of the rest
 pub record HasGiven (bytes : List ℕ) (calls : List Call) (reading : Reading) : Type 0 where
@@ -31,7 +32,8 @@ pub data Step : Type 0 where
 abbrev pub Leads : List Step → Reading → Reading → Type 0
 Leads [] before after = before ≡ after
 Leads (feeds piece ∷ steps) before after = Leads steps (fed before piece) after
-Leads (gives turn ∷ steps) before after = (between : Reading) × GivesTurn before turn between × Leads steps between after
+Leads (gives turn ∷ steps) before after =
+    (between : Reading) × GivesTurn before turn between × Leads steps between after
 
 -- all bytes that the steps feed
 abbrev pub bytes_of : List Step → List ℕ

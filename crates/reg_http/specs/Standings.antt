@@ -7,5 +7,6 @@ use Rattle.reg_http.specs.declared.fields.Standing.TheVariants.{Never, Once, Oft
 -- these are the values of the field in the bytes
 abbrev pub IsStanding : List ℕ → List (List ℕ) → Standing → Type 0
 IsStanding bytes values Never = values ≡ []
-IsStanding bytes values (Once span) = (values ≡ span_bytes bytes span ∷ []) × IsWithin (length bytes) span
+IsStanding bytes values (Once span) =
+    (values ≡ span_bytes bytes span ∷ []) × IsWithin (length bytes) span
 IsStanding bytes values Often = 1 < length values

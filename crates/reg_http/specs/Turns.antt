@@ -18,10 +18,13 @@ start = record { rest = []; fault = None }
 abbrev pub fed : Reading → List ℕ → Reading
 fed reading piece = record { rest = reading.rest ++ piece; fault = reading.fault }
 
--- a message is given and taken out; or the bytes hold neither a message nor a fault; or their fault is given, then for good
+-- a message is given and taken out; or the bytes hold neither a message nor a fault; or their fault
+-- is given, then for good
 abbrev pub GivesTurn : Reading → Turn → Reading → Type 0
-GivesTurn before (turn.Call call) after = (before.fault ≡ None) × (after.fault ≡ None) × IsMessage before.rest call after.rest
-GivesTurn before turn.NeedMore after = (before.fault ≡ None) × (after ≡ before) × IsUnfinished before.rest
+GivesTurn before (turn.Call call) after =
+    (before.fault ≡ None) × (after.fault ≡ None) × IsMessage before.rest call after.rest
+GivesTurn before turn.NeedMore after =
+    (before.fault ≡ None) × (after ≡ before) × IsUnfinished before.rest
 GivesTurn before (turn.Bad fault) after =
     (after ≡ record { rest = before.rest; fault = Some fault })
     × ((before.fault ≡ Some fault) ⊎ ((before.fault ≡ None) × HasFault before.rest fault))

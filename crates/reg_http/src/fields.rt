@@ -1,12 +1,14 @@
 //! What the fields of a head say.
 
-ghost use Rattle.std.specs.Prelude.{◌≡◌, ℕ, List, [], ◌∷◌, ◌++◌, All, length, map, reverse, codes, Option, Some, None, is_some, nat_lt, if◌then◌else◌};
+ghost use Rattle.std.specs.Prelude.{◌≡◌, ℕ, List, [], ◌∷◌, ◌++◌, All, length, map, reverse, codes};
+ghost use Rattle.std.specs.Prelude.{Option, Some, None, is_some, nat_lt, if◌then◌else◌};
 ghost use Rattle.std.specs.List.{list_any};
 ghost use Rattle.std.specs.Str.{str_eq_ignore_ascii_case};
 ghost use Rattle.std.specs.Str.Parse.{digits_value};
 ghost use Rattle.httparse.specs.Grammar.{skip_ows, trim_ows};
 ghost use Rattle.httparse.specs.Spans.{IsWithin, IsHeaderWithin, header_bytes, span_bytes};
-ghost use Rattle.reg_http.specs.Fields.{values_named, only, is_close, lists_close, closes, is_length};
+ghost use Rattle.reg_http.specs.Fields.{values_named, only, is_close, lists_close, closes};
+ghost use Rattle.reg_http.specs.Fields.{is_length};
 ghost use Rattle.reg_http.specs.Standings.{IsStanding};
 
 use httparse::spans::{HeaderSpan, Span};
@@ -22,7 +24,8 @@ pub(crate) enum Standing {
 impl Standing {
     /// The same after one value more.
     fn more(self, value: Span) -> Standing
-        ensures { (bytes : List ℕ) (values : List (List ℕ)) → IsStanding bytes values self → IsWithin (length bytes) value
+        ensures { (bytes : List ℕ) (values : List (List ℕ)) → IsStanding bytes values self
+            → IsWithin (length bytes) value
             → IsStanding bytes (values ++ span_bytes bytes value ∷ []) result }
     {
         match self {
@@ -42,7 +45,8 @@ fn same_name(name: &[u8], other: &[u8]) -> bool
 /// How often a field of this name stands among the fields.
 pub(crate) fn how_often(bytes: &[u8], fields: &[HeaderSpan], name: &[u8]) -> Standing
     requires { All (IsHeaderWithin (length bytes.now)) fields.now }
-    ensures { IsStanding bytes.now (values_named name.now (map (header_bytes bytes.now) fields.now)) result }
+    ensures { IsStanding bytes.now
+        (values_named name.now (map (header_bytes bytes.now) fields.now)) result }
 {
     let mut found = Standing::Never;
     for field in fields {
@@ -56,7 +60,8 @@ pub(crate) fn how_often(bytes: &[u8], fields: &[HeaderSpan], name: &[u8]) -> Sta
 /// Whether a field of this name stands exactly once.
 pub(crate) fn stands_once(bytes: &[u8], fields: &[HeaderSpan], name: &[u8]) -> bool
     requires { All (IsHeaderWithin (length bytes.now)) fields.now }
-    ensures { result ≡ is_some (only (values_named name.now (map (header_bytes bytes.now) fields.now))) }
+    ensures { result ≡ is_some
+        (only (values_named name.now (map (header_bytes bytes.now) fields.now))) }
 {
     matches!(how_often(bytes, fields, name), Standing::Once(_))
 }
@@ -64,7 +69,8 @@ pub(crate) fn stands_once(bytes: &[u8], fields: &[HeaderSpan], name: &[u8]) -> b
 /// Whether a field of this name stands.
 pub(crate) fn stands(bytes: &[u8], fields: &[HeaderSpan], name: &[u8]) -> bool
     requires { All (IsHeaderWithin (length bytes.now)) fields.now }
-    ensures { result ≡ nat_lt 0 (length (values_named name.now (map (header_bytes bytes.now) fields.now))) }
+    ensures { result ≡ nat_lt 0
+        (length (values_named name.now (map (header_bytes bytes.now) fields.now))) }
 {
     !matches!(how_often(bytes, fields, name), Standing::Never)
 }

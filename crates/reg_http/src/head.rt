@@ -2,7 +2,8 @@
 
 ghost use Rattle.std.specs.Prelude.{◌≡◌, ℕ, ◌≤◌, List, All, length, map, take, IfOk, option_map};
 ghost use Rattle.httparse.specs.Grammar.{RequestHead};
-ghost use Rattle.httparse.specs.Spans.{IsHeaderWithin, IsWithin, span_bytes, header_bytes, IsRequestWithin, IsRequestAt};
+ghost use Rattle.httparse.specs.Spans.{IsHeaderWithin, IsWithin, span_bytes, header_bytes};
+ghost use Rattle.httparse.specs.Spans.{IsRequestWithin, IsRequestAt};
 ghost use Rattle.reg_http.specs.Heads.{stated_length, body_length, caller_in, closes_after};
 ghost use Rattle.reg_http.specs.Messages.{window};
 ghost use Rattle.reg_http.specs.Fronts.{IsJudged, IsFront};
@@ -120,8 +121,10 @@ fn taken(
     requires target_fits { IsWithin (length bytes.now) spans.now.path }
     ensures method { IfOk result (λ head. head.method ≡ span_bytes bytes.now spans.now.method) }
     ensures target { IfOk result (λ head. head.target ≡ span_bytes bytes.now spans.now.path) }
-    ensures caller { IfOk result (λ head. head.caller ≡ caller_in (map (header_bytes bytes.now) fields.now)) }
-    ensures close { IfOk result (λ head. head.close ≡ closes_after spans.now.version (map (header_bytes bytes.now) fields.now)) }
+    ensures caller { IfOk result (λ head. head.caller
+        ≡ caller_in (map (header_bytes bytes.now) fields.now)) }
+    ensures close { IfOk result (λ head. head.close
+        ≡ closes_after spans.now.version (map (header_bytes bytes.now) fields.now)) }
     ensures length { IfOk result (λ head. head.length ≡ spans.now.len) }
     ensures body { IfOk result (λ head. head.body ≡ body) }
 {
@@ -143,7 +146,8 @@ fn judge(
     headers: &[HeaderSpan],
 ) -> Result<Front, AllocError>
     requires { IsRequestWithin bytes.now headers.now spans.now }
-    ensures { IfOk result (λ front. (head : RequestHead) → IsRequestAt bytes.now headers.now spans.now head → IsJudged head front) }
+    ensures { IfOk result (λ front. (head : RequestHead)
+        → IsRequestAt bytes.now headers.now spans.now head → IsJudged head front) }
 {
     let fields = &headers[..spans.headers];
     match body_length(bytes, spans.version, spans.method.of(bytes), fields) {

@@ -1,9 +1,11 @@
 //! What a target tells beside its route.
 
-ghost use Rattle.std.specs.Prelude.{◌≡◌, [], None, IfOk, IsUtf8, Ok, Err, codes, option_map, option_and_then};
+ghost use Rattle.std.specs.Prelude.{◌≡◌, [], None, IfOk, IsUtf8, Ok, Err, codes, option_map};
+ghost use Rattle.std.specs.Prelude.{option_and_then};
 ghost use Rattle.reg_http.specs.Routes.{query_of};
 ghost use Rattle.reg_http.specs.Queries.{pairs, wrong_key, value_of, number_of};
-ghost use Rattle.reg_http.specs.Parameters.{parameter_in, parameter_name, missing, parameters_by, unless, read_by};
+ghost use Rattle.reg_http.specs.Parameters.{parameter_in, parameter_name, missing, parameters_by};
+ghost use Rattle.reg_http.specs.Parameters.{unless, read_by};
 
 use crate::pieces::{after, before};
 use crate::query::{Pair, number_of, read_pairs, value_of, wrong_key};
@@ -70,7 +72,8 @@ fn missing(route: Route, parameters: &Parameters) -> Option<&'static str>
 
 /// The number that is asked for by `max`, if it is one from 1 to 1,000.
 fn max_of(alloc: Global, found: &[Pair]) -> Result<Option<u64>, AllocError>
-    ensures { IfOk result (λ max. max ≡ option_and_then number_of (value_of (codes "max") found.now)) }
+    ensures { IfOk result (λ max. max
+        ≡ option_and_then number_of (value_of (codes "max") found.now)) }
 {
     match value_of(alloc, found, b"max")? {
         Some(text) => Ok(number_of(text.bytes())),
@@ -136,7 +139,8 @@ pub fn read_parameters(
     route: Route,
     target: &[u8],
 ) -> Result<Result<Parameters, Text>, AllocError>
-    ensures no_text { IfOk result (λ read. ¬ (IsUtf8 (parameter_in target.now)) → read ≡ Err (parameter_name route)) }
+    ensures no_text { IfOk result (λ read. ¬ (IsUtf8 (parameter_in target.now))
+        → read ≡ Err (parameter_name route)) }
     ensures text { IfOk result (λ read. IsUtf8 (parameter_in target.now)
         → read ≡ read_by route (parameter_in target.now) (pairs (query_of target.now))) }
 {

@@ -9,8 +9,10 @@ ghost use Rattle.reg_http.specs.declared.route.Route.{Route};
 /// A path that has a route is the route's own, with one segment as the parameter in its place, and
 /// that is the parameter that is read; and each such path has the route.
 pub fn paths_are_of_routes()
-    ensures own { (path : List ℕ) (route : Route) → All (λ byte. byte < 256) path → route_of path ≡ Some route
+    ensures own { (path : List ℕ) (route : Route) → All (λ byte. byte < 256) path
+        → route_of path ≡ Some route
         → IsPathOf route (second_segment path) path }
-    ensures found { (path part : List ℕ) (route : Route) → All (λ byte. byte < 256) path → IsPathOf route part path
+    ensures found { (path part : List ℕ) (route : Route) → All (λ byte. byte < 256) path
+        → IsPathOf route part path
         → route_of path ≡ Some route }
 {}

@@ -2,7 +2,8 @@
 
 ghost use Rattle.std.specs.Prelude.{◌≡◌, ◌++◌, length, IfOk, OnOk, option_map};
 ghost use Rattle.http.specs.StatusCode.{IsStatusCode};
-ghost use Rattle.reg_http.specs.Responses.{IsStatus, phrase, allow_line, close_line, first_lines, response};
+ghost use Rattle.reg_http.specs.Responses.{IsStatus, phrase, allow_line, close_line, first_lines};
+ghost use Rattle.reg_http.specs.Responses.{response};
 
 use http::StatusCode;
 use std::alloc::{AllocError, Global};
@@ -34,7 +35,8 @@ fn first_lines(alloc: Global, status: u16, size: usize) -> Result<Vec<u8>, Alloc
 
 /// Adds the line that tells the allowed method, if there is one.
 fn push_allow(text: &mut Vec<u8>, allow: Option<&[u8]>) -> Result<(), AllocError>
-    ensures { OnOk result (text.new.items ≡ text.old.items ++ allow_line (option_map (λ method. method.now) allow.entry)) }
+    ensures { OnOk result (text.new.items
+        ≡ text.old.items ++ allow_line (option_map (λ method. method.now) allow.entry)) }
 {
     if let Some(method) = allow {
         text.extend_from_slice(b"Allow: ")?;
@@ -64,7 +66,8 @@ pub fn write_response(
     body: &[u8],
 ) -> Result<Vec<u8>, AllocError>
     requires { IsStatus status }
-    ensures { IfOk result (λ text. text.items ≡ response status (option_map (λ method. method.now) allow.entry) close body.now) }
+    ensures { IfOk result (λ text. text.items
+        ≡ response status (option_map (λ method. method.now) allow.entry) close body.now) }
 {
     let mut text = first_lines(alloc, status, body.len())?;
     push_allow(&mut text, allow)?;

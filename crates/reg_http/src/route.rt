@@ -1,7 +1,8 @@
 //! The routes.
 
 ghost use Rattle.std.specs.Prelude.{◌≡◌, [], None, IfOk, OnOk, IsUtf8};
-ghost use Rattle.reg_http.specs.Routes.{added, with_groups, with_objects, with_others, table, path_of, route_of, method_of};
+ghost use Rattle.reg_http.specs.Routes.{added, with_groups, with_objects, with_others, table};
+ghost use Rattle.reg_http.specs.Routes.{path_of, route_of, method_of};
 
 use crate::pieces::before;
 use matchit::Router;

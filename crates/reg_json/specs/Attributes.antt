@@ -1,5 +1,7 @@
--- The fields of requests about attributes: kinds of owner, truth values, kinds of definition, and values.
-use Rattle.std.specs.Prelude.{ℕ, List, [], ◌∷◌, Bool, true, not, ◌&&◌, Option, Some, None, Result, Ok, codes, is_some, option_and_then, option_map, if◌then◌else◌, ok_or}
+-- The fields of requests about attributes: kinds of owner, truth values, kinds of definition, and
+-- values.
+use Rattle.std.specs.Prelude.{ℕ, List, [], ◌∷◌, Bool, true, not, ◌&&◌, Option, Some, None, Result}
+use Rattle.std.specs.Prelude.{Ok, codes, is_some, option_and_then, option_map, if◌then◌else◌, ok_or}
 use Rattle.std.specs.List.{list_any}
 use Rattle.std.specs.Str.{bytes_eq}
 use Rattle.serde_json.specs.Data.{Data}
@@ -33,22 +35,31 @@ are_owners (w ∷ ws) = stands w owner_words && (not (stands w ws) && are_owners
 
 -- the kinds of owner whose words stand among these
 abbrev pub owners_among : List (List ℕ) → Owners
-owners_among words = record { folder = stands (codes "folder") words; group = stands (codes "group") words; subject = stands (codes "subject") words }
+owners_among words = record {
+  folder = stands (codes "folder") words;
+  group = stands (codes "group") words;
+  subject = stands (codes "subject") words;
+}
 
 -- the kinds of owner that words name, one at least and none twice
 abbrev pub owners_named : List (List ℕ) → Option Owners
-owners_named words = if are_owners words && suits_some (owners_among words) then Some (owners_among words) else None
+owners_named words =
+    if are_owners words && suits_some (owners_among words) then Some (owners_among words) else None
 
 -- the kinds of owner that a definition suits
 unfoldable pub owners_at : List ℕ → Data → Result Owners Refusal
 owners_at key d = ok_or (option_and_then owners_named (texts_in key d)) (BadRequest key)
 
--- for a private clause: kinds of owner with that of one more word, unless it is no such word or its kind is there
+-- for a private clause: kinds of owner with that of one more word, unless it is no such word or its
+-- kind is there
 unfoldable pub with_owner : Owners → List ℕ → Option Owners
 with_owner owners word =
-    if bytes_eq word (codes "folder") then (if owners.folder then None else Some (record owners { folder = true })) else
-    (if bytes_eq word (codes "group") then (if owners.group then None else Some (record owners { group = true })) else
-    (if bytes_eq word (codes "subject") then (if owners.subject then None else Some (record owners { subject = true })) else None))
+    if bytes_eq word (codes "folder")
+    then (if owners.folder then None else Some (record owners { folder = true })) else
+    (if bytes_eq word (codes "group")
+    then (if owners.group then None else Some (record owners { group = true })) else
+    (if bytes_eq word (codes "subject")
+    then (if owners.subject then None else Some (record owners { subject = true })) else None))
 
 -- ---- definitions and values
 
@@ -73,7 +84,8 @@ def_kind_at key d = do
 -- a text, or a whole number; a fraction, an exponent and `-0` make none
 abbrev pub value_of : Data → Option Value
 value_of d =
-    if is_some (as_str d) then option_map (λ text. value.Text text) (as_str d) else option_map (λ n. value.Int n) (option_and_then as_i64 (as_number d))
+    if is_some (as_str d) then option_map (λ text. value.Text text) (as_str d)
+    else option_map (λ n. value.Int n) (option_and_then as_i64 (as_number d))
 
 -- the value of an assignment: a text of at most 255 bytes, or a number of 64 bits
 abbrev pub value_from : List ℕ → Data → Result Value Refusal

@@ -1,5 +1,8 @@
--- The fields of a request: first that they are texts that may stand there, and later that the texts have their forms.
-use Rattle.std.specs.Prelude.{ℕ, List, [], ◌∷◌, Bool, true, Option, Some, None, Result, Ok, Err, codes, option_and_then, option_map, map, ◌&&◌, nat_le, if◌then◌else◌, ok_or}
+-- The fields of a request: first that they are texts that may stand there, and later that the texts
+-- have their forms.
+use Rattle.std.specs.Prelude.{ℕ, List, [], ◌∷◌, Bool, true, Option, Some, None, Result, Ok, Err}
+use Rattle.std.specs.Prelude.{codes, option_and_then, option_map, map, ◌&&◌, nat_le, if◌then◌else◌}
+use Rattle.std.specs.Prelude.{ok_or}
 use Rattle.std.specs.List.{list_any}
 use Rattle.std.specs.Str.{bytes_eq}
 use Rattle.serde_json.specs.Data.{Data, Members, no_members, member}
@@ -41,12 +44,14 @@ known_keys Body fields = codes "op" ∷ keys fields
 -- the first key that isn't known
 abbrev pub other_key : List (List ℕ) → List (List ℕ) → Option (List ℕ)
 other_key known [] = None
-other_key known (k ∷ ks) = if list_any (λ word. bytes_eq word k) known then other_key known ks else Some k
+other_key known (k ∷ ks) =
+    if list_any (λ word. bytes_eq word k) known then other_key known ks else Some k
 
 -- no key but these
 unfoldable pub no_other : List (List ℕ) → Option Members → Result Bool Refusal
 no_other known None = Ok true
-no_other known (Some ms) = elim (other_key known (key_list ms)) [ None ↦ Ok true | Some k ↦ Err (BadRequest k) ]
+no_other known (Some ms) =
+    elim (other_key known (key_list ms)) [ None ↦ Ok true | Some k ↦ Err (BadRequest k) ]
 
 -- a text that has to be there
 unfoldable pub text_at : List ℕ → Data → Result (List ℕ) Refusal

@@ -1,7 +1,8 @@
 -- Flat objects as JSON data.
 use Rattle.std.specs.Prelude.{ℕ, List, [], ◌∷◌, Option, Some, None}
 use Rattle.std.specs.Borrow.{Bor}
-use Rattle.serde_json.specs.Data.{Data, Members, null, member, no_members, number, unsigned, boolean, string}
+use Rattle.serde_json.specs.Data.{Data, Members, null, member, no_members, number, unsigned}
+use Rattle.serde_json.specs.Data.{boolean, string}
 use Rattle.reg_base.specs.MomentText.{text_of}
 use Rattle.reg_json.specs.declared.flat.Scalar.{Scalar}
 use Rattle.reg_json.specs.declared.flat.Scalar.TheVariants as scalar

@@ -1,4 +1,5 @@
--- What holds of a request that was read: the op's fields have their forms. Who asks may be any text.
+-- What holds of a request that was read: the op's fields have their forms. Who asks may be any
+-- text.
 use Rattle.std.specs.Prelude.{◌≡◌, true}
 use Rattle.reg_terms.specs.Forms.{op_has_form}
 use Rattle.reg_terms.specs.declared.request.Request.{Request}

@@ -1,4 +1,5 @@
--- What an object asks, by the row of its op: first its fields stand there and no others do, then each has its form.
+-- What an object asks, by the row of its op: first its fields stand there and no others do, then
+-- each has its form.
 use Rattle.std.specs.Prelude.{ℕ, List, [], ◌∷◌, Bool, true, Result, Ok, Err, ok_or}
 use Rattle.serde_json.specs.Data.{Data}
 use Rattle.serde_json.specs.Find.{as_object}
@@ -14,7 +15,10 @@ use Rattle.reg_terms.specs.Table.{row_of, made}
 use Rattle.reg_json.specs.declared.fields.Carrier.{Carrier}
 use Rattle.reg_json.specs.Steps.{◌>>=◌}
 use Rattle.reg_json.specs.Attributes.{owners_at, flag_at, def_kind_at, value_at}
-use Rattle.reg_json.specs.Fields.{known_keys, no_other, text_at, optional_text_at, display_at, set_op_at, inherit_kind_at, scope_at, privilege_at, number_at, name_from, folder_from, extension_from, source_from, entity_from, object_from, moment_from}
+use Rattle.reg_json.specs.Fields.{known_keys, no_other, text_at, optional_text_at, display_at}
+use Rattle.reg_json.specs.Fields.{set_op_at, inherit_kind_at, scope_at, privilege_at, number_at}
+use Rattle.reg_json.specs.Fields.{name_from, folder_from, extension_from, source_from, entity_from}
+use Rattle.reg_json.specs.Fields.{object_from, moment_from}
 
 -- ---- by the kinds of fields
 

@@ -10,7 +10,8 @@ use Rattle.reg_terms.specs.Limits.{max_line}
 pub record HoldsObject (line : List ℕ) (members : json.Members) : Type 0 where
   pub short : length line ≤ max_line
   pub utf8 : is_utf8 line ≡ true
-  pub object : option_and_then (λ p. json.if_last p.0 p.1) (json.value max_depth (tokens line)) ≡ Some (json.object members)
+  pub object : option_and_then (λ p. json.if_last p.0 p.1) (json.value max_depth (tokens line))
+      ≡ Some (json.object members)
 
 -- a member and the one behind it, of another key, have changed places
 pub record AreTurned (k : List ℕ) (x : json.Json) (behind others : json.Members) : Type 0 where
@@ -24,4 +25,6 @@ pub record AreTurned (k : List ℕ) (x : json.Json) (behind others : json.Member
 -- two neighbours of different keys have changed places, and all else is the same
 abbrev pub Swapped : json.Members → json.Members → Type 0
 Swapped json.no_members others = ⊥
-Swapped (json.member k x ms) others = AreTurned k x ms others ⊎ ((rest : json.Members) × (others ≡ json.member k x rest) × Swapped ms rest)
+Swapped (json.member k x ms) others =
+    AreTurned k x ms others ⊎ ((rest : json.Members) × (others ≡ json.member k x rest)
+    × Swapped ms rest)

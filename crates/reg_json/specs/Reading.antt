@@ -1,6 +1,7 @@
--- What a line asks: a JSON object (RFC 8259) with `op`, `by` and the op's fields, and nothing else. A body has no `by`:
--- who asks is told beside it.
-use Rattle.std.specs.Prelude.{ℕ, List, [], Option, Some, None, Result, Ok, Err, length, nat_le, codes, if◌then◌else◌, ok_or}
+-- What a line asks: a JSON object (RFC 8259) with `op`, `by` and the op's fields, and nothing else.
+-- A body has no `by`: who asks is told beside it.
+use Rattle.std.specs.Prelude.{ℕ, List, [], Option, Some, None, Result, Ok, Err, length, nat_le}
+use Rattle.std.specs.Prelude.{codes, if◌then◌else◌, ok_or}
 use Rattle.std.specs.Str.{is_utf8}
 use Rattle.serde_json.specs.Data.{Data}
 use Rattle.serde_json.specs.Read.{read}
@@ -33,8 +34,8 @@ data_of line = if nat_le (length line) max_line then json_of line else Err (TooL
 abbrev pub known_kind : List ℕ → Result OpKind Refusal
 known_kind word = ok_or (kind_named word) (BadRequest (codes "op"))
 
--- what an object asks, or why it is refused: the first fault in the order of op, by, the op's fields, other keys, and
--- the fields' forms; by may be any text
+-- what an object asks, or why it is refused: the first fault in the order of op, by, the op's
+-- fields, other keys, and the fields' forms; by may be any text
 unfoldable pub request_in : Data → Result Request Refusal
 request_in d = do
   word ← text_at (codes "op") d
@@ -49,8 +50,8 @@ reading_of line = do
   d ← data_of line
   request_in d
 
--- what an object without `by` asks for this caller, or why it is refused: as that of a line, but `by` is a key that
--- isn't known
+-- what an object without `by` asks for this caller, or why it is refused: as that of a line, but
+-- `by` is a key that isn't known
 unfoldable pub body_in : List ℕ → Data → Result Request Refusal
 body_in by d = do
   word ← text_at (codes "op") d

@@ -4,7 +4,8 @@ use Rattle.reg_base.specs.MomentText.{text_of}
 use Rattle.reg_json.specs.declared.said.Said.{Said}
 use Rattle.reg_json.specs.declared.said.Carried.{Carried}
 use Rattle.reg_json.specs.declared.said.Carried.TheVariants as carried
-use Rattle.reg_json.specs.Refusals.{Carries, nothing, limit, field, object, demand, used, count, moments, places, rule, row, removal, refused}
+use Rattle.reg_json.specs.Refusals.{Carries, nothing, limit, field, object, demand, used, count}
+use Rattle.reg_json.specs.Refusals.{moments, places, rule, row, removal, refused}
 
 abbrev pub carries : Carried → Carries
 carries carried.Nothing = nothing

@@ -1,5 +1,6 @@
 -- What JSON data say, taken apart by their keys: the opposite of how a reply is written.
-use Rattle.std.specs.Prelude.{ℕ, ◌^◌, List, [], ◌∷◌, Bool, ◌==◌, nat_lt, Option, Some, None, codes, is_some, option_and_then, option_map, if◌then◌else◌}
+use Rattle.std.specs.Prelude.{ℕ, ◌^◌, List, [], ◌∷◌, Bool, ◌==◌, nat_lt, Option, Some, None, codes}
+use Rattle.std.specs.Prelude.{is_some, option_and_then, option_map, if◌then◌else◌}
 use Rattle.std.specs.Str.{bytes_eq, is_utf8}
 use Rattle.serde_json.specs.Data.{Data, Items, no_items, item}
 use Rattle.serde_json.specs.Find.{get, as_str, as_null, as_array, as_i64, as_number}
@@ -64,7 +65,8 @@ small_number_in key d = do
 
 -- and one of 64 bits that may be left out
 unfoldable pub optional_number_in : List ℕ → Data → Option (Option ℕ)
-optional_number_in key d = if has key d then option_map (λ n. Some n) (number_in key d) else Some None
+optional_number_in key d =
+    if has key d then option_map (λ n. Some n) (number_in key d) else Some None
 
 -- a moment, by its text
 unfoldable pub moment_in : List ℕ → Data → Option ℕ
@@ -78,7 +80,8 @@ moment_from d = option_and_then moment_of (as_str d)
 
 -- a moment by its text, or null for none
 unfoldable pub moment_or_null : Data → Option (Option ℕ)
-moment_or_null d = if is_some (as_null d) then Some None else option_map (λ m. Some m) (moment_from d)
+moment_or_null d =
+    if is_some (as_null d) then Some None else option_map (λ m. Some m) (moment_from d)
 
 unfoldable pub optional_moment_in : List ℕ → Data → Option (Option ℕ)
 optional_moment_in key d = do
@@ -129,7 +132,8 @@ factors_from d = do
 
 -- the factors of a composite, or null for none
 unfoldable pub factors_or_null : Data → Option (Option FactorsShown)
-factors_or_null d = if is_some (as_null d) then Some None else option_map (λ f. Some f) (factors_from d)
+factors_or_null d =
+    if is_some (as_null d) then Some None else option_map (λ f. Some f) (factors_from d)
 
 -- a privilege, by its name
 unfoldable pub privilege_from : Data → Option Privilege
@@ -173,12 +177,20 @@ entry_from d = do
   seq ← number_in (codes "seq") d
   entity ← text_in (codes "entity") d
   object ← text_in (codes "object") d
-  Some (record { at = at; entity = entity; kind = kind; number = number; object = object; seq = seq })
+  Some (record {
+    at = at;
+    entity = entity;
+    kind = kind;
+    number = number;
+    object = object;
+    seq = seq;
+  })
 
 -- a value of an assignment: a text, or a whole number of 64 bits
 unfoldable pub value_from : Data → Option AttrValue
 value_from d =
-    if is_some (as_str d) then option_map (λ words. value.Text words) (as_str d) else option_map (λ n. value.Int n) (option_and_then as_i64 (as_number d))
+    if is_some (as_str d) then option_map (λ words. value.Text words) (as_str d)
+    else option_map (λ n. value.Int n) (option_and_then as_i64 (as_number d))
 
 -- an assignment
 unfoldable pub assign_from : Data → Option AssignShown
@@ -213,7 +225,13 @@ job_from d = do
   job ← text_in (codes "job") d
   source ← text_in (codes "source") d
   target ← text_in (codes "target") d
-  Some (record { job = job; max_percent = max_percent; min_size = min_size; source = source; target = target })
+  Some (record {
+    job = job;
+    max_percent = max_percent;
+    min_size = min_size;
+    source = source;
+    target = target;
+  })
 
 -- the scope under a key, by its word
 unfoldable pub scope_in : List ℕ → Data → Option Scope
@@ -453,7 +471,9 @@ full_from d = do
 
 -- a limit of a length, or one that a count would pass
 unfoldable pub limit_from : Data → Option Refusal
-limit_from d = if has (codes "kind") d then full_from d else option_map (λ v. refusal.TooLong v) (number_in (codes "limit") d)
+limit_from d =
+    if has (codes "kind") d then full_from d
+    else option_map (λ v. refusal.TooLong v) (number_in (codes "limit") d)
 
 -- a refusal with an object alone
 unfoldable pub named_from : ℕ → Data → Option Refusal
@@ -485,7 +505,8 @@ failsafe_from d = do
 -- a refusal of a load, or one that carries nothing
 unfoldable pub load_refusal : ℕ → Data → Option Refusal
 load_refusal code d =
-    if has (codes "record") d then option_map (λ v. refusal.BadTable v) (number_in (codes "record") d) else
+    if has (codes "record") d
+    then option_map (λ v. refusal.BadTable v) (number_in (codes "record") d) else
     (if has (codes "before") d then failsafe_from d else with_nothing code)
 
 -- a refusal that carries numbers or moments, or nothing
@@ -494,7 +515,8 @@ other_refusal code d =
     if has (codes "limit") d then limit_from d else
     (if has (codes "asked") d then future_from d else
     (if has (codes "kept") d then place_from d else
-    (if has (codes "rule") d then option_map (λ v. refusal.Vetoed v) (number_in (codes "rule") d) else load_refusal code d)))
+    (if has (codes "rule") d then option_map (λ v. refusal.Vetoed v) (number_in (codes "rule") d)
+    else load_refusal code d)))
 
 -- a refusal, by its number and what it carries
 unfoldable pub refusal_from : Data → Option Refusal
@@ -502,7 +524,8 @@ refusal_from d = do
   code ← number_in (codes "code") d
   if has (codes "field") d then with_field code d else
       (if has (codes "object") d then with_object code d else
-      (if has (codes "use") d then option_map (λ v. refusal.InUse v) (text_in (codes "use") d) else other_refusal code d))
+      (if has (codes "use") d then option_map (λ v. refusal.InUse v) (text_in (codes "use") d)
+      else other_refusal code d))
 
 -- ---- replies
 
@@ -531,7 +554,16 @@ counts_from d = do
   unchanged ← number_in (codes "unchanged") d
   unknown ← number_in (codes "unknown") d
   vetoed ← number_in (codes "vetoed") d
-  Some (record { created = created; removed = removed; added = added; unchanged = unchanged; unknown = unknown; repeated = repeated; vetoed = vetoed; bad_group = bad_group })
+  Some (record {
+    created = created;
+    removed = removed;
+    added = added;
+    unchanged = unchanged;
+    unknown = unknown;
+    repeated = repeated;
+    vetoed = vetoed;
+    bad_group = bad_group;
+  })
 
 -- an accepted load's number, and what it did
 unfoldable pub loaded_from : Data → Option Reply
@@ -546,7 +578,8 @@ reply_from d =
     if has (codes "fault") d then fault_from d else
     (if has (codes "refused") d then option_map (λ v. reply.Refused v) (refusal_from d) else
     (if has (codes "added") d then loaded_from d else
-    (if has (codes "number") d then accepted_from d else option_map (λ v. reply.Answer v) (answer_from d))))
+    (if has (codes "number") d then accepted_from d
+    else option_map (λ v. reply.Answer v) (answer_from d))))
 
 -- what a text says that is JSON
 unfoldable pub reply_of : List ℕ → Option Reply

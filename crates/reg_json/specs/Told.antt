@@ -1,4 +1,5 @@
--- What the text of a reply tells: all that it says, but that a moment among the values of assignments is told by its text.
+-- What the text of a reply tells: all that it says, but that a moment among the values of
+-- assignments is told by its text.
 use Rattle.std.specs.Prelude.{map}
 use Rattle.reg_base.specs.MomentText.{text_of}
 use Rattle.reg_terms.specs.declared.kinds.AttrValue.{AttrValue}

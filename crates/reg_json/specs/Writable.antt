@@ -85,8 +85,11 @@ answer_fits (answer.GroupGet display name) = is_name name
 answer_fits (answer.Rows composite rows) = list_all row_fits rows
 answer_fits (answer.Attributes assignments) = list_all assign_fits assignments
 answer_fits (answer.History history) = list_all span_fits history
-answer_fits (answer.Log entries last place) = list_all entry_fits entries && (is_u64 last && is_u64 place)
-answer_fits (answer.Admin consumers gone jobs rules) = list_all consumer_fits consumers && (list_all gone_fits gone && (list_all job_fits jobs && list_all rule_fits rules))
+answer_fits (answer.Log entries last place) =
+    list_all entry_fits entries && (is_u64 last && is_u64 place)
+answer_fits (answer.Admin consumers gone jobs rules) =
+    list_all consumer_fits consumers
+    && (list_all gone_fits gone && (list_all job_fits jobs && list_all rule_fits rules))
 answer_fits _ = true
 
 -- and those of a refusal
@@ -103,8 +106,10 @@ refusal_fits _ = true
 -- the counts of a load have 64 bits
 abbrev pub counts_fit : LoadCounts → Bool
 counts_fit counts =
-    is_u64 counts.added && (is_u64 counts.bad_group && (is_u64 counts.created && (is_u64 counts.removed
-    && (is_u64 counts.repeated && (is_u64 counts.unchanged && (is_u64 counts.unknown && is_u64 counts.vetoed))))))
+    is_u64 counts.added && (is_u64 counts.bad_group
+    && (is_u64 counts.created && (is_u64 counts.removed
+    && (is_u64 counts.repeated
+    && (is_u64 counts.unchanged && (is_u64 counts.unknown && is_u64 counts.vetoed))))))
 
 -- and those of a reply
 abbrev pub reply_fits : Reply → Bool

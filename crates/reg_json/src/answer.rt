@@ -20,7 +20,8 @@ use reg_terms::{
 use std::alloc::AllocError;
 
 fn put_strings(out: &mut Writer, texts: &Texts) -> Result<(), AllocError>
-    ensures ok { OnOk result (out.new.tokens ≡ out.old.tokens ++ json_tokens (outline (array (strings texts.now)))) }
+    ensures ok { OnOk result (out.new.tokens
+        ≡ out.old.tokens ++ json_tokens (outline (array (strings texts.now)))) }
     ensures before { out.new.before ≡ out.old.before }
 {
     out.begin_array()?;
@@ -33,7 +34,8 @@ fn put_strings(out: &mut Writer, texts: &Texts) -> Result<(), AllocError>
 
 /// A member that is an array of texts.
 fn put_named_strings(out: &mut Writer, name: &str, texts: &Texts) -> Result<(), AllocError>
-    ensures ok { OnOk result (out.new.tokens ≡ out.old.tokens ++ key name.now ∷ json_tokens (outline (array (strings texts.now)))) }
+    ensures ok { OnOk result (out.new.tokens
+        ≡ out.old.tokens ++ key name.now ∷ json_tokens (outline (array (strings texts.now)))) }
     ensures before { out.new.before ≡ out.old.before }
 {
     out.key(name)?;
@@ -42,7 +44,9 @@ fn put_named_strings(out: &mut Writer, name: &str, texts: &Texts) -> Result<(), 
 
 #[tactic(auto, unfolding(crate::specs::Replies::answer_data))]
 fn put_group<'a>(out: &mut Writer, display: &'a Text, name: &'a Name) -> Result<(), AllocError>
-    ensures ok { OnOk result (out.new.tokens ≡ out.old.tokens ++ json_tokens (outline (answer_data (answer.GroupGet display.now name.now)))) }
+    ensures ok { OnOk result (out.new.tokens
+        ≡ out.old.tokens ++ json_tokens
+        (outline (answer_data (answer.GroupGet display.now name.now)))) }
     ensures before { out.new.before ≡ out.old.before }
 {
     let display = ("display", Scalar::Text(display.as_str()));
@@ -52,7 +56,8 @@ fn put_group<'a>(out: &mut Writer, display: &'a Text, name: &'a Name) -> Result<
 
 /// The member that each answer has.
 fn put_ok(out: &mut Writer) -> Result<(), AllocError>
-    ensures ok { OnOk result (out.new.tokens ≡ out.old.tokens ++ key (codes "ok") ∷ (boolean true ∷ [])) }
+    ensures ok { OnOk result (out.new.tokens
+        ≡ out.old.tokens ++ key (codes "ok") ∷ (boolean true ∷ [])) }
     ensures before { out.new.before ≡ out.old.before }
 {
     out.key("ok")?;
@@ -67,7 +72,10 @@ fn put_listing(
     folders: &Texts,
     groups: &Texts,
 ) -> Result<(), AllocError>
-    ensures ok { OnOk result (out.new.tokens ≡ out.old.tokens ++ json_tokens (outline (answer_data (answer.FolderList attributes.now definitions.now folders.now groups.now)))) }
+    ensures ok { OnOk result (out.new.tokens
+        ≡ out.old.tokens ++ json_tokens
+        (outline (answer_data (answer.FolderList attributes.now definitions.now folders.now
+        groups.now)))) }
     ensures before { out.new.before ≡ out.old.before }
 {
     out.begin_object()?;
@@ -82,7 +90,8 @@ fn put_listing(
 /// Writes the members of a group. The only error is out of memory.
 #[tactic(auto, unfolding(crate::specs::Replies::answer_data))]
 pub fn put_members(out: &mut Writer, members: &Texts) -> Result<(), AllocError>
-    ensures ok { OnOk result (out.new.tokens ≡ out.old.tokens ++ json_tokens (outline (answer_data (answer.Members members.now)))) }
+    ensures ok { OnOk result (out.new.tokens
+        ≡ out.old.tokens ++ json_tokens (outline (answer_data (answer.Members members.now)))) }
     ensures before { out.new.before ≡ out.old.before }
 {
     out.begin_object()?;
@@ -97,7 +106,9 @@ fn put_memberships(
     composite: &Option<FactorsShown>,
     rows: &RowsShown,
 ) -> Result<(), AllocError>
-    ensures ok { OnOk result (out.new.tokens ≡ out.old.tokens ++ json_tokens (outline (answer_data (answer.Rows composite.now rows.now)))) }
+    ensures ok { OnOk result (out.new.tokens
+        ≡ out.old.tokens ++ json_tokens
+        (outline (answer_data (answer.Rows composite.now rows.now)))) }
     ensures before { out.new.before ≡ out.old.before }
 {
     out.begin_object()?;
@@ -111,7 +122,8 @@ fn put_memberships(
 
 #[tactic(auto, unfolding(crate::specs::Replies::answer_data))]
 fn put_groups(out: &mut Writer, groups: &Texts) -> Result<(), AllocError>
-    ensures ok { OnOk result (out.new.tokens ≡ out.old.tokens ++ json_tokens (outline (answer_data (answer.Groups groups.now)))) }
+    ensures ok { OnOk result (out.new.tokens
+        ≡ out.old.tokens ++ json_tokens (outline (answer_data (answer.Groups groups.now)))) }
     ensures before { out.new.before ≡ out.old.before }
 {
     out.begin_object()?;
@@ -122,7 +134,8 @@ fn put_groups(out: &mut Writer, groups: &Texts) -> Result<(), AllocError>
 
 #[tactic(auto, unfolding(crate::specs::Replies::answer_data))]
 fn put_granted(out: &mut Writer, grants: &GrantsShown) -> Result<(), AllocError>
-    ensures ok { OnOk result (out.new.tokens ≡ out.old.tokens ++ json_tokens (outline (answer_data (answer.Grants grants.now)))) }
+    ensures ok { OnOk result (out.new.tokens
+        ≡ out.old.tokens ++ json_tokens (outline (answer_data (answer.Grants grants.now)))) }
     ensures before { out.new.before ≡ out.old.before }
 {
     out.begin_object()?;
@@ -134,7 +147,8 @@ fn put_granted(out: &mut Writer, grants: &GrantsShown) -> Result<(), AllocError>
 
 #[tactic(auto, unfolding(crate::specs::Replies::answer_data))]
 fn put_may(out: &mut Writer, privileges: &Privileges) -> Result<(), AllocError>
-    ensures ok { OnOk result (out.new.tokens ≡ out.old.tokens ++ json_tokens (outline (answer_data (answer.May privileges.now)))) }
+    ensures ok { OnOk result (out.new.tokens
+        ≡ out.old.tokens ++ json_tokens (outline (answer_data (answer.May privileges.now)))) }
     ensures before { out.new.before ≡ out.old.before }
 {
     out.begin_object()?;
@@ -146,7 +160,9 @@ fn put_may(out: &mut Writer, privileges: &Privileges) -> Result<(), AllocError>
 
 #[tactic(auto, unfolding(crate::specs::Replies::answer_data))]
 fn put_assigned(out: &mut Writer, assignments: &AssignsShown) -> Result<(), AllocError>
-    ensures ok { OnOk result (out.new.tokens ≡ out.old.tokens ++ json_tokens (outline (answer_data (answer.Attributes assignments.now)))) }
+    ensures ok { OnOk result (out.new.tokens
+        ≡ out.old.tokens ++ json_tokens
+        (outline (answer_data (answer.Attributes assignments.now)))) }
     ensures before { out.new.before ≡ out.old.before }
 {
     out.begin_object()?;
@@ -158,7 +174,8 @@ fn put_assigned(out: &mut Writer, assignments: &AssignsShown) -> Result<(), Allo
 
 #[tactic(auto, unfolding(crate::specs::Replies::answer_data))]
 fn put_history(out: &mut Writer, history: &SpansShown) -> Result<(), AllocError>
-    ensures ok { OnOk result (out.new.tokens ≡ out.old.tokens ++ json_tokens (outline (answer_data (answer.History history.now)))) }
+    ensures ok { OnOk result (out.new.tokens
+        ≡ out.old.tokens ++ json_tokens (outline (answer_data (answer.History history.now)))) }
     ensures before { out.new.before ≡ out.old.before }
 {
     out.begin_object()?;
@@ -170,7 +187,8 @@ fn put_history(out: &mut Writer, history: &SpansShown) -> Result<(), AllocError>
 
 /// A member that is a number.
 fn put_named_number(out: &mut Writer, name: &str, value: u64) -> Result<(), AllocError>
-    ensures ok { OnOk result (out.new.tokens ≡ out.old.tokens ++ key name.now ∷ (number (decimal value) ∷ [])) }
+    ensures ok { OnOk result (out.new.tokens
+        ≡ out.old.tokens ++ key name.now ∷ (number (decimal value) ∷ [])) }
     ensures before { out.new.before ≡ out.old.before }
 {
     out.key(name)?;
@@ -184,7 +202,9 @@ fn put_log(
     last: u64,
     place: u64,
 ) -> Result<(), AllocError>
-    ensures ok { OnOk result (out.new.tokens ≡ out.old.tokens ++ json_tokens (outline (answer_data (answer.Log entries.now last place)))) }
+    ensures ok { OnOk result (out.new.tokens
+        ≡ out.old.tokens ++ json_tokens
+        (outline (answer_data (answer.Log entries.now last place)))) }
     ensures before { out.new.before ≡ out.old.before }
 {
     out.begin_object()?;
@@ -204,7 +224,9 @@ fn put_admin(
     jobs: &JobsShown,
     rules: &RulesShown,
 ) -> Result<(), AllocError>
-    ensures ok { OnOk result (out.new.tokens ≡ out.old.tokens ++ json_tokens (outline (answer_data (answer.Admin consumers.now gone.now jobs.now rules.now)))) }
+    ensures ok { OnOk result (out.new.tokens
+        ≡ out.old.tokens ++ json_tokens
+        (outline (answer_data (answer.Admin consumers.now gone.now jobs.now rules.now)))) }
     ensures before { out.new.before ≡ out.old.before }
 {
     out.begin_object()?;
@@ -218,7 +240,8 @@ fn put_admin(
 
 /// Writes what a query is answered. The only error is out of memory.
 pub fn put_answer(out: &mut Writer, answer: &Answer) -> Result<(), AllocError>
-    ensures ok { OnOk result (out.new.tokens ≡ out.old.tokens ++ json_tokens (outline (answer_data answer.now))) }
+    ensures ok { OnOk result (out.new.tokens
+        ≡ out.old.tokens ++ json_tokens (outline (answer_data answer.now))) }
     ensures before { out.new.before ≡ out.old.before }
 {
     match answer {

@@ -1,5 +1,6 @@
 // Arrays of texts that need no escape, written at once.
-ghost use Rattle.std.specs.Prelude.{◌≡◌, ◌+◌, ◌*◌, ◌≤◌, ◌++◌, ◌∷◌, [], false, true, IfOk, length, take};
+ghost use Rattle.std.specs.Prelude.{◌≡◌, ◌+◌, ◌*◌, ◌≤◌, ◌++◌, ◌∷◌, [], false, true, IfOk, length};
+ghost use Rattle.std.specs.Prelude.{take};
 ghost use Rattle.std.specs.List.{concat, list_all};
 ghost use Rattle.reg_json.specs.Arrays.{is_plain, Placed};
 ghost use Rattle.serde_json.specs.Data.{array};
@@ -38,8 +39,8 @@ fn place_bytes(room: &mut [u8], at: usize, bytes: &[u8]) -> usize
     end
 }
 
-/// Writes the first `len` bytes at a place. Up to 16 bytes are copied at once, of which those behind
-/// the first `len` don't count.
+/// Writes the first `len` bytes at a place. Up to 16 bytes are copied at once, of which those
+/// behind the first `len` don't count.
 fn place_text(room: &mut [u8], at: usize, bytes: &[u8], len: usize) -> usize
     requires front { len ≤ length bytes.now }
     requires room { at + len + 16 ≤ length room.old }
@@ -74,7 +75,8 @@ fn place_comma(room: &mut [u8], at: usize, later: bool) -> usize
 fn place_item(room: &mut [u8], at: usize, later: bool, bytes: &[u8], len: usize) -> usize
     requires front { len ≤ length bytes.now }
     requires room { at + len + 19 ≤ length room.old }
-    ensures { Placed room.old room.new at (comma_if later ++ 34 ∷ (take len bytes.now ++ 34 ∷ [])) result }
+    ensures { Placed room.old room.new at (comma_if later ++ 34
+        ∷ (take len bytes.now ++ 34 ∷ [])) result }
 {
     let at = place_comma(room, at, later);
     let at = place_byte(room, at, b'"');
@@ -85,7 +87,8 @@ fn place_item(room: &mut [u8], at: usize, later: bool, bytes: &[u8], len: usize)
 /// Writes the texts as an array, whose closing bracket is the last that is written.
 fn place_items(room: &mut [u8], start: usize, texts: &Texts) -> usize
     requires plain { list_all is_plain (concat texts.now) ≡ true }
-    requires room { start + length (concat texts.now) + 3 * length texts.now + 17 ≤ length room.old }
+    requires room { start + length (concat texts.now) + 3 * length texts.now + 17
+        ≤ length room.old }
     ensures { Placed room.old room.new start (items_text false (strings texts.now)) result }
 {
     let mut pieces = texts.pieces();
@@ -116,7 +119,8 @@ fn room_for(start: usize, bytes: usize, texts: usize) -> Result<usize, AllocErro
 /// memory.
 pub fn append_array(buffer: Vec<u8>, texts: &Texts) -> Result<Vec<u8>, AllocError>
     requires { list_all is_plain (concat texts.now) ≡ true }
-    ensures { IfOk result (λ bytes. bytes.items ≡ buffer.items ++ compact_text (array (strings texts.now))) }
+    ensures { IfOk result (λ bytes. bytes.items
+        ≡ buffer.items ++ compact_text (array (strings texts.now))) }
 {
     let start = buffer.len();
     let size = room_for(start, texts.joined().len(), texts.len())?;

@@ -6,7 +6,8 @@ ghost use Rattle.reg_terms.specs.Forms.{is_value, suits_some};
 ghost use Rattle.reg_terms.specs.declared.kinds.Value.TheVariants as value;
 ghost use Rattle.reg_json.specs.Steps.{Gives};
 ghost use Rattle.reg_json.specs.Taking.{all_of};
-ghost use Rattle.reg_json.specs.Attributes.{with_owner, owners_named, owners_at, flag_at, def_kind, def_kind_at, value_from, value_at};
+ghost use Rattle.reg_json.specs.Attributes.{with_owner, owners_named, owners_at, flag_at, def_kind};
+ghost use Rattle.reg_json.specs.Attributes.{def_kind_at, value_from, value_at};
 
 use crate::fault::{ReadFault, bad};
 use crate::fields::{ensured, is_display, text_at};
@@ -135,8 +136,8 @@ fn value_from(alloc: Global, found: &Value, key: &str) -> Result<GivenValue, Rea
     }
 }
 
-/// The value of an assignment: a text of at most 255 bytes, or a whole number of 64 bits. A fraction,
-/// an exponent and `-0` are refused.
+/// The value of an assignment: a text of at most 255 bytes, or a whole number of 64 bits. A
+/// fraction, an exponent and `-0` are refused.
 #[tactic(auto, unfolding(crate::specs::Attributes::value_at))]
 pub fn value_at(alloc: Global, value: &Value, key: &str) -> Result<GivenValue, ReadFault>
     ensures { Gives (λ v. v) result (value_at key.now (view value.now)) }

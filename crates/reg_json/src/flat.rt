@@ -35,7 +35,8 @@ pub fn put_moment(out: &mut Writer, moment: Moment) -> Result<(), AllocError>
 }
 
 fn put_scalar(out: &mut Writer, value: &Scalar<'_>) -> Result<(), AllocError>
-    ensures ok { OnOk result (out.new.tokens ≡ out.old.tokens ++ json_tokens (outline (scalar_data value.now))) }
+    ensures ok { OnOk result (out.new.tokens
+        ≡ out.old.tokens ++ json_tokens (outline (scalar_data value.now))) }
     ensures before { out.new.before ≡ out.old.before }
 {
     match value {
@@ -49,7 +50,8 @@ fn put_scalar(out: &mut Writer, value: &Scalar<'_>) -> Result<(), AllocError>
 
 /// Writes an object of these members, in their order. The only error is out of memory.
 pub fn put_object(out: &mut Writer, members: &[(&str, Scalar<'_>)]) -> Result<(), AllocError>
-    ensures ok { OnOk result (out.new.tokens ≡ out.old.tokens ++ json_tokens (outline (object (flat members.now)))) }
+    ensures ok { OnOk result (out.new.tokens
+        ≡ out.old.tokens ++ json_tokens (outline (object (flat members.now)))) }
     ensures before { out.new.before ≡ out.old.before }
 {
     out.begin_object()?;

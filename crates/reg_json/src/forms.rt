@@ -1,7 +1,8 @@
 // The forms of fields.
 ghost use Rattle.std.specs.Prelude.{◌≡◌, option_map};
 ghost use Rattle.reg_json.specs.Steps.{Gives};
-ghost use Rattle.reg_json.specs.Fields.{name_from, folder_from, extension_from, source_from, object_from, entity_from, moment_from};
+ghost use Rattle.reg_json.specs.Fields.{name_from, folder_from, extension_from, source_from};
+ghost use Rattle.reg_json.specs.Fields.{object_from, entity_from, moment_from};
 
 use crate::fault::{ReadFault, bad_moment, bad_name};
 use reg_base::{Entity, Moment, Name, Text, is_extension, is_source};

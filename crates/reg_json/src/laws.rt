@@ -12,7 +12,8 @@ use reg_terms::law_ops;
 
 /// The fields of a request that is read have their forms.
 pub fn law_read_is_formed()
-    ensures { (line : List ℕ) (request : Request) → reading_of line ≡ Ok request → IsFormed request }
+    ensures { (line : List ℕ) (request : Request) → reading_of line ≡ Ok request
+        → IsFormed request }
 {
     law_ops();
 }
@@ -22,8 +23,9 @@ pub fn law_long_is_refused()
     ensures { (line : List ℕ) → max_line < length line → reading_of line ≡ Err (TooLong max_line) }
 {}
 
-/// Lines are read alike whose objects have the same members in another order. The law is said of two
-/// neighbours that have changed places; any other order comes of such steps.
+/// Lines are read alike whose objects have the same members in another order. The law is said of
+/// two neighbours that have changed places; any other order comes of such steps.
 pub fn law_any_order_of_keys()
-    ensures { (line other : List ℕ) (ms ns : Members) → HoldsObject line ms → HoldsObject other ns → Swapped ms ns → reading_of line ≡ reading_of other }
+    ensures { (line other : List ℕ) (ms ns : Members) → HoldsObject line ms → HoldsObject other ns
+        → Swapped ms ns → reading_of line ≡ reading_of other }
 {}

@@ -176,7 +176,8 @@ fn all_stand(
     value: &Value,
     fields: &[(&'static str, FieldKind)],
 ) -> Result<bool, ReadFault>
-    ensures { Gives (λ b. b) result (all_stand (map (λ f. (f.0.now, f.1)) fields.now) (view value.now)) }
+    ensures { Gives (λ b. b) result
+        (all_stand (map (λ f. (f.0.now, f.1)) fields.now) (view value.now)) }
 {
     match fields {
         [] => Ok(true),
@@ -192,7 +193,8 @@ fn all_forms(
     value: &Value,
     fields: &[(&'static str, FieldKind)],
 ) -> Result<VecDeque<Field>, ReadFault>
-    ensures { Gives (λ fs. fs.items) result (all_forms (map (λ f. (f.0.now, f.1)) fields.now) (view value.now)) }
+    ensures { Gives (λ fs. fs.items) result
+        (all_forms (map (λ f. (f.0.now, f.1)) fields.now) (view value.now)) }
 {
     match fields {
         [] => Ok(VecDeque::new(alloc)),
@@ -220,7 +222,8 @@ fn fields_in(
     value: &Value,
     fields: &[(&'static str, FieldKind)],
 ) -> Result<VecDeque<Field>, ReadFault>
-    ensures { Gives (λ fs. fs.items) result (fields_in carrier (map (λ f. (f.0.now, f.1)) fields.now) (view value.now)) }
+    ensures { Gives (λ fs. fs.items) result
+        (fields_in carrier (map (λ f. (f.0.now, f.1)) fields.now) (view value.now)) }
 {
     all_stand(alloc, value, fields)?;
     no_other(alloc, carrier, value, fields)?;

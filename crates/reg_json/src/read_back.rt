@@ -5,7 +5,8 @@ ghost use Rattle.serde_json.specs.View.{view};
 ghost use Rattle.reg_terms.specs.declared.reply.Reply.{Reply};
 ghost use Rattle.reg_json.specs.Replies.{text};
 ghost use Rattle.reg_json.specs.Takes.{Takes};
-ghost use Rattle.reg_json.specs.Taking.{accepted_from, fault_from, loaded_from, reply_from, reply_of};
+ghost use Rattle.reg_json.specs.Taking.{accepted_from, fault_from, loaded_from, reply_from};
+ghost use Rattle.reg_json.specs.Taking.{reply_of};
 ghost use Rattle.reg_json.specs.Told.{told};
 ghost use Rattle.reg_json.specs.Writable.{IsWritable};
 
@@ -110,13 +111,15 @@ fn with_text(alloc: Global, reply: Reply, bytes: &[u8]) -> Result<Option<Reply>,
 }
 
 /// The reply whose text these bytes are, as `write_reply` writes it. A moment among the values of
-/// assignments prints as its text does, and is read as that text. None exactly where no reply has that
-/// text; the only error is out of memory.
+/// assignments prints as its text does, and is read as that text. None exactly where no reply has
+/// that text; the only error is out of memory.
 pub fn read_reply(alloc: Global, bytes: &[u8]) -> Result<Option<Reply>, AllocError>
     ensures found { IfOk result (λ found. IfSome found (λ reply. text reply ≡ bytes.now)) }
 
-    // What the text of a reply tells is found, so two of one text differ at most in moments among values.
-    ensures exact { IfOk result (λ found. (reply : Reply) → IsWritable reply → text reply ≡ bytes.now → found ≡ Some (told reply)) }
+    // What the text of a reply tells is found, so two of one text differ at most in moments among
+    // values.
+    ensures exact { IfOk result (λ found. (reply : Reply) → IsWritable reply
+        → text reply ≡ bytes.now → found ≡ Some (told reply)) }
 {
     match reply_of(alloc, bytes) {
         Ok(reply) => with_text(alloc, reply, bytes),

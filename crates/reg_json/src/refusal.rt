@@ -62,7 +62,8 @@ fn said(refusal: &Refusal) -> Said<'_>
 
 /// Writes a refusal: its number, its word and what it carries. The only error is out of memory.
 pub fn put_refusal(out: &mut Writer, refusal: &Refusal) -> Result<(), AllocError>
-    ensures ok { OnOk result (out.new.tokens ≡ out.old.tokens ++ json_tokens (outline (refusal_data refusal.now))) }
+    ensures ok { OnOk result (out.new.tokens
+        ≡ out.old.tokens ++ json_tokens (outline (refusal_data refusal.now))) }
     ensures before { out.new.before ≡ out.old.before }
 {
     put_said(out, &said(refusal))

@@ -16,7 +16,8 @@ use reg_terms::{Answer, LoadCounts, Reply, Texts};
 use std::alloc::{AllocError, Global};
 
 fn put_accepted(out: &mut Writer, number: u64, id: Option<u64>) -> Result<(), AllocError>
-    ensures ok { OnOk result (out.new.tokens ≡ out.old.tokens ++ json_tokens (outline (accepted_data number id))) }
+    ensures ok { OnOk result (out.new.tokens
+        ≡ out.old.tokens ++ json_tokens (outline (accepted_data number id))) }
     ensures before { out.new.before ≡ out.old.before }
 {
     let number = ("number", Scalar::Number(number));
@@ -29,7 +30,8 @@ fn put_accepted(out: &mut Writer, number: u64, id: Option<u64>) -> Result<(), Al
 
 #[tactic(auto, unfolding(crate::specs::Replies::loaded_data))]
 fn put_loaded(out: &mut Writer, number: u64, counts: &LoadCounts) -> Result<(), AllocError>
-    ensures ok { OnOk result (out.new.tokens ≡ out.old.tokens ++ json_tokens (outline (loaded_data number counts.now))) }
+    ensures ok { OnOk result (out.new.tokens
+        ≡ out.old.tokens ++ json_tokens (outline (loaded_data number counts.now))) }
     ensures before { out.new.before ≡ out.old.before }
 {
     put_object(
@@ -51,7 +53,8 @@ fn put_loaded(out: &mut Writer, number: u64, counts: &LoadCounts) -> Result<(), 
 
 #[tactic(auto, unfolding(crate::specs::Replies::reply_data))]
 fn put_reply(out: &mut Writer, reply: &Reply) -> Result<(), AllocError>
-    ensures ok { OnOk result (out.new.tokens ≡ out.old.tokens ++ json_tokens (outline (reply_data reply.now))) }
+    ensures ok { OnOk result (out.new.tokens
+        ≡ out.old.tokens ++ json_tokens (outline (reply_data reply.now))) }
     ensures before { out.new.before ≡ out.old.before }
 {
     match reply {
@@ -66,7 +69,8 @@ fn put_reply(out: &mut Writer, reply: &Reply) -> Result<(), AllocError>
 
 #[tactic(auto, using(crate::proofs::Printing::printed))]
 fn append_written(buffer: Vec<u8>, reply: &Reply) -> Result<Vec<u8>, AllocError>
-    ensures { IfOk result (λ bytes. bytes.items ≡ buffer.items ++ compact_text (reply_data reply.now)) }
+    ensures { IfOk result (λ bytes. bytes.items
+        ≡ buffer.items ++ compact_text (reply_data reply.now)) }
 {
     let mut out = Writer::new(buffer);
     put_reply(&mut out, reply)?;
@@ -75,7 +79,8 @@ fn append_written(buffer: Vec<u8>, reply: &Reply) -> Result<Vec<u8>, AllocError>
 
 #[tactic(auto, using(crate::proofs::Printing::printed))]
 fn append_escaped(buffer: Vec<u8>, members: &Texts) -> Result<Vec<u8>, AllocError>
-    ensures { IfOk result (λ bytes. bytes.items ≡ buffer.items ++ compact_text (answer_data (answer.Members members.now))) }
+    ensures { IfOk result (λ bytes. bytes.items
+        ≡ buffer.items ++ compact_text (answer_data (answer.Members members.now))) }
 {
     let mut out = Writer::new(buffer);
     put_members(&mut out, members)?;
@@ -84,7 +89,8 @@ fn append_escaped(buffer: Vec<u8>, members: &Texts) -> Result<Vec<u8>, AllocErro
 
 fn append_plain(buffer: Vec<u8>, members: &Texts) -> Result<Vec<u8>, AllocError>
     requires { list_all is_plain (concat members.now) ≡ true }
-    ensures { IfOk result (λ bytes. bytes.items ≡ buffer.items ++ compact_text (answer_data (answer.Members members.now))) }
+    ensures { IfOk result (λ bytes. bytes.items
+        ≡ buffer.items ++ compact_text (answer_data (answer.Members members.now))) }
 {
     let mut bytes = buffer;
     bytes.extend_from_slice(b"{\"members\":")?;
@@ -93,9 +99,11 @@ fn append_plain(buffer: Vec<u8>, members: &Texts) -> Result<Vec<u8>, AllocError>
     Ok(bytes)
 }
 
-/// The members of a group may be many: where no byte of them needs an escape, they are written at once.
+/// The members of a group may be many: where no byte of them needs an escape, they are written at
+/// once.
 fn append_members(buffer: Vec<u8>, members: &Texts) -> Result<Vec<u8>, AllocError>
-    ensures { IfOk result (λ bytes. bytes.items ≡ buffer.items ++ compact_text (answer_data (answer.Members members.now))) }
+    ensures { IfOk result (λ bytes. bytes.items
+        ≡ buffer.items ++ compact_text (answer_data (answer.Members members.now))) }
 {
     if is_plain(members.joined().as_bytes()) {
         append_plain(buffer, members)

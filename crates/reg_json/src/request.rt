@@ -3,7 +3,8 @@ ghost use Rattle.std.specs.Prelude.{◌≡◌, IfOk};
 ghost use Rattle.serde_json.specs.View.{view};
 ghost use Rattle.reg_json.specs.Steps.{Gives};
 ghost use Rattle.reg_json.specs.Forms.{IsFormed};
-ghost use Rattle.reg_json.specs.Reading.{data_of, known_kind, request_in, reading_of, body_in, body_reading_of};
+ghost use Rattle.reg_json.specs.Reading.{data_of, known_kind, request_in, reading_of, body_in};
+ghost use Rattle.reg_json.specs.Reading.{body_reading_of};
 
 use crate::fault::{ReadFault, bad};
 use crate::fields::{Carrier, text_at};
@@ -71,8 +72,9 @@ fn reading_of(alloc: Global, line: &[u8]) -> Result<Request, ReadFault>
     }
 }
 
-/// What a line asks, or why it is refused (`docs/REQUESTS.md`, "Reading"): TooLong, BadRequest, BadName
-/// or BadMoment. The fields of a request that is read have their forms. The only error is out of memory.
+/// What a line asks, or why it is refused (`docs/REQUESTS.md`, "Reading"): TooLong, BadRequest,
+/// BadName or BadMoment. The fields of a request that is read have their forms. The only error is
+/// out of memory.
 pub fn read_request(alloc: Global, line: &[u8]) -> Result<Result<Request, Refusal>, AllocError>
     ensures value { IfOk result (λ r. r ≡ reading_of line.now) }
     ensures form { IfOk result (λ r. IfOk r IsFormed) }
@@ -106,8 +108,8 @@ fn body_reading_of(alloc: Global, by: &[u8], body: &[u8]) -> Result<Request, Rea
     }
 }
 
-/// What a body asks for a caller of any bytes, or why it is refused. It is read as a line is, but the
-/// key `by` is one that no op knows. The only error is out of memory.
+/// What a body asks for a caller of any bytes, or why it is refused. It is read as a line is, but
+/// the key `by` is one that no op knows. The only error is out of memory.
 pub fn read_body(
     alloc: Global,
     by: &[u8],

@@ -58,7 +58,8 @@ impl<'a> Said<'a> {
 
 #[tactic(auto, unfolding(crate::specs::Refusals::refused))]
 fn put_nothing(out: &mut Writer, code: u64, word: &str) -> Result<(), AllocError>
-    ensures ok { OnOk result (out.new.tokens ≡ out.old.tokens ++ json_tokens (outline (refused code word.now say.nothing))) }
+    ensures ok { OnOk result (out.new.tokens
+        ≡ out.old.tokens ++ json_tokens (outline (refused code word.now say.nothing))) }
     ensures before { out.new.before ≡ out.old.before }
 {
     let code = ("code", Scalar::Number(code));
@@ -68,7 +69,8 @@ fn put_nothing(out: &mut Writer, code: u64, word: &str) -> Result<(), AllocError
 
 #[tactic(auto, unfolding(crate::specs::Refusals::refused))]
 fn put_limit(out: &mut Writer, code: u64, word: &str, limit: u64) -> Result<(), AllocError>
-    ensures ok { OnOk result (out.new.tokens ≡ out.old.tokens ++ json_tokens (outline (refused code word.now (say.limit limit)))) }
+    ensures ok { OnOk result (out.new.tokens
+        ≡ out.old.tokens ++ json_tokens (outline (refused code word.now (say.limit limit)))) }
     ensures before { out.new.before ≡ out.old.before }
 {
     let code = ("code", Scalar::Number(code));
@@ -84,7 +86,8 @@ fn put_field<'a>(
     word: &'a str,
     field: &'a str,
 ) -> Result<(), AllocError>
-    ensures ok { OnOk result (out.new.tokens ≡ out.old.tokens ++ json_tokens (outline (refused code word.now (say.field field.now)))) }
+    ensures ok { OnOk result (out.new.tokens
+        ≡ out.old.tokens ++ json_tokens (outline (refused code word.now (say.field field.now)))) }
     ensures before { out.new.before ≡ out.old.before }
 {
     let code = ("code", Scalar::Number(code));
@@ -100,7 +103,8 @@ fn put_object_named<'a>(
     word: &'a str,
     name: &'a str,
 ) -> Result<(), AllocError>
-    ensures ok { OnOk result (out.new.tokens ≡ out.old.tokens ++ json_tokens (outline (refused code word.now (say.object name.now)))) }
+    ensures ok { OnOk result (out.new.tokens
+        ≡ out.old.tokens ++ json_tokens (outline (refused code word.now (say.object name.now)))) }
     ensures before { out.new.before ≡ out.old.before }
 {
     let code = ("code", Scalar::Number(code));
@@ -117,7 +121,9 @@ fn put_demand<'a>(
     name: &'a str,
     privilege: &'a str,
 ) -> Result<(), AllocError>
-    ensures ok { OnOk result (out.new.tokens ≡ out.old.tokens ++ json_tokens (outline (refused code word.now (say.demand name.now privilege.now)))) }
+    ensures ok { OnOk result (out.new.tokens
+        ≡ out.old.tokens ++ json_tokens
+        (outline (refused code word.now (say.demand name.now privilege.now)))) }
     ensures before { out.new.before ≡ out.old.before }
 {
     let code = ("code", Scalar::Number(code));
@@ -129,7 +135,8 @@ fn put_demand<'a>(
 
 #[tactic(auto, unfolding(crate::specs::Refusals::refused))]
 fn put_use<'a>(out: &mut Writer, code: u64, word: &'a str, used: &'a str) -> Result<(), AllocError>
-    ensures ok { OnOk result (out.new.tokens ≡ out.old.tokens ++ json_tokens (outline (refused code word.now (say.used used.now)))) }
+    ensures ok { OnOk result (out.new.tokens
+        ≡ out.old.tokens ++ json_tokens (outline (refused code word.now (say.used used.now)))) }
     ensures before { out.new.before ≡ out.old.before }
 {
     let code = ("code", Scalar::Number(code));
@@ -146,7 +153,9 @@ fn put_count<'a>(
     kind: &'a str,
     limit: u64,
 ) -> Result<(), AllocError>
-    ensures ok { OnOk result (out.new.tokens ≡ out.old.tokens ++ json_tokens (outline (refused code word.now (say.count kind.now limit)))) }
+    ensures ok { OnOk result (out.new.tokens
+        ≡ out.old.tokens ++ json_tokens
+        (outline (refused code word.now (say.count kind.now limit)))) }
     ensures before { out.new.before ≡ out.old.before }
 {
     let code = ("code", Scalar::Number(code));
@@ -164,7 +173,9 @@ fn put_moments(
     asked: Moment,
     clock: Moment,
 ) -> Result<(), AllocError>
-    ensures ok { OnOk result (out.new.tokens ≡ out.old.tokens ++ json_tokens (outline (refused code word.now (say.moments (text_of asked) (text_of clock))))) }
+    ensures ok { OnOk result (out.new.tokens
+        ≡ out.old.tokens ++ json_tokens
+        (outline (refused code word.now (say.moments (text_of asked) (text_of clock))))) }
     ensures before { out.new.before ≡ out.old.before }
 {
     let asked = ("asked", Scalar::Moment(Some(asked)));
@@ -182,7 +193,8 @@ fn put_places(
     kept: u64,
     last: u64,
 ) -> Result<(), AllocError>
-    ensures ok { OnOk result (out.new.tokens ≡ out.old.tokens ++ json_tokens (outline (refused code word.now (say.places kept last)))) }
+    ensures ok { OnOk result (out.new.tokens
+        ≡ out.old.tokens ++ json_tokens (outline (refused code word.now (say.places kept last)))) }
     ensures before { out.new.before ≡ out.old.before }
 {
     let code = ("code", Scalar::Number(code));
@@ -194,7 +206,8 @@ fn put_places(
 
 #[tactic(auto, unfolding(crate::specs::Refusals::refused))]
 fn put_rule(out: &mut Writer, code: u64, word: &str, rule: u64) -> Result<(), AllocError>
-    ensures ok { OnOk result (out.new.tokens ≡ out.old.tokens ++ json_tokens (outline (refused code word.now (say.rule rule)))) }
+    ensures ok { OnOk result (out.new.tokens
+        ≡ out.old.tokens ++ json_tokens (outline (refused code word.now (say.rule rule)))) }
     ensures before { out.new.before ≡ out.old.before }
 {
     let code = ("code", Scalar::Number(code));
@@ -205,7 +218,8 @@ fn put_rule(out: &mut Writer, code: u64, word: &str, rule: u64) -> Result<(), Al
 
 #[tactic(auto, unfolding(crate::specs::Refusals::refused))]
 fn put_row(out: &mut Writer, code: u64, word: &str, row: u64) -> Result<(), AllocError>
-    ensures ok { OnOk result (out.new.tokens ≡ out.old.tokens ++ json_tokens (outline (refused code word.now (say.row row)))) }
+    ensures ok { OnOk result (out.new.tokens
+        ≡ out.old.tokens ++ json_tokens (outline (refused code word.now (say.row row)))) }
     ensures before { out.new.before ≡ out.old.before }
 {
     let code = ("code", Scalar::Number(code));
@@ -222,7 +236,9 @@ fn put_removal(
     before: u64,
     removes: u64,
 ) -> Result<(), AllocError>
-    ensures ok { OnOk result (out.new.tokens ≡ out.old.tokens ++ json_tokens (outline (refused code word.now (say.removal before removes)))) }
+    ensures ok { OnOk result (out.new.tokens
+        ≡ out.old.tokens ++ json_tokens
+        (outline (refused code word.now (say.removal before removes)))) }
     ensures before { out.new.before ≡ out.old.before }
 {
     let before = ("before", Scalar::Number(before));
@@ -234,7 +250,8 @@ fn put_removal(
 
 /// Writes what a refusal says. The only error is out of memory.
 pub fn put_said(out: &mut Writer, said: &Said<'_>) -> Result<(), AllocError>
-    ensures ok { OnOk result (out.new.tokens ≡ out.old.tokens ++ json_tokens (outline (said_data said.now))) }
+    ensures ok { OnOk result (out.new.tokens
+        ≡ out.old.tokens ++ json_tokens (outline (said_data said.now))) }
     ensures before { out.new.before ≡ out.old.before }
 {
     let (code, word) = (said.code, said.word);

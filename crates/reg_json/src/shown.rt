@@ -3,7 +3,9 @@ ghost use Rattle.std.specs.Prelude.{◌≡◌, ◌++◌, OnOk};
 ghost use Rattle.json.specs.Tree.{json_tokens};
 ghost use Rattle.serde_json.specs.Data.{array};
 ghost use Rattle.serde_json.specs.Written.{outline};
-ghost use Rattle.reg_json.specs.Replies.{kind_word, row_data, row_items, factors_data, grant_data, grant_items, names_of, strings, span_data, span_items, entry_data, entry_items};
+ghost use Rattle.reg_json.specs.Replies.{kind_word, row_data, row_items, factors_data, grant_data};
+ghost use Rattle.reg_json.specs.Replies.{grant_items, names_of, strings, span_data, span_items};
+ghost use Rattle.reg_json.specs.Replies.{entry_data, entry_items};
 
 use crate::flat::{Scalar, put_object};
 use json::Writer;
@@ -12,7 +14,8 @@ use reg_terms::{EntryShown, FactorsShown, GrantShown, RowShown, SetOp, SpanShown
 use std::alloc::AllocError;
 
 fn put_row(out: &mut Writer, row: &RowShown) -> Result<(), AllocError>
-    ensures ok { OnOk result (out.new.tokens ≡ out.old.tokens ++ json_tokens (outline (row_data row.now))) }
+    ensures ok { OnOk result (out.new.tokens
+        ≡ out.old.tokens ++ json_tokens (outline (row_data row.now))) }
     ensures before { out.new.before ≡ out.old.before }
 {
     let from = ("from", Scalar::Moment(Some(row.from)));
@@ -23,7 +26,8 @@ fn put_row(out: &mut Writer, row: &RowShown) -> Result<(), AllocError>
 
 /// Writes immediate memberships as an array. The only error is out of memory.
 pub fn put_rows(out: &mut Writer, rows: &[RowShown]) -> Result<(), AllocError>
-    ensures ok { OnOk result (out.new.tokens ≡ out.old.tokens ++ json_tokens (outline (array (row_items rows.now)))) }
+    ensures ok { OnOk result (out.new.tokens
+        ≡ out.old.tokens ++ json_tokens (outline (array (row_items rows.now)))) }
     ensures before { out.new.before ≡ out.old.before }
 {
     out.begin_array()?;
@@ -45,7 +49,8 @@ fn kind_word(kind: SetOp) -> &'static str
 /// Writes the factors of a composite group, or null for another group. The only error is out of
 /// memory.
 pub fn put_factors(out: &mut Writer, factors: &Option<FactorsShown>) -> Result<(), AllocError>
-    ensures ok { OnOk result (out.new.tokens ≡ out.old.tokens ++ json_tokens (outline (factors_data factors.now))) }
+    ensures ok { OnOk result (out.new.tokens
+        ≡ out.old.tokens ++ json_tokens (outline (factors_data factors.now))) }
     ensures before { out.new.before ≡ out.old.before }
 {
     let Some(factors) = factors else {
@@ -58,7 +63,8 @@ pub fn put_factors(out: &mut Writer, factors: &Option<FactorsShown>) -> Result<(
 }
 
 fn put_grant(out: &mut Writer, grant: &GrantShown) -> Result<(), AllocError>
-    ensures ok { OnOk result (out.new.tokens ≡ out.old.tokens ++ json_tokens (outline (grant_data grant.now))) }
+    ensures ok { OnOk result (out.new.tokens
+        ≡ out.old.tokens ++ json_tokens (outline (grant_data grant.now))) }
     ensures before { out.new.before ≡ out.old.before }
 {
     let holder = ("holder", Scalar::Text(grant.holder.as_str()));
@@ -68,7 +74,8 @@ fn put_grant(out: &mut Writer, grant: &GrantShown) -> Result<(), AllocError>
 
 /// Writes grants as an array. The only error is out of memory.
 pub fn put_grants(out: &mut Writer, grants: &[GrantShown]) -> Result<(), AllocError>
-    ensures ok { OnOk result (out.new.tokens ≡ out.old.tokens ++ json_tokens (outline (array (grant_items grants.now)))) }
+    ensures ok { OnOk result (out.new.tokens
+        ≡ out.old.tokens ++ json_tokens (outline (array (grant_items grants.now)))) }
     ensures before { out.new.before ≡ out.old.before }
 {
     out.begin_array()?;
@@ -80,7 +87,8 @@ pub fn put_grants(out: &mut Writer, grants: &[GrantShown]) -> Result<(), AllocEr
 
 /// Writes the names of privileges as an array. The only error is out of memory.
 pub fn put_privileges(out: &mut Writer, privileges: &[Privilege]) -> Result<(), AllocError>
-    ensures ok { OnOk result (out.new.tokens ≡ out.old.tokens ++ json_tokens (outline (array (strings (names_of privileges.now))))) }
+    ensures ok { OnOk result (out.new.tokens
+        ≡ out.old.tokens ++ json_tokens (outline (array (strings (names_of privileges.now))))) }
     ensures before { out.new.before ≡ out.old.before }
 {
     out.begin_array()?;
@@ -91,7 +99,8 @@ pub fn put_privileges(out: &mut Writer, privileges: &[Privilege]) -> Result<(), 
 }
 
 fn put_span(out: &mut Writer, span: &SpanShown) -> Result<(), AllocError>
-    ensures ok { OnOk result (out.new.tokens ≡ out.old.tokens ++ json_tokens (outline (span_data span.now))) }
+    ensures ok { OnOk result (out.new.tokens
+        ≡ out.old.tokens ++ json_tokens (outline (span_data span.now))) }
     ensures before { out.new.before ≡ out.old.before }
 {
     let from = ("from", Scalar::Moment(Some(span.from)));
@@ -102,7 +111,8 @@ fn put_span(out: &mut Writer, span: &SpanShown) -> Result<(), AllocError>
 
 /// Writes times in which persons were members as an array. The only error is out of memory.
 pub fn put_spans(out: &mut Writer, spans: &[SpanShown]) -> Result<(), AllocError>
-    ensures ok { OnOk result (out.new.tokens ≡ out.old.tokens ++ json_tokens (outline (array (span_items spans.now)))) }
+    ensures ok { OnOk result (out.new.tokens
+        ≡ out.old.tokens ++ json_tokens (outline (array (span_items spans.now)))) }
     ensures before { out.new.before ≡ out.old.before }
 {
     out.begin_array()?;
@@ -113,7 +123,8 @@ pub fn put_spans(out: &mut Writer, spans: &[SpanShown]) -> Result<(), AllocError
 }
 
 fn put_entry(out: &mut Writer, entry: &EntryShown) -> Result<(), AllocError>
-    ensures ok { OnOk result (out.new.tokens ≡ out.old.tokens ++ json_tokens (outline (entry_data entry.now))) }
+    ensures ok { OnOk result (out.new.tokens
+        ≡ out.old.tokens ++ json_tokens (outline (entry_data entry.now))) }
     ensures before { out.new.before ≡ out.old.before }
 {
     let at = ("at", Scalar::Moment(Some(entry.at)));
@@ -127,7 +138,8 @@ fn put_entry(out: &mut Writer, entry: &EntryShown) -> Result<(), AllocError>
 
 /// Writes entries of the change log as an array. The only error is out of memory.
 pub fn put_entries(out: &mut Writer, entries: &[EntryShown]) -> Result<(), AllocError>
-    ensures ok { OnOk result (out.new.tokens ≡ out.old.tokens ++ json_tokens (outline (array (entry_items entries.now)))) }
+    ensures ok { OnOk result (out.new.tokens
+        ≡ out.old.tokens ++ json_tokens (outline (array (entry_items entries.now)))) }
     ensures before { out.new.before ≡ out.old.before }
 {
     out.begin_array()?;

@@ -5,7 +5,9 @@ ghost use Rattle.json.specs.Tree.{json_tokens};
 ghost use Rattle.serde_json.specs.Data.{array};
 ghost use Rattle.serde_json.specs.Written.{outline};
 ghost use Rattle.reg_terms.specs.declared.admin_shown.FormShown.TheVariants as form;
-ghost use Rattle.reg_json.specs.AdminReplies.{consumer_data, consumer_items, gone_data, gone_items, job_data, job_items, scope_word, form_data, rule_data, rule_items};
+ghost use Rattle.reg_json.specs.AdminReplies.{consumer_data, consumer_items, gone_data, gone_items};
+ghost use Rattle.reg_json.specs.AdminReplies.{job_data, job_items, scope_word, form_data};
+ghost use Rattle.reg_json.specs.AdminReplies.{rule_data, rule_items};
 
 use crate::flat::{Scalar, put_object};
 use json::Writer;
@@ -15,7 +17,8 @@ use std::alloc::AllocError;
 
 /// A member that is an array, up to where its items begin.
 fn begin_items(out: &mut Writer, name: &str) -> Result<(), AllocError>
-    ensures ok { OnOk result (out.new.tokens ≡ out.old.tokens ++ key name.now ∷ (begin_array ∷ [])) }
+    ensures ok { OnOk result (out.new.tokens
+        ≡ out.old.tokens ++ key name.now ∷ (begin_array ∷ [])) }
     ensures before { out.new.before ≡ out.old.before }
 {
     out.key(name)?;
@@ -23,7 +26,8 @@ fn begin_items(out: &mut Writer, name: &str) -> Result<(), AllocError>
 }
 
 fn put_consumer(out: &mut Writer, consumer: &ConsumerShown) -> Result<(), AllocError>
-    ensures ok { OnOk result (out.new.tokens ≡ out.old.tokens ++ json_tokens (outline (consumer_data consumer.now))) }
+    ensures ok { OnOk result (out.new.tokens
+        ≡ out.old.tokens ++ json_tokens (outline (consumer_data consumer.now))) }
     ensures before { out.new.before ≡ out.old.before }
 {
     let name = ("consumer", Scalar::Text(consumer.consumer.as_str()));
@@ -31,9 +35,12 @@ fn put_consumer(out: &mut Writer, consumer: &ConsumerShown) -> Result<(), AllocE
     put_object(out, &[name, place])
 }
 
-/// Writes consumers as the array of a member. The only error is out of memory, here and in what follows.
+/// Writes consumers as the array of a member. The only error is out of memory, here and in what
+/// follows.
 pub fn put_consumers(out: &mut Writer, consumers: &[ConsumerShown]) -> Result<(), AllocError>
-    ensures ok { OnOk result (out.new.tokens ≡ out.old.tokens ++ key (codes "consumers") ∷ json_tokens (outline (array (consumer_items consumers.now)))) }
+    ensures ok { OnOk result (out.new.tokens
+        ≡ out.old.tokens ++ key (codes "consumers")
+        ∷ json_tokens (outline (array (consumer_items consumers.now)))) }
     ensures before { out.new.before ≡ out.old.before }
 {
     begin_items(out, "consumers")?;
@@ -44,7 +51,8 @@ pub fn put_consumers(out: &mut Writer, consumers: &[ConsumerShown]) -> Result<()
 }
 
 fn put_gone(out: &mut Writer, gone: &GoneShown) -> Result<(), AllocError>
-    ensures ok { OnOk result (out.new.tokens ≡ out.old.tokens ++ json_tokens (outline (gone_data gone.now))) }
+    ensures ok { OnOk result (out.new.tokens
+        ≡ out.old.tokens ++ json_tokens (outline (gone_data gone.now))) }
     ensures before { out.new.before ≡ out.old.before }
 {
     let ended = ("ended", Scalar::Moment(Some(gone.ended)));
@@ -54,7 +62,9 @@ fn put_gone(out: &mut Writer, gone: &GoneShown) -> Result<(), AllocError>
 
 /// Writes groups that are gone as the array of a member.
 pub fn put_gones(out: &mut Writer, groups: &[GoneShown]) -> Result<(), AllocError>
-    ensures ok { OnOk result (out.new.tokens ≡ out.old.tokens ++ key (codes "gone") ∷ json_tokens (outline (array (gone_items groups.now)))) }
+    ensures ok { OnOk result (out.new.tokens
+        ≡ out.old.tokens ++ key (codes "gone")
+        ∷ json_tokens (outline (array (gone_items groups.now)))) }
     ensures before { out.new.before ≡ out.old.before }
 {
     begin_items(out, "gone")?;
@@ -65,7 +75,8 @@ pub fn put_gones(out: &mut Writer, groups: &[GoneShown]) -> Result<(), AllocErro
 }
 
 fn put_job(out: &mut Writer, job: &JobShown) -> Result<(), AllocError>
-    ensures ok { OnOk result (out.new.tokens ≡ out.old.tokens ++ json_tokens (outline (job_data job.now))) }
+    ensures ok { OnOk result (out.new.tokens
+        ≡ out.old.tokens ++ json_tokens (outline (job_data job.now))) }
     ensures before { out.new.before ≡ out.old.before }
 {
     let name = ("job", Scalar::Text(job.job.as_str()));
@@ -78,7 +89,9 @@ fn put_job(out: &mut Writer, job: &JobShown) -> Result<(), AllocError>
 
 /// Writes loader jobs as the array of a member.
 pub fn put_jobs(out: &mut Writer, jobs: &[JobShown]) -> Result<(), AllocError>
-    ensures ok { OnOk result (out.new.tokens ≡ out.old.tokens ++ key (codes "jobs") ∷ json_tokens (outline (array (job_items jobs.now)))) }
+    ensures ok { OnOk result (out.new.tokens
+        ≡ out.old.tokens ++ key (codes "jobs")
+        ∷ json_tokens (outline (array (job_items jobs.now)))) }
     ensures before { out.new.before ≡ out.old.before }
 {
     begin_items(out, "jobs")?;
@@ -94,7 +107,9 @@ fn put_remove_lost<'a>(
     check: &'a Text,
     owner: &'a Text,
 ) -> Result<(), AllocError>
-    ensures ok { OnOk result (out.new.tokens ≡ out.old.tokens ++ json_tokens (outline (form_data id (form.RemoveLost check.now owner.now)))) }
+    ensures ok { OnOk result (out.new.tokens
+        ≡ out.old.tokens ++ json_tokens
+        (outline (form_data id (form.RemoveLost check.now owner.now)))) }
     ensures before { out.new.before ≡ out.old.before }
 {
     let check = ("check", Scalar::Text(check.as_str()));
@@ -111,7 +126,9 @@ fn put_end_lost<'a>(
     owner: &'a Text,
     days: u32,
 ) -> Result<(), AllocError>
-    ensures ok { OnOk result (out.new.tokens ≡ out.old.tokens ++ json_tokens (outline (form_data id (form.EndLost check.now owner.now days)))) }
+    ensures ok { OnOk result (out.new.tokens
+        ≡ out.old.tokens ++ json_tokens
+        (outline (form_data id (form.EndLost check.now owner.now days)))) }
     ensures before { out.new.before ≡ out.old.before }
 {
     let check = ("check", Scalar::Text(check.as_str()));
@@ -128,7 +145,9 @@ fn put_veto<'a>(
     owner: &'a Text,
     condition: &'a Text,
 ) -> Result<(), AllocError>
-    ensures ok { OnOk result (out.new.tokens ≡ out.old.tokens ++ json_tokens (outline (form_data id (form.Veto owner.now condition.now)))) }
+    ensures ok { OnOk result (out.new.tokens
+        ≡ out.old.tokens ++ json_tokens
+        (outline (form_data id (form.Veto owner.now condition.now)))) }
     ensures before { out.new.before ≡ out.old.before }
 {
     let condition = ("condition", Scalar::Text(condition.as_str()));
@@ -155,7 +174,9 @@ fn put_on_create<'a>(
     privilege: Privilege,
     holder: &'a Text,
 ) -> Result<(), AllocError>
-    ensures ok { OnOk result (out.new.tokens ≡ out.old.tokens ++ json_tokens (outline (form_data id (form.OnCreate folder.now scope privilege holder.now)))) }
+    ensures ok { OnOk result (out.new.tokens
+        ≡ out.old.tokens ++ json_tokens
+        (outline (form_data id (form.OnCreate folder.now scope privilege holder.now)))) }
     ensures before { out.new.before ≡ out.old.before }
 {
     let folder = ("folder", Scalar::Text(folder.as_str()));
@@ -168,7 +189,8 @@ fn put_on_create<'a>(
 }
 
 fn put_rule(out: &mut Writer, rule: &RuleShown) -> Result<(), AllocError>
-    ensures ok { OnOk result (out.new.tokens ≡ out.old.tokens ++ json_tokens (outline (rule_data rule.now))) }
+    ensures ok { OnOk result (out.new.tokens
+        ≡ out.old.tokens ++ json_tokens (outline (rule_data rule.now))) }
     ensures before { out.new.before ≡ out.old.before }
 {
     let id = rule.id;
@@ -187,7 +209,9 @@ fn put_rule(out: &mut Writer, rule: &RuleShown) -> Result<(), AllocError>
 
 /// Writes rules as the array of a member.
 pub fn put_rules(out: &mut Writer, rules: &[RuleShown]) -> Result<(), AllocError>
-    ensures ok { OnOk result (out.new.tokens ≡ out.old.tokens ++ key (codes "rules") ∷ json_tokens (outline (array (rule_items rules.now)))) }
+    ensures ok { OnOk result (out.new.tokens
+        ≡ out.old.tokens ++ key (codes "rules")
+        ∷ json_tokens (outline (array (rule_items rules.now)))) }
     ensures before { out.new.before ≡ out.old.before }
 {
     begin_items(out, "rules")?;

@@ -13,7 +13,8 @@ use std::alloc::AllocError;
 
 #[tactic(auto, using(crate::proofs::Integers::integer_text))]
 fn put_value(out: &mut Writer, value: &AttrValue) -> Result<(), AllocError>
-    ensures ok { OnOk result (out.new.tokens ≡ out.old.tokens ++ json_tokens (outline (value_data value.now))) }
+    ensures ok { OnOk result (out.new.tokens
+        ≡ out.old.tokens ++ json_tokens (outline (value_data value.now))) }
     ensures before { out.new.before ≡ out.old.before }
 {
     match value {
@@ -24,7 +25,8 @@ fn put_value(out: &mut Writer, value: &AttrValue) -> Result<(), AllocError>
 }
 
 fn put_values(out: &mut Writer, values: &[AttrValue]) -> Result<(), AllocError>
-    ensures ok { OnOk result (out.new.tokens ≡ out.old.tokens ++ json_tokens (outline (array (value_items values.now)))) }
+    ensures ok { OnOk result (out.new.tokens
+        ≡ out.old.tokens ++ json_tokens (outline (array (value_items values.now)))) }
     ensures before { out.new.before ≡ out.old.before }
 {
     out.begin_array()?;
@@ -36,7 +38,10 @@ fn put_values(out: &mut Writer, values: &[AttrValue]) -> Result<(), AllocError>
 
 /// The members that come before the values.
 fn put_front(out: &mut Writer, assign: &AssignShown) -> Result<(), AllocError>
-    ensures ok { OnOk result (out.new.tokens ≡ out.old.tokens ++ key (codes "attribute") ∷ (string assign.now.attribute ∷ (key (codes "id") ∷ (number (decimal assign.now.id) ∷ [])))) }
+    ensures ok { OnOk result (out.new.tokens
+        ≡ out.old.tokens ++ key (codes "attribute")
+        ∷ (string assign.now.attribute
+        ∷ (key (codes "id") ∷ (number (decimal assign.now.id) ∷ [])))) }
     ensures before { out.new.before ≡ out.old.before }
 {
     out.key("attribute")?;
@@ -46,7 +51,8 @@ fn put_front(out: &mut Writer, assign: &AssignShown) -> Result<(), AllocError>
 }
 
 fn put_assign(out: &mut Writer, assign: &AssignShown) -> Result<(), AllocError>
-    ensures ok { OnOk result (out.new.tokens ≡ out.old.tokens ++ json_tokens (outline (assign_data assign.now))) }
+    ensures ok { OnOk result (out.new.tokens
+        ≡ out.old.tokens ++ json_tokens (outline (assign_data assign.now))) }
     ensures before { out.new.before ≡ out.old.before }
 {
     out.begin_object()?;
@@ -58,7 +64,8 @@ fn put_assign(out: &mut Writer, assign: &AssignShown) -> Result<(), AllocError>
 
 /// Writes assignments as an array. The only error is out of memory.
 pub fn put_assigns(out: &mut Writer, assigns: &[AssignShown]) -> Result<(), AllocError>
-    ensures ok { OnOk result (out.new.tokens ≡ out.old.tokens ++ json_tokens (outline (array (assign_items assigns.now)))) }
+    ensures ok { OnOk result (out.new.tokens
+        ≡ out.old.tokens ++ json_tokens (outline (array (assign_items assigns.now)))) }
     ensures before { out.new.before ≡ out.old.before }
 {
     out.begin_array()?;

@@ -2,7 +2,10 @@
 ghost use Rattle.std.specs.Prelude.{◌≡◌};
 ghost use Rattle.serde_json.specs.View.{view, items_view};
 ghost use Rattle.reg_json.specs.Takes.{Takes};
-ghost use Rattle.reg_json.specs.Taking.{all_of, consumer_from, consumers_in, gone_from, gone_in, job_from, jobs_in, scope_in, remove_lost_from, end_lost_from, veto_from, on_create_from, form_from, rule_from, rules_in};
+ghost use Rattle.reg_json.specs.Taking.{all_of, consumer_from, consumers_in, gone_from, gone_in};
+ghost use Rattle.reg_json.specs.Taking.{job_from, jobs_in, scope_in, remove_lost_from};
+ghost use Rattle.reg_json.specs.Taking.{end_lost_from, veto_from, on_create_from, form_from};
+ghost use Rattle.reg_json.specs.Taking.{rule_from, rules_in};
 
 use crate::fields::scope;
 use crate::taken_shown::privilege_in;

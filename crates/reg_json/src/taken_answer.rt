@@ -2,7 +2,9 @@
 ghost use Rattle.std.specs.Prelude.{◌≡◌};
 ghost use Rattle.serde_json.specs.View.{view};
 ghost use Rattle.reg_json.specs.Takes.{Takes};
-ghost use Rattle.reg_json.specs.Taking.{group_from, listing_from, members_from, memberships_from, groups_from, grants_from, may_from, attributes_from, history_from, admin_from, log_from, list_from, answer_from};
+ghost use Rattle.reg_json.specs.Taking.{group_from, listing_from, members_from, memberships_from};
+ghost use Rattle.reg_json.specs.Taking.{groups_from, grants_from, may_from, attributes_from};
+ghost use Rattle.reg_json.specs.Taking.{history_from, admin_from, log_from, list_from, answer_from};
 
 use crate::taken_admin::{consumers_in, gone_in, jobs_in, rules_in};
 use crate::taken_attributes::assigns_of;

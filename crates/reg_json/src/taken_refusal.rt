@@ -2,7 +2,11 @@
 ghost use Rattle.std.specs.Prelude.{◌≡◌};
 ghost use Rattle.serde_json.specs.View.{view};
 ghost use Rattle.reg_json.specs.Takes.{Takes};
-ghost use Rattle.reg_json.specs.Taking.{bare_refusal, http_refusal, field_refusal, object_refusal, denied_from, future_from, place_from, full_from, limit_from, named_from, with_object, with_field, with_nothing, failsafe_from, load_refusal, other_refusal, refusal_from};
+ghost use Rattle.reg_json.specs.Taking.{bare_refusal, http_refusal, field_refusal, object_refusal};
+ghost use Rattle.reg_json.specs.Taking.{denied_from, future_from, place_from, full_from};
+ghost use Rattle.reg_json.specs.Taking.{limit_from, named_from, with_object, with_field};
+ghost use Rattle.reg_json.specs.Taking.{with_nothing, failsafe_from, load_refusal, other_refusal};
+ghost use Rattle.reg_json.specs.Taking.{refusal_from};
 
 use crate::taking::{TakeFault, has, moment_in, number_in, text_in};
 use reg_base::Text;

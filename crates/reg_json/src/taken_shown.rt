@@ -2,7 +2,9 @@
 ghost use Rattle.std.specs.Prelude.{◌≡◌};
 ghost use Rattle.serde_json.specs.View.{view, items_view};
 ghost use Rattle.reg_json.specs.Takes.{Takes};
-ghost use Rattle.reg_json.specs.Taking.{all_of, row_from, kind_in, factors_from, factors_or_null, privilege_from, privilege_in, grant_from, span_from, entry_kind_in, entry_from};
+ghost use Rattle.reg_json.specs.Taking.{all_of, row_from, kind_in, factors_from, factors_or_null};
+ghost use Rattle.reg_json.specs.Taking.{privilege_from, privilege_in, grant_from, span_from};
+ghost use Rattle.reg_json.specs.Taking.{entry_kind_in, entry_from};
 
 use crate::fields::composite_kind;
 use crate::taking::{

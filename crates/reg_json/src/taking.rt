@@ -3,7 +3,9 @@ ghost use Rattle.std.specs.Prelude.{◌≡◌};
 ghost use Rattle.serde_json.specs.Find.{get, as_str};
 ghost use Rattle.serde_json.specs.View.{view, items_view};
 ghost use Rattle.reg_json.specs.Takes.{Takes};
-ghost use Rattle.reg_json.specs.Taking.{has, text_in, name_in, number_in, small_number_in, optional_number_in, moment_in, moment_or_null, optional_moment_in, items_in, all_of, texts_in};
+ghost use Rattle.reg_json.specs.Taking.{has, text_in, name_in, number_in, small_number_in};
+ghost use Rattle.reg_json.specs.Taking.{optional_number_in, moment_in, moment_or_null};
+ghost use Rattle.reg_json.specs.Taking.{optional_moment_in, items_in, all_of, texts_in};
 
 use reg_base::{Moment, Name, Text};
 use reg_terms::Texts;

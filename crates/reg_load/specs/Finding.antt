@@ -24,12 +24,19 @@ on_group g row = record row { object = Group g }
 
 -- a group of a number and a name, in the folder of the name, with such grants on it
 abbrev pub numbered_group : ℕ → List ℕ → Lists → List GrantRow → List Event
-numbered_group g name f grants = GroupMade (record { id = g; folder = the_id (home_id name f); extension = extension_of name; display = [] }) ∷ grants_added (map (on_group g) grants)
+numbered_group g name f grants =
+    GroupMade (record {
+      id = g;
+      folder = the_id (home_id name f);
+      extension = extension_of name;
+      display = [];
+    }) ∷ grants_added (map (on_group g) grants)
 
 -- groups of such names, numbered one after another
 abbrev pub numbered_groups : ℕ → List (List ℕ) → Lists → List GrantRow → List Event
 numbered_groups next [] f grants = []
-numbered_groups next (name ∷ names) f grants = numbered_group next name f grants ++ numbered_groups (next + 1) names f grants
+numbered_groups next (name ∷ names) f grants =
+    numbered_group next name f grants ++ numbered_groups (next + 1) names f grants
 
 -- the grants on the first of some groups that are made
 abbrev pub first_grants : Entity → List (List ℕ) → Lists → List GrantRow

@@ -1,5 +1,7 @@
--- Which loads of a job suit the facts: tests and the faults that they find, in order. All is judged on the facts before the load.
-use Rattle.std.specs.Prelude.{ℕ, ◌+◌, ◌==◌, ◌&&◌, ◌||◌, not, List, [], ◌∷◌, Bool, false, Option, None, Some, is_some, unwrap_or, length, map, nat_lt, if◌then◌else◌}
+-- Which loads of a job suit the facts: tests and the faults that they find, in order. All is judged
+-- on the facts before the load.
+use Rattle.std.specs.Prelude.{ℕ, ◌+◌, ◌==◌, ◌&&◌, ◌||◌, not, List, [], ◌∷◌, Bool, false, Option}
+use Rattle.std.specs.Prelude.{None, Some, is_some, unwrap_or, length, map, nat_lt, if◌then◌else◌}
 use Rattle.std.specs.List.{list_all, list_any}
 use Rattle.std.specs.Option.{option_or}
 use Rattle.std.specs.Str.{bytes_eq}
@@ -21,7 +23,10 @@ use Rattle.reg_facts.specs.Rows.{group_row}
 use Rattle.reg_facts.specs.Events.{with_groups}
 use Rattle.reg_load.specs.PersonRows.{comes_twice, stands}
 use Rattle.reg_load.specs.declared.faults.LoadFault.{LoadFault}
-use Rattle.reg_load.specs.declared.faults.LoadFault.TheVariants.{NotFound, WrongKind, Taken, Already, NoSuch, IsComposite, FullGroup, FullRow, FullGrant, FullRecord}
+use Rattle.reg_load.specs.declared.faults.LoadFault.TheVariants.{NotFound, WrongKind, Taken}
+use Rattle.reg_load.specs.declared.faults.LoadFault.TheVariants.{Already, NoSuch, IsComposite}
+use Rattle.reg_load.specs.declared.faults.LoadFault.TheVariants.{FullGroup, FullRow, FullGrant}
+use Rattle.reg_load.specs.declared.faults.LoadFault.TheVariants.{FullRecord}
 
 -- ---- the groups of a job
 
@@ -30,9 +35,11 @@ abbrev pub stands_in : ℕ → Option GroupRow → Bool
 stands_in d None = false
 stands_in d (Some row) = row.folder == d
 
--- whether a group is one of a target's: it itself, or a group directly in the folder that is no composite
+-- whether a group is one of a target's: it itself, or a group directly in the folder that is no
+-- composite
 abbrev pub is_of_target : Object → ℕ → Lists → Bool
-is_of_target (Folder d) g f = stands_in d (group_row g f.groups) && not (is_composite g f.composites)
+is_of_target (Folder d) g f =
+    stands_in d (group_row g f.groups) && not (is_composite g f.composites)
 is_of_target (Group t) g f = g == t
 is_of_target (Def a) g f = false
 is_of_target (Attr a) g f = false
@@ -61,7 +68,8 @@ is_composite_target (Subject s) f = false
 -- the number that the group of a created name will have: they are numbered one after another
 abbrev pub created_id : List (List ℕ) → ℕ → List ℕ → Option ℕ
 created_id [] next name = None
-created_id (first ∷ more) next name = if bytes_eq first name then Some next else created_id more (next + 1) name
+created_id (first ∷ more) next name =
+    if bytes_eq first name then Some next else created_id more (next + 1) name
 
 -- the same for the facts that the groups are created in, and where none is created
 abbrev pub created_number : List (List ℕ) → Lists → List ℕ → Option ℕ
@@ -76,7 +84,10 @@ load_group job number f name = option_or (of_target job.target f (group_id name 
 
 -- the row that a row of a load names
 abbrev pub load_row : JobRow → (List ℕ → Option ℕ) → Lists → LoadRow → PersonRow
-load_row job number f row = record { group = the_id (load_group job number f row.group); person = the_id (subject_id row.person f.subjects) }
+load_row job number f row = record {
+  group = the_id (load_group job number f row.group);
+  person = the_id (subject_id row.person f.subjects);
+}
 
 -- the name of the group, or else the text of the person, that isn't found
 abbrev pub missing_text : Option ℕ → Option ℕ → LoadRow → Option (List ℕ)
@@ -87,7 +98,9 @@ missing_text (Some g) (Some s) row = None
 -- the first text in rows of a load that isn't found
 abbrev pub first_missing : JobRow → (List ℕ → Option ℕ) → Lists → List LoadRow → Option (List ℕ)
 first_missing job number f [] = None
-first_missing job number f (row ∷ rows) = option_or (missing_text (load_group job number f row.group) (subject_id row.person f.subjects) row) (first_missing job number f rows)
+first_missing job number f (row ∷ rows) =
+    option_or (missing_text (load_group job number f row.group)
+    (subject_id row.person f.subjects) row) (first_missing job number f rows)
 
 -- the rows that are added, and those that are removed
 abbrev pub added_rows : JobRow → List (List ℕ) → Lists → List LoadRow → List PersonRow
@@ -99,7 +112,9 @@ removed_rows job f removed = map (load_row job no_number f) removed
 -- the first of some names that stands, or that is one of those before
 abbrev pub first_taken : List (List ℕ) → Lists → List (List ℕ) → Option (List ℕ)
 first_taken before f [] = None
-first_taken before f (name ∷ names) = if is_some (resolve name f) || is_among name before then Some name else first_taken (name ∷ before) f names
+first_taken before f (name ∷ names) =
+    if is_some (resolve name f) || is_among name before then Some name
+    else first_taken (name ∷ before) f names
 
 -- ---- tests
 
@@ -125,7 +140,8 @@ abbrev pub no_such : List MemberRow → List PersonRow → Bool
 no_such standing rows = not (list_all (stands standing) rows) || comes_twice rows
 
 -- what may refuse a load of a job before the rules that forbid members, in order
-unfoldable pub load_checks : JobRow → List (List ℕ) → List LoadRow → List LoadRow → Lists → List LoadCheck
+unfoldable pub load_checks : JobRow → List (List ℕ) → List LoadRow → List LoadRow → Lists
+    → List LoadCheck
 load_checks job created removed added f =
     let missing = first_missing job (created_number created f) f added in
     let taken = first_taken [] f created in
@@ -133,12 +149,17 @@ load_checks job created removed added f =
     ∷ (is_elsewhere job f created, WrongKind)
     ∷ (is_some taken, Taken (unwrap_or taken []))
     ∷ (already f.rows (added_rows job created f added), Already)
-    ∷ (is_some (first_missing job no_number f removed) || no_such f.rows (removed_rows job f removed), NoSuch)
+    ∷ (
+      is_some (first_missing job no_number f removed)
+          || no_such f.rows (removed_rows job f removed),
+      NoSuch,
+    )
     ∷ (is_composite_target job.target f, IsComposite)
     ∷ []
 
 -- and what may refuse it behind them, in order
-unfoldable pub room_checks : Entity → List (List ℕ) → List LoadRow → List LoadRow → Lists → List LoadCheck
+unfoldable pub room_checks : Entity → List (List ℕ) → List LoadRow → List LoadRow → Lists
+    → List LoadCheck
 room_checks by created removed added f =
     (nat_lt max_groups (f.made.groups + length created), FullGroup)
     ∷ (nat_lt (max_rows + length removed) (length f.rows + length added), FullRow)

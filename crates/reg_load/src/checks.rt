@@ -1,10 +1,14 @@
 // Which loads suit the facts.
-ghost use Rattle.std.specs.Prelude.{◌≡◌, ◌||◌, ◌+◌, ◌*◌, ◌≤◌, [], None, IfOk, is_some, length, nat_lt};
+ghost use Rattle.std.specs.Prelude.{◌≡◌, ◌||◌, ◌+◌, ◌*◌, ◌≤◌, [], None, IfOk, is_some, length};
+ghost use Rattle.std.specs.Prelude.{nat_lt};
 ghost use Rattle.std.specs.List.{list_all};
 ghost use Rattle.reg_facts.specs.Naming.{home_id};
 ghost use Rattle.reg_terms.specs.Limits.{max_grants, max_groups};
 ghost use Rattle.reg_load.specs.Finding.{first_grants};
-ghost use Rattle.reg_load.specs.LoadChecks.{already, first_fault, first_missing, first_taken, is_composite_target, is_elsewhere, is_home, load_checks, no_number, no_such, removed_rows, room_checks};
+ghost use Rattle.reg_load.specs.LoadChecks.{already, first_fault, first_missing, first_taken};
+ghost use Rattle.reg_load.specs.LoadChecks.{is_composite_target, is_elsewhere, is_home};
+ghost use Rattle.reg_load.specs.LoadChecks.{load_checks, no_number, no_such, removed_rows};
+ghost use Rattle.reg_load.specs.LoadChecks.{room_checks};
 
 use crate::LoadFault;
 use crate::created::{CreatedNames, law_names};
@@ -80,7 +84,9 @@ fn is_no_removal(
     job: &JobRow,
     removed: &[LoadRow],
 ) -> Result<bool, AllocError>
-    ensures { IfOk result (λ found. found ≡ (is_some (first_missing job.now no_number facts.now removed.now) || no_such facts.now.rows (removed_rows job.now facts.now removed.now))) }
+    ensures { IfOk result (λ found. found
+        ≡ (is_some (first_missing job.now no_number facts.now removed.now)
+        || no_such facts.now.rows (removed_rows job.now facts.now removed.now))) }
 {
     let none = CreatedNames::new(alloc);
     match find_rows(facts, alloc, job, &none, removed)? {
@@ -113,7 +119,8 @@ pub fn check_load(
     removed: &[LoadRow],
     added: &[LoadRow],
 ) -> Result<Option<LoadFault>, AllocError>
-    ensures { IfOk result (λ fault. fault ≡ first_fault (load_checks job.now created.now removed.now added.now facts.now)) }
+    ensures { IfOk result (λ fault. fault
+        ≡ first_fault (load_checks job.now created.now removed.now added.now facts.now)) }
 {
     let numbers = CreatedNames::of(alloc, u64::from(facts.made().groups) + 1, created)?;
     let rows = match find_rows(facts, alloc, job, &numbers, added)? {
@@ -163,7 +170,9 @@ fn is_grant_full(
     created: &[Name],
 ) -> Result<bool, AllocError>
     requires { facts.now.made.groups + length created.now ≤ max_groups }
-    ensures { IfOk result (λ full. full ≡ nat_lt max_grants (length facts.now.grants + length created.now * length (first_grants by.now created.now facts.now))) }
+    ensures { IfOk result (λ full. full
+        ≡ nat_lt max_grants (length facts.now.grants + length created.now
+        * length (first_grants by.now created.now facts.now))) }
 {
     let each = first_grants(facts, alloc, by, created)?;
     let more = created.len().saturating_mul(each.len());
@@ -183,8 +192,10 @@ pub fn check_room(
     removed: &[LoadRow],
     added: &[LoadRow],
 ) -> Result<Option<LoadFault>, AllocError>
-    requires { first_fault (load_checks job.now created.now removed.now added.now facts.now) ≡ None }
-    ensures { IfOk result (λ fault. fault ≡ first_fault (room_checks by.now created.now removed.now added.now facts.now)) }
+    requires { first_fault (load_checks job.now created.now removed.now added.now facts.now)
+        ≡ None }
+    ensures { IfOk result (λ fault. fault
+        ≡ first_fault (room_checks by.now created.now removed.now added.now facts.now)) }
 {
     let _job = job;
     facts.law_sound();

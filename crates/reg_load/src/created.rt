@@ -37,7 +37,9 @@ impl<'a> CreatedNames<'a> {
 
     /// Gives a name this number.
     pub(crate) fn insert(&mut self, name: &'a str, number: u64) -> Result<(), AllocError>
-        ensures { OnOk result ((other : List ℕ) → number_of self.new other ≡ (if bytes_eq name.now other then Some number else number_of self.old other)) }
+        ensures { OnOk result ((other : List ℕ)
+            → number_of self.new other
+            ≡ (if bytes_eq name.now other then Some number else number_of self.old other)) }
     {
         self.numbers.insert(name, number)?;
         Ok(())
@@ -45,7 +47,10 @@ impl<'a> CreatedNames<'a> {
 
     /// Gives a name this number, if it has none.
     fn add(&mut self, name: &'a str, number: u64) -> Result<(), AllocError>
-        ensures { OnOk result ((other : List ℕ) → number_of self.new other ≡ option_or (number_of self.old other) (if bytes_eq name.now other then Some number else None)) }
+        ensures { OnOk result ((other : List ℕ)
+            → number_of self.new other
+            ≡ option_or (number_of self.old other) (if bytes_eq name.now other then Some number
+            else None)) }
     {
         if self.number(name).is_some() {
             return Ok(());
@@ -60,7 +65,8 @@ impl<'a> CreatedNames<'a> {
         created: &'a [Name],
     ) -> Result<CreatedNames<'a>, AllocError>
         requires { first ≤ 2 ^ 32 }
-        ensures { IfOk result (λ names. (text : List ℕ) → number_of names text ≡ created_id created.now first text) }
+        ensures { IfOk result (λ names. (text : List ℕ)
+            → number_of names text ≡ created_id created.now first text) }
     {
         let mut names = CreatedNames::new(alloc);
         let mut next = first;

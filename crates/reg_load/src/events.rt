@@ -21,7 +21,8 @@ fn push_grants(
     group: GroupId,
     grants: &[GrantRow],
 ) -> Result<(), AllocError>
-    ensures { OnOk result (events.new.items ≡ events.old.items ++ grants_added (map (on_group group) grants.now)) }
+    ensures { OnOk result (events.new.items
+        ≡ events.old.items ++ grants_added (map (on_group group) grants.now)) }
 {
     for grant in grants {
         let row = GrantRow {
@@ -43,7 +44,8 @@ fn push_group(
     name: &Name,
     grants: &[GrantRow],
 ) -> Result<(), AllocError>
-    ensures { OnOk result (events.new.items ≡ events.old.items ++ numbered_group id name.now facts.now grants.now) }
+    ensures { OnOk result (events.new.items
+        ≡ events.old.items ++ numbered_group id name.now facts.now grants.now) }
 {
     let (home, extension) = facts.home(name);
     let row = GroupRow {
@@ -65,7 +67,9 @@ fn push_groups(
     grants: &[GrantRow],
 ) -> Result<(), AllocError>
     requires { facts.now.made.groups + length created.now ≤ max_groups }
-    ensures { OnOk result (events.new.items ≡ events.old.items ++ numbered_groups (facts.now.made.groups + 1) created.now facts.now grants.now) }
+    ensures { OnOk result (events.new.items
+        ≡ events.old.items ++ numbered_groups (facts.now.made.groups
+        + 1) created.now facts.now grants.now) }
 {
     let mut last = facts.made().groups;
     for name in created {
@@ -131,7 +135,8 @@ pub fn load_events(
     added: &[LoadRow],
 ) -> Result<Vec<Event>, AllocError>
     requires { CanLoad by.now job.now created.now removed.now added.now facts.now }
-    ensures { IfOk result (λ events. events.items ≡ load_events at by.now created.now removed.now added.now facts.now) }
+    ensures { IfOk result (λ events. events.items
+        ≡ load_events at by.now created.now removed.now added.now facts.now) }
 {
     law_names(created);
     facts.law_sound();

@@ -2,7 +2,9 @@
 ghost use Rattle.std.specs.Prelude.{◌≡◌, None, Some, Err, IfOk, MatchResult, map};
 ghost use Rattle.reg_facts.specs.Rows.{group_row};
 ghost use Rattle.reg_load.specs.Finding.{number_of};
-ghost use Rattle.reg_load.specs.LoadChecks.{added_rows, first_fault, first_missing, is_of_target, load_checks, load_group, load_row, no_number, of_target, removed_rows, stands_in};
+ghost use Rattle.reg_load.specs.LoadChecks.{added_rows, first_fault, first_missing, is_of_target};
+ghost use Rattle.reg_load.specs.LoadChecks.{load_checks, load_group, load_row, no_number};
+ghost use Rattle.reg_load.specs.LoadChecks.{of_target, removed_rows, stands_in};
 
 use crate::created::CreatedNames;
 use reg_base::{FolderId, GroupId, Name, Text};
@@ -95,7 +97,8 @@ pub(crate) fn find_rows(
     rows: &[LoadRow],
 ) -> Result<Result<Vec<PersonRow>, Text>, AllocError>
     ensures { IfOk result (λ found. MatchResult found
-        (λ all. (first_missing job.now (number_of created.now) facts.now rows.now ≡ None) × (all.items ≡ map (load_row job.now (number_of created.now) facts.now) rows.now))
+        (λ all. (first_missing job.now (number_of created.now) facts.now rows.now ≡ None)
+        × (all.items ≡ map (load_row job.now (number_of created.now) facts.now) rows.now))
         (λ text. first_missing job.now (number_of created.now) facts.now rows.now ≡ Some text)) }
 {
     let Some(first) = rows.first() else {
@@ -127,7 +130,8 @@ fn the_rows(
     rows: &[LoadRow],
 ) -> Result<Vec<PersonRow>, AllocError>
     requires { first_missing job.now (number_of created.now) facts.now rows.now ≡ None }
-    ensures { IfOk result (λ found. found.items ≡ map (load_row job.now (number_of created.now) facts.now) rows.now) }
+    ensures { IfOk result (λ found. found.items
+        ≡ map (load_row job.now (number_of created.now) facts.now) rows.now) }
 {
     match find_rows(facts, alloc, job, created, rows)? {
         Ok(found) => Ok(found),
@@ -145,8 +149,10 @@ pub fn added_rows(
     removed: &[LoadRow],
     added: &[LoadRow],
 ) -> Result<Vec<PersonRow>, AllocError>
-    requires { first_fault (load_checks job.now created.now removed.now added.now facts.now) ≡ None }
-    ensures { IfOk result (λ rows. rows.items ≡ added_rows job.now created.now facts.now added.now) }
+    requires { first_fault (load_checks job.now created.now removed.now added.now facts.now)
+        ≡ None }
+    ensures { IfOk result (λ rows. rows.items
+        ≡ added_rows job.now created.now facts.now added.now) }
 {
     let _removed = removed;
     let numbers = CreatedNames::of(alloc, u64::from(facts.made().groups) + 1, created)?;

@@ -12,7 +12,10 @@ use reg_facts::Facts;
 /// removed and with the added, those of groups are as they were, and each group that it created has
 /// its name and number.
 pub fn law_load(facts: &Facts)
-    ensures { (at : ℕ) (by : Entity) (job : JobRow) (created : List (List ℕ)) (removed added : List LoadRow) → AreNames created → CanLoad by job created removed added facts.now → IsLoaded at by job created removed added facts.now }
+    ensures { (at : ℕ) (by : Entity) (job : JobRow) (created : List (List ℕ))
+        (removed added : List LoadRow) → AreNames created
+        → CanLoad by job created removed added facts.now
+        → IsLoaded at by job created removed added facts.now }
 {
     facts.law_sound();
     facts.law_held();

@@ -27,7 +27,8 @@ impl RowSet {
     /// Adds a row, and tells whether it wasn't there.
     fn add(&mut self, row: &PersonRow) -> Result<bool, AllocError>
         ensures fresh { IfOk result (λ fresh. fresh ≡ not (holds self.old row.now)) }
-        ensures added { OnOk result ((other : PersonRow) → holds self.new other ≡ (same_row other row.now || holds self.old other)) }
+        ensures added { OnOk result ((other : PersonRow)
+            → holds self.new other ≡ (same_row other row.now || holds self.old other)) }
     {
         let fresh = self.pairs.insert((row.group, row.person.number()))?;
         Ok(fresh)

@@ -1,5 +1,6 @@
 -- What a record of a table names: a group, and a person.
-use Rattle.std.specs.Prelude.{ℕ, Bool, false, ◌==◌, List, [], ◌∷◌, ◌++◌, Option, Some, None, unwrap_or, if◌then◌else◌}
+use Rattle.std.specs.Prelude.{ℕ, Bool, false, ◌==◌, List, [], ◌∷◌, ◌++◌, Option, Some, None}
+use Rattle.std.specs.Prelude.{unwrap_or, if◌then◌else◌}
 use Rattle.reg_base.specs.Names.{is_name, is_person}
 use Rattle.reg_terms.specs.declared.kinds.Object.{Object}
 use Rattle.reg_terms.specs.declared.kinds.Object.TheVariants.{Folder, Group, Def, Attr, Subject}
@@ -22,7 +23,8 @@ person_text job row = unwrap_or row.source job.source ++ 47 ∷ row.id
 
 -- the person that a record names, where that is the text of one that stands
 unfoldable pub person_in : JobRow → TableRow → Lists → Option ℕ
-person_in job row f = if is_person (person_text job row) then subject_id (person_text job row) f.subjects else None
+person_in job row f =
+    if is_person (person_text job row) then subject_id (person_text job row) f.subjects else None
 
 -- a group of a list job, if it is one
 abbrev pub listed_group : Option ℕ → Lists → Mention
@@ -39,9 +41,12 @@ abbrev pub is_home : ℕ → Option ℕ → Bool
 is_home d None = false
 is_home d (Some home) = home == d
 
--- what a text means to a list job: a bad group where it is no name, or none directly in the job's folder
+-- what a text means to a list job: a bad group where it is no name, or none directly in the job's
+-- folder
 abbrev pub meant_in : ℕ → List ℕ → Lists → Mention
-meant_in d text f = if is_name text then (if is_home d (home_id text f) then meant_by (resolve text f) f else Bad) else Bad
+meant_in d text f =
+    if is_name text then (if is_home d (home_id text f) then meant_by (resolve text f) f else Bad)
+    else Bad
 
 -- what a text means to a job with this target: a simple job has its own group alone
 unfoldable pub mention : Object → List ℕ → Lists → Mention

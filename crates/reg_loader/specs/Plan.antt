@@ -1,5 +1,8 @@
 -- What a load of a table would do to the persons in a job's groups.
-use Rattle.std.specs.Prelude.{◌≡◌, ⊤, ℕ, ◌+◌, ◌-◌, ◌*◌, Bool, true, false, not, ◌&&◌, ◌==◌, List, [], ◌∷◌, map, filter, fold, length, get_or, nat_lt, nat_le, Option, Some, None, option_map, is_some, is_none, Result, Ok, Err, if◌then◌else◌}
+use Rattle.std.specs.Prelude.{◌≡◌, ⊤, ℕ, ◌+◌, ◌-◌, ◌*◌, Bool, true, false, not, ◌&&◌, ◌==◌, List}
+use Rattle.std.specs.Prelude.{[], ◌∷◌, map, filter, fold, length, get_or, nat_lt, nat_le, Option}
+use Rattle.std.specs.Prelude.{Some, None, option_map, is_some, is_none, Result, Ok, Err}
+use Rattle.std.specs.Prelude.{if◌then◌else◌}
 use Rattle.std.specs.List.{filter_map, flat_map, list_any, position_or_len}
 use Rattle.std.specs.Str.{bytes_eq}
 use Rattle.indexmap.specs.IndexSet.{insert_key}
@@ -63,11 +66,13 @@ number names New text f = Some (f.made.groups + 1 + position_or_len (bytes_eq te
 
 -- how many records name no group of the job
 abbrev pub bad_groups : Object → List TableRow → Lists → ℕ
-bad_groups target rows f = length (filter (λ (row : TableRow). is_bad (mention target (group_text row) f)) rows)
+bad_groups target rows f =
+    length (filter (λ (row : TableRow). is_bad (mention target (group_text row) f)) rows)
 
 -- whether a record names a group of the job, and no person that stands
 abbrev pub is_unknown : JobRow → Lists → TableRow → Bool
-is_unknown job f row = not (is_bad (mention job.target (group_text row) f)) && is_none (person_in job row f)
+is_unknown job f row =
+    not (is_bad (mention job.target (group_text row) f)) && is_none (person_in job row f)
 
 -- and how many do
 abbrev pub unknowns : JobRow → List TableRow → Lists → ℕ
@@ -75,7 +80,9 @@ unknowns job rows f = length (filter (is_unknown job f) rows)
 
 -- the names of the groups that are made: those that no object has
 abbrev pub created : Object → List TableRow → Lists → List (List ℕ)
-created target rows f = each_once bytes_eq (map group_text (filter (λ (row : TableRow). is_new (mention target (group_text row) f)) rows))
+created target rows f =
+    each_once bytes_eq (map group_text
+    (filter (λ (row : TableRow). is_new (mention target (group_text row) f)) rows))
 
 -- a group and a person, if there are both
 abbrev pub keyed : Option ℕ → Option ℕ → Option Key
@@ -84,7 +91,9 @@ keyed (Some g) person = option_map (λ s. (g, s)) person
 
 -- what a record names, where these names are made
 abbrev pub key_of : List (List ℕ) → JobRow → Lists → TableRow → Option Key
-key_of names job f row = keyed (number names (mention job.target (group_text row) f) (group_text row) f) (person_in job row f)
+key_of names job f row =
+    keyed (number names (mention job.target (group_text row) f) (group_text row) f)
+    (person_in job row f)
 
 -- what the records name, record by record
 abbrev pub named : JobRow → List TableRow → Lists → List Key
@@ -103,7 +112,9 @@ repeats job rows f = length (named job rows f) - length (wanted job rows f)
 -- the groups of a job: its own, or all directly in its folder that aren't composite
 abbrev pub job_groups : Object → Lists → List ℕ
 job_groups (Group g) f = g ∷ []
-job_groups (Folder d) f = map (λ (row : GroupRow). row.id) (filter (λ (row : GroupRow). (row.folder == d) && not (is_composite row.id f.composites)) f.groups)
+job_groups (Folder d) f =
+    map (λ (row : GroupRow). row.id) (filter (λ (row : GroupRow). (row.folder == d)
+    && not (is_composite row.id f.composites)) f.groups)
 job_groups (Def a) f = []
 job_groups (Attr a) f = []
 job_groups (Subject s) f = []
@@ -132,7 +143,8 @@ GroupStands (Subject s) f = ⊤
 
 -- a veto forbids the person in the group; there is none on a group that is to be made
 abbrev pub is_forbidden : Live → Lists → Key → Bool
-is_forbidden L f key = not (nat_lt f.made.groups key.0) && is_some (first_veto L key.0 key.1 f.rules)
+is_forbidden L f key =
+    not (nat_lt f.made.groups key.0) && is_some (first_veto L key.0 key.1 f.rules)
 
 -- a wanted pair that has no membership is vetoed, or added
 abbrev pub is_vetoed : Live → List Key → Lists → Key → Bool
@@ -157,7 +169,8 @@ added L there f keys = filter (is_added L there f) keys
 
 -- so many persons stand, and more of them go than the job lets
 abbrev pub is_too_many : JobRow → ℕ → ℕ → Bool
-is_too_many job before removes = nat_le job.min_size before && nat_lt (job.max_percent * before) (removes * 100)
+is_too_many job before removes =
+    nat_le job.min_size before && nat_lt (job.max_percent * before) (removes * 100)
 
 -- the job's own group is a composite
 abbrev pub is_composite_target : Object → Lists → Bool
@@ -171,7 +184,8 @@ is_composite_target (Subject s) f = false
 
 -- the name of a group by its id, where these names are made
 abbrev pub group_name : List (List ℕ) → Lists → ℕ → List ℕ
-group_name names f g = if nat_lt f.made.groups g then get_or names (g - f.made.groups - 1) [] else name_of (Group g) f
+group_name names f g =
+    if nat_lt f.made.groups g then get_or names (g - f.made.groups - 1) [] else name_of (Group g) f
 
 -- the text of a person
 abbrev pub text_of : Lists → ℕ → List ℕ
@@ -185,8 +199,10 @@ shown names f key = record { group = group_name names f key.0; person = text_of 
 abbrev pub plan_of : Live → JobRow → List TableRow → Lists → Plan
 plan_of L job rows f = record {
   created = created job.target rows f;
-  removed = map (shown (created job.target rows f) f) (removed (standing job.target f) (wanted job rows f));
-  added = map (shown (created job.target rows f) f) (added L (standing job.target f) f (wanted job rows f));
+  removed = map (shown (created job.target rows f) f)
+      (removed (standing job.target f) (wanted job rows f));
+  added = map (shown (created job.target rows f) f)
+      (added L (standing job.target f) f (wanted job rows f));
   unchanged = length (unchanged (standing job.target f) (wanted job rows f));
   unknown = unknowns job rows f;
   repeated = repeats job rows f;
@@ -209,13 +225,15 @@ counts_of plan = record {
 
 -- the plan, unless so many persons would go
 abbrev pub plan_or : ℕ → ℕ → JobRow → Plan → Result Plan PlanFault
-plan_or before removes job plan = if is_too_many job before removes then Err (Failsafe before removes) else Ok plan
+plan_or before removes job plan =
+    if is_too_many job before removes then Err (Failsafe before removes) else Ok plan
 
 -- what a load comes to
 unfoldable pub planned : Live → JobRow → List TableRow → Lists → Result Plan PlanFault
 planned L job rows f =
     if is_composite_target job.target f then Err IsComposite
-    else plan_or (length (standing job.target f)) (length (removed (standing job.target f) (wanted job rows f))) job (plan_of L job rows f)
+    else plan_or (length (standing job.target f))
+    (length (removed (standing job.target f) (wanted job rows f))) job (plan_of L job rows f)
 
 -- a fault is this one, unless memory ran out
 abbrev pub PlanFails : Result Plan PlanFault → PlanFault → Type 0

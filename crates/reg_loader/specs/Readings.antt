@@ -8,7 +8,8 @@ use Rattle.reg_loader.specs.Rows.{row_of}
 use Rattle.reg_loader.specs.Tables.{Fields, first_bad}
 
 -- a header and the rows under it, none of them bad
-pub record IsUnder (list : Bool) (header : Fields) (rows : List Fields) (reading : Reading) : Type 0 where
+pub record IsUnder (list : Bool) (header : Fields) (rows : List Fields)
+    (reading : Reading) : Type 0 where
   pub columns : Columns
   pub found : columns_of list header ≡ Some columns
   pub header_is : reading.header ≡ Some (record { columns = columns; width = length header })

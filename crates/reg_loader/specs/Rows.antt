@@ -10,4 +10,8 @@ field fields place = get_or fields place []
 -- the texts in the columns that are read
 abbrev pub row_of : Columns → List (List ℕ) → TableRow
 row_of columns fields =
-    record { group = option_map (field fields) columns.group; source = option_map (field fields) columns.source; id = field fields columns.id }
+    record {
+      group = option_map (field fields) columns.group;
+      source = option_map (field fields) columns.source;
+      id = field fields columns.id;
+    }

@@ -1,5 +1,6 @@
 -- What the bytes of a table say: its rows, or the first fault.
-use Rattle.std.specs.Prelude.{◌≡◌, ℕ, Bool, ◌&&◌, ◌==◌, not, List, [], ◌∷◌, length, map, position, nat_lt, Option, Some, None, Result, Ok, Err, if◌then◌else◌}
+use Rattle.std.specs.Prelude.{◌≡◌, ℕ, Bool, ◌&&◌, ◌==◌, not, List, [], ◌∷◌, length, map, position}
+use Rattle.std.specs.Prelude.{nat_lt, Option, Some, None, Result, Ok, Err, if◌then◌else◌}
 use Rattle.std.specs.List.{list_all}
 use Rattle.std.specs.Str.{is_utf8}
 use Rattle.csv.specs.Reading.{default_config, records, strip_bom}
@@ -29,7 +30,8 @@ first_bad width all = position (λ fields. not (is_whole width fields)) all
 
 -- the rows, where there aren't too many
 abbrev pub rows_of : Columns → List Fields → Result (List TableRow) TableFault
-rows_of columns rows = if nat_lt MAX_RECORDS (length rows) then Err TooMany else Ok (map (row_of columns) rows)
+rows_of columns rows =
+    if nat_lt MAX_RECORDS (length rows) then Err TooMany else Ok (map (row_of columns) rows)
 
 -- the rows, where every record is whole and there aren't too many
 abbrev pub rows_under : Columns → Option ℕ → List Fields → Result (List TableRow) TableFault
@@ -39,7 +41,8 @@ rows_under columns None rows = rows_of columns rows
 -- the same under a header, where it has the columns
 abbrev pub table_under : Option Columns → Fields → List Fields → Result (List TableRow) TableFault
 table_under None header rows = Err (Bad 0)
-table_under (Some columns) header rows = rows_under columns (first_bad (length header) (header ∷ rows)) rows
+table_under (Some columns) header rows =
+    rows_under columns (first_bad (length header) (header ∷ rows)) rows
 
 -- what records say to a load of many groups, or of one
 abbrev pub table_of : Bool → List Fields → Result (List TableRow) TableFault

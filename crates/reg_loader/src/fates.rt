@@ -1,6 +1,7 @@
 // What comes of the pairs that a table names.
 ghost use Rattle.std.specs.Prelude.{◌≡◌, length, List, IfOk};
-ghost use Rattle.reg_loader.specs.Plan.{added, each_once, is_forbidden, same_key, unchanged, vetoed};
+ghost use Rattle.reg_loader.specs.Plan.{added, each_once, is_forbidden, same_key, unchanged};
+ghost use Rattle.reg_loader.specs.Plan.{vetoed};
 
 use crate::keys::{Key, has, set_of};
 use indexmap::IndexSet;
@@ -38,9 +39,12 @@ fn told<K: Kept>(
     keys: &[Key],
     there: &IndexSet<Key>,
 ) -> Result<Fates, AllocError>
-    ensures added { IfOk result (λ fates. fates.added.items ≡ added (K.held kept.now) there.now.keys facts.now keys.now) }
-    ensures unchanged { IfOk result (λ fates. fates.unchanged ≡ length (unchanged there.now.keys keys.now)) }
-    ensures vetoed { IfOk result (λ fates. fates.vetoed ≡ length (vetoed (K.held kept.now) there.now.keys facts.now keys.now)) }
+    ensures added { IfOk result (λ fates. fates.added.items
+        ≡ added (K.held kept.now) there.now.keys facts.now keys.now) }
+    ensures unchanged { IfOk result (λ fates. fates.unchanged
+        ≡ length (unchanged there.now.keys keys.now)) }
+    ensures vetoed { IfOk result (λ fates. fates.vetoed
+        ≡ length (vetoed (K.held kept.now) there.now.keys facts.now keys.now)) }
 {
     let mut fates = Fates {
         added: Vec::new(alloc),
@@ -67,9 +71,12 @@ pub(crate) fn fates_of<K: Kept>(
     keys: &[Key],
     there: &[Key],
 ) -> Result<Fates, AllocError>
-    ensures added { IfOk result (λ fates. fates.added.items ≡ added (K.held kept.now) there.now facts.now keys.now) }
-    ensures unchanged { IfOk result (λ fates. fates.unchanged ≡ length (unchanged there.now keys.now)) }
-    ensures vetoed { IfOk result (λ fates. fates.vetoed ≡ length (vetoed (K.held kept.now) there.now facts.now keys.now)) }
+    ensures added { IfOk result (λ fates. fates.added.items
+        ≡ added (K.held kept.now) there.now facts.now keys.now) }
+    ensures unchanged { IfOk result (λ fates. fates.unchanged
+        ≡ length (unchanged there.now keys.now)) }
+    ensures vetoed { IfOk result (λ fates. fates.vetoed
+        ≡ length (vetoed (K.held kept.now) there.now facts.now keys.now)) }
 {
     let set = set_of(alloc, there)?;
     told(alloc, facts, kept, keys, &set)

@@ -23,7 +23,8 @@ pub(crate) fn set_of(alloc: Global, keys: &[Key]) -> Result<IndexSet<Key>, Alloc
 /// Whether a set has it.
 pub(crate) fn has(set: &IndexSet<Key>, key: Key) -> bool
     ensures value { result ≡ is_among key set.now.keys }
-    ensures once { (keys : List KeySeen) → set.now.keys ≡ each_once same_key keys → result ≡ is_among key keys }
+    ensures once { (keys : List KeySeen) → set.now.keys ≡ each_once same_key keys
+        → result ≡ is_among key keys }
 {
     set.contains(&key)
 }

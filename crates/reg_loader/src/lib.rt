@@ -1,5 +1,5 @@
-//! The tables that loads bring: their rows, read from the bytes of a text of CSV; and what a load of
-//! a table would do to the groups of a job.
+//! The tables that loads bring: their rows, read from the bytes of a text of CSV; and what a load
+//! of a table would do to the groups of a job.
 #![tactic(auto)]
 
 mod columns;

@@ -3,7 +3,8 @@ ghost use Rattle.std.specs.Prelude.{◌≡◌, ◌++◌, ◌∷◌, true, IfOk, 
 ghost use Rattle.reg_base.specs.Names.{is_name};
 ghost use Rattle.reg_facts.specs.Naming.{home_id, resolve};
 ghost use Rattle.reg_loader.specs.declared.mentions.Mention.TheVariants.{Bad};
-ghost use Rattle.reg_loader.specs.Mentions.{group_text, is_home, meant_by, meant_in, mention, person_in, person_text};
+ghost use Rattle.reg_loader.specs.Mentions.{group_text, is_home, meant_by, meant_in, mention};
+ghost use Rattle.reg_loader.specs.Mentions.{person_in, person_text};
 
 use crate::TableRow;
 use reg_base::{FolderId, GroupId, Name, SubjectId, is_person};
@@ -63,7 +64,8 @@ fn meant_by(facts: &Facts, found: Option<Object>) -> Mention
 #[tactic(auto, using(crate::proofs::Children::resolve_child))]
 fn meant_as(facts: &Facts, folder: FolderId, name: &Name) -> Mention
     requires { is_name name.now ≡ true }
-    ensures { result ≡ (if is_home folder (home_id name.now facts.now) then meant_by (resolve name.now facts.now) facts.now else Bad) }
+    ensures { result ≡ (if is_home folder (home_id name.now facts.now)
+        then meant_by (resolve name.now facts.now) facts.now else Bad) }
 {
     let (home, extension) = facts.home(name);
     match home {

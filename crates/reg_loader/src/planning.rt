@@ -2,7 +2,8 @@
 ghost use Rattle.std.specs.Prelude.{◌≡◌, map, true, IfOk, string_bytes};
 ghost use Rattle.std.specs.List.{AllByRecursion};
 ghost use Rattle.reg_base.specs.Names.{is_name};
-ghost use Rattle.reg_loader.specs.Plan.{is_composite_target, planned, is_too_many, GroupStands, PlanAnswers};
+ghost use Rattle.reg_loader.specs.Plan.{is_composite_target, planned, is_too_many, GroupStands};
+ghost use Rattle.reg_loader.specs.Plan.{PlanAnswers};
 ghost use Rattle.reg_loader.specs.Walks.{plan_told, AreTold};
 
 use crate::fates::{Fates, fates_of};
@@ -41,10 +42,14 @@ fn told(
     gone: &[Key],
     fates: &Fates,
 ) -> Result<Plan, AllocError>
-    requires names { AllByRecursion (λ text. is_name (string_bytes text) ≡ true) walked.now.names.keys }
+    requires names { AllByRecursion (λ text. is_name (string_bytes text)
+        ≡ true) walked.now.names.keys }
     requires gone { AreTold (map (λ t. string_bytes t) walked.now.names.keys) facts.now gone.now }
-    requires added { AreTold (map (λ t. string_bytes t) walked.now.names.keys) facts.now fates.now.added.items }
-    ensures { IfOk result (λ plan. plan ≡ plan_told (map (λ t. string_bytes t) walked.now.names.keys) facts.now gone.now walked.now fates.now) }
+    requires added { AreTold
+        (map (λ t. string_bytes t) walked.now.names.keys) facts.now fates.now.added.items }
+    ensures { IfOk result (λ plan. plan
+        ≡ plan_told (map (λ t. string_bytes t) walked.now.names.keys) facts.now gone.now walked.now
+        fates.now) }
 {
     let created = names_of(alloc, &walked.names)?;
     let removed = all_shown(alloc, facts, &created, gone)?;
@@ -70,7 +75,8 @@ fn plan_in<K: Kept>(
     table: &Table,
 ) -> Result<Result<Plan, PlanFault>, AllocError>
     requires { GroupStands job.now.target facts.now }
-    ensures { IfOk result (λ answer. answer ≡ planned (K.held kept.now) job.now table.now facts.now) }
+    ensures { IfOk result (λ answer. answer
+        ≡ planned (K.held kept.now) job.now table.now facts.now) }
 {
     facts.law_sound();
     facts.law_names();
@@ -92,9 +98,10 @@ fn plan_in<K: Kept>(
 
 /// What a load of this table by this job would do to the persons in the job's groups. `IsComposite`
 /// exactly where the job is of one group and that is a composite; else `Failsafe` exactly where the
-/// persons in the job's groups are `min_size` or more, and those that would be removed are more than
-/// `max_percent` of them. Want of memory may come instead of any answer. It takes a look into the names
-/// and the persons for each record, one walk over the groups, and what the job's groups have.
+/// persons in the job's groups are `min_size` or more, and those that would be removed are more
+/// than `max_percent` of them. Want of memory may come instead of any answer. It takes a look into
+/// the names and the persons for each record, one walk over the groups, and what the job's groups
+/// have.
 pub fn plan<K: Kept>(
     alloc: Global,
     facts: &Facts,

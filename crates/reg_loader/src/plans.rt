@@ -51,7 +51,8 @@ pub enum PlanFault {
     /// The job's one group is a composite.
     #[error("the job's one group is a composite")]
     IsComposite,
-    /// So many persons are in the job's groups, and more of them would be removed than the job lets.
+    /// So many persons are in the job's groups, and more of them would be removed than the job
+    /// lets.
     #[error("a load would remove {removes} of {before} memberships, more than the job lets")]
     Failsafe { before: u64, removes: u64 },
     #[error("out of memory")]

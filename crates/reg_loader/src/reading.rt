@@ -51,8 +51,10 @@ impl Reading {
     fn take_header(&mut self, header: &StringRecord) -> Result<(), TableFault>
         requires { AllText (fields_of header.now) }
         ensures list { self.new.list ≡ self.old.list }
-        ensures taken { OnOk result (IsFirst self.old → IsUnder self.old.list (fields_of header.now) [] self.new) }
-        ensures refused { IfErr result (λ fault. (more : List Fields) → Fails (table_of self.old.list (fields_of header.now ∷ more)) fault) }
+        ensures taken { OnOk result (IsFirst self.old
+            → IsUnder self.old.list (fields_of header.now) [] self.new) }
+        ensures refused { IfErr result (λ fault. (more : List Fields)
+            → Fails (table_of self.old.list (fields_of header.now ∷ more)) fault) }
     {
         let Some(columns) = Columns::of(header, self.list) else {
             return Err(TableFault::Bad { row: 0 });
@@ -71,8 +73,10 @@ impl Reading {
         requires header { self.old.header ≡ Some header }
         requires room { self.old.count < 2 ^ 64 - 1 }
         ensures list { self.new.list ≡ self.old.list }
-        ensures taken { OnOk result ((all : List Fields) → IsReading self.old.list all self.old → IsReading self.old.list (all ++ fields_of fields.now ∷ []) self.new) }
-        ensures refused { IfErr result (λ fault. (all more : List Fields) → IsReading self.old.list all self.old
+        ensures taken { OnOk result ((all : List Fields) → IsReading self.old.list all self.old
+            → IsReading self.old.list (all ++ fields_of fields.now ∷ []) self.new) }
+        ensures refused { IfErr result (λ fault. (all more : List Fields)
+            → IsReading self.old.list all self.old
             → Fails (table_of self.old.list (all ++ fields_of fields.now ∷ more)) fault) }
     {
         if fields.len() != header.width {
@@ -91,8 +95,10 @@ impl Reading {
     fn take(&mut self, fields: ByteRecord) -> Result<(), TableFault>
         requires room { self.old.count < 2 ^ 64 - 1 }
         ensures list { self.new.list ≡ self.old.list }
-        ensures taken { OnOk result ((all : List Fields) → IsReading self.old.list all self.old → IsReading self.old.list (all ++ fields_of fields ∷ []) self.new) }
-        ensures refused { IfErr result (λ fault. (all more : List Fields) → IsReading self.old.list all self.old
+        ensures taken { OnOk result ((all : List Fields) → IsReading self.old.list all self.old
+            → IsReading self.old.list (all ++ fields_of fields ∷ []) self.new) }
+        ensures refused { IfErr result (λ fault. (all more : List Fields)
+            → IsReading self.old.list all self.old
             → Fails (table_of self.old.list (all ++ fields_of fields ∷ more)) fault) }
     {
         let Ok(fields) = StringRecord::from_byte_record(fields) else {
@@ -106,7 +112,8 @@ impl Reading {
 
     /// What the records say, where no more come.
     fn finish(self) -> Result<Table, TableFault>
-        ensures { (all : List Fields) → IsReading self.list all self → Answers (table_of self.list all) result }
+        ensures { (all : List Fields) → IsReading self.list all self
+            → Answers (table_of self.list all) result }
     {
         if self.count == 0 {
             return Err(TableFault::Bad { row: 0 });

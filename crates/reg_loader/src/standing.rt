@@ -22,7 +22,8 @@ fn person_key(group: GroupId, row: &MemberRow) -> Option<Key>
 
 /// Adds the person of a row of a group, if it names one.
 fn add_key(found: &mut Vec<Key>, group: GroupId, row: &MemberRow) -> Result<(), AllocError>
-    ensures { OnOk result (found.new.items ≡ found.old.items ++ cons_option (person_key group row.now) []) }
+    ensures { OnOk result (found.new.items
+        ≡ found.old.items ++ cons_option (person_key group row.now) []) }
 {
     if let Some(key) = person_key(group, row) {
         found.push(key)?;
@@ -32,7 +33,8 @@ fn add_key(found: &mut Vec<Key>, group: GroupId, row: &MemberRow) -> Result<(), 
 
 /// Adds the persons of rows of a group.
 fn add_keys(found: &mut Vec<Key>, group: GroupId, rows: &[MemberRow]) -> Result<(), AllocError>
-    ensures { OnOk result (found.new.items ≡ found.old.items ++ filter_map (person_key group) rows.now) }
+    ensures { OnOk result (found.new.items
+        ≡ found.old.items ++ filter_map (person_key group) rows.now) }
 {
     for row in rows {
         add_key(found, group, row)?;
@@ -55,7 +57,8 @@ fn add_persons(
 
 /// Whether a list job of a folder has a group.
 fn is_listed(facts: &Facts, folder: FolderId, row: &GroupRow) -> bool
-    ensures { result ≡ ((row.now.folder == folder) && not (is_composite row.now.id facts.now.composites)) }
+    ensures { result ≡ ((row.now.folder == folder)
+        && not (is_composite row.now.id facts.now.composites)) }
 {
     row.folder.number() == folder.number() && !facts.is_composite(row.id)
 }

@@ -1,5 +1,6 @@
 // A table walked record by record.
-ghost use Rattle.std.specs.Prelude.{◌≡◌, ◌<◌, ◌+◌, ◌-◌, ◌^◌, ◌++◌, ◌∷◌, [], List, map, IfOk, OnOk, string_bytes, if◌then◌else◌};
+ghost use Rattle.std.specs.Prelude.{◌≡◌, ◌<◌, ◌+◌, ◌-◌, ◌^◌, ◌++◌, ◌∷◌, [], List, map, IfOk, OnOk};
+ghost use Rattle.std.specs.Prelude.{string_bytes, if◌then◌else◌};
 ghost use Rattle.std.specs.List.{position_or_len};
 ghost use Rattle.std.specs.Str.{bytes_eq};
 ghost use Rattle.indexmap.specs.IndexSet.{insert_key};
@@ -30,8 +31,10 @@ pub(crate) struct Walked {
 
 /// The place of a name in a set, where it goes behind the others if it isn't there.
 fn place_of(alloc: Global, names: &mut IndexSet<String>, text: &str) -> Result<usize, AllocError>
-    ensures names { OnOk result (map (λ t. string_bytes t) names.new.keys ≡ insert_key bytes_eq (map (λ t. string_bytes t) names.old.keys) text.now) }
-    ensures place { IfOk result (λ place. place ≡ position_or_len (bytes_eq text.now) (map (λ t. string_bytes t) names.old.keys)) }
+    ensures names { OnOk result (map (λ t. string_bytes t) names.new.keys
+        ≡ insert_key bytes_eq (map (λ t. string_bytes t) names.old.keys) text.now) }
+    ensures place { IfOk result (λ place. place
+        ≡ position_or_len (bytes_eq text.now) (map (λ t. string_bytes t) names.old.keys)) }
     ensures small { IfOk result (λ place. place < 2 ^ 63) }
 {
     if let Some(place) = names.get_index_of(text) {
@@ -52,8 +55,10 @@ fn number_of(
     mention: Mention,
     text: &str,
 ) -> Result<Option<u64>, AllocError>
-    ensures names { OnOk result (map (λ t. string_bytes t) names.new.keys ≡ with_mention mention text.now (map (λ t. string_bytes t) names.old.keys)) }
-    ensures number { IfOk result (λ n. n ≡ number (map (λ t. string_bytes t) names.old.keys) mention text.now facts.now) }
+    ensures names { OnOk result (map (λ t. string_bytes t) names.new.keys
+        ≡ with_mention mention text.now (map (λ t. string_bytes t) names.old.keys)) }
+    ensures number { IfOk result (λ n. n
+        ≡ number (map (λ t. string_bytes t) names.old.keys) mention text.now facts.now) }
 {
     match mention {
         Mention::Bad => Ok(None),
@@ -87,8 +92,11 @@ impl Walked {
     /// Takes a pair that a record names.
     fn add(&mut self, group: u64, person: SubjectId) -> Result<(), AllocError>
         requires { self.old.repeated < 2 ^ 64 - 1 }
-        ensures wanted { OnOk result (self.new.wanted.keys ≡ insert_key same_key self.old.wanted.keys (group, person)) }
-        ensures repeated { OnOk result (self.new.repeated ≡ self.old.repeated + (if is_among (group, person) self.old.wanted.keys then 1 else 0)) }
+        ensures wanted { OnOk result (self.new.wanted.keys
+            ≡ insert_key same_key self.old.wanted.keys (group, person)) }
+        ensures repeated { OnOk result (self.new.repeated
+            ≡ self.old.repeated + (if is_among (group, person) self.old.wanted.keys then 1
+            else 0)) }
         ensures names { self.new.names ≡ self.old.names }
         ensures unknown { self.new.unknown ≡ self.old.unknown }
         ensures bad_group { self.new.bad_group ≡ self.old.bad_group }
@@ -112,7 +120,8 @@ impl Walked {
         requires unknown { self.old.unknown < 2 ^ 64 - 1 }
         requires repeated { self.old.repeated < 2 ^ 64 - 1 }
         requires bad_group { self.old.bad_group < 2 ^ 64 - 1 }
-        ensures { OnOk result ((rows : List RowSeen) → IsWalkedBy job.now facts.now rows self.old → IsWalkedBy job.now facts.now (rows ++ row.now ∷ []) self.new) }
+        ensures { OnOk result ((rows : List RowSeen) → IsWalkedBy job.now facts.now rows self.old
+            → IsWalkedBy job.now facts.now (rows ++ row.now ∷ []) self.new) }
     {
         let group = number_of(alloc, facts, &mut self.names, mention, group_text(row))?;
         let Some(group) = group else {

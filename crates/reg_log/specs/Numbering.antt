@@ -5,7 +5,14 @@ use Rattle.reg_log.specs.declared.entries.Line.{Line}
 
 -- a line of the log with its number
 abbrev pub entry_of : ℕ → Line → Entry
-entry_of n line = record { seq = n; at = line.at; kind = line.kind; object = line.object; entity = line.entity; number = line.number }
+entry_of n line = record {
+  seq = n;
+  at = line.at;
+  kind = line.kind;
+  object = line.object;
+  entity = line.entity;
+  number = line.number;
+}
 
 -- lines behind a place, each with its number
 abbrev pub numbered : ℕ → List Line → List Entry

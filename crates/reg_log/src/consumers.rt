@@ -1,5 +1,6 @@
 // How far each consumer has read.
-ghost use Rattle.std.specs.Prelude.{◌≡◌, ℕ, List, None, Some, Ok, Err, IsSome, OnOk, OnErr, option_map, nat_lt, ◌||◌, if◌then◌else◌};
+ghost use Rattle.std.specs.Prelude.{◌≡◌, ℕ, List, None, Some, Ok, Err, IsSome, OnOk, OnErr};
+ghost use Rattle.std.specs.Prelude.{option_map, nat_lt, ◌||◌, if◌then◌else◌};
 ghost use Rattle.std.specs.Str.{bytes_eq};
 ghost use Rattle.reg_log.specs.Places.{place_of};
 
@@ -35,7 +36,8 @@ impl Places {
     /// Adds a consumer that has acknowledged nothing. Out of memory the places stay as they were.
     pub fn add(&mut self, name: &[u8]) -> Result<(), AllocError>
         requires { place_of self.old name.now ≡ None }
-        ensures added { OnOk result ((n : List ℕ) → place_of self.new n ≡ (if bytes_eq name.now n then Some 0 else place_of self.old n)) }
+        ensures added { OnOk result ((n : List ℕ)
+            → place_of self.new n ≡ (if bytes_eq name.now n then Some 0 else place_of self.old n)) }
         ensures err { OnErr result ((n : List ℕ) → place_of self.new n ≡ place_of self.old n) }
     {
         let key = Vec::from_slice(self.alloc, name)?;
@@ -53,7 +55,9 @@ impl Places {
     /// Moves a consumer's place to a number, whichever it was at. Where no consumer has the name
     /// nothing changes. Takes no memory.
     pub fn set(&mut self, name: &[u8], seq: u64)
-        ensures { (n : List ℕ) → place_of self.new n ≡ (if bytes_eq name.now n then option_map (λ place. seq) (place_of self.old n) else place_of self.old n) }
+        ensures { (n : List ℕ) → place_of self.new n
+            ≡ (if bytes_eq name.now n then option_map (λ place. seq) (place_of self.old n)
+            else place_of self.old n) }
     {
         if let Some(place) = self.places.get_mut(name) {
             *place = seq;
@@ -65,8 +69,11 @@ impl Places {
     pub fn ack(&mut self, name: &[u8], seq: u64, last: u64) -> Result<(), Place>
         requires { IsSome (place_of self.old name.now) }
         ensures answer { (kept : ℕ) → place_of self.old name.now ≡ Some kept
-            → result ≡ (if nat_lt seq kept || nat_lt last seq then Err (record { kept = kept; last = last }) else Ok tt) }
-        ensures moved { OnOk result ((n : List ℕ) → place_of self.new n ≡ (if bytes_eq name.now n then Some seq else place_of self.old n)) }
+            → result ≡ (if nat_lt seq kept || nat_lt last seq
+            then Err (record { kept = kept; last = last }) else Ok tt) }
+        ensures moved { OnOk result ((n : List ℕ)
+            → place_of self.new n ≡ (if bytes_eq name.now n then Some seq
+            else place_of self.old n)) }
         ensures err { OnErr result ((n : List ℕ) → place_of self.new n ≡ place_of self.old n) }
     {
         let Some(kept) = self.place(name) else {

@@ -69,7 +69,14 @@ impl ChangeLog {
         number: u32,
     ) -> Result<u64, AllocError>
         ensures number { IfOk result (λ seq. seq ≡ length self.new) }
-        ensures added { OnOk result (self.new ≡ self.old ++ (record { at = at; kind = kind; object = object; entity = entity; number = number }) ∷ []) }
+        ensures added { OnOk result (self.new
+            ≡ self.old ++ (record {
+              at = at;
+              kind = kind;
+              object = object;
+              entity = entity;
+              number = number;
+            }) ∷ []) }
         ensures err { OnErr result (self.new ≡ self.old) }
     {
         self.lines.push(Line {

@@ -22,7 +22,8 @@ use Rattle.reg_facts.specs.Attributes.{assign_row, attribute_id, attribute_row, 
 use Rattle.reg_facts.specs.Grants.{object_of}
 use Rattle.reg_facts.specs.Lists.{Lists}
 use Rattle.reg_facts.specs.Sound.{AscendFrom}
-use Rattle.reg_machine.specs.Checks.{Check, fault_refusal, has_the_one, history_full, is_any, is_many, limited, may_own, missing_object, names_group, owner_checks, owner_named, owner_of, value_checks}
+use Rattle.reg_machine.specs.Checks.{Check, history_full, limited, missing_object, owner_checks, value_checks}
+use Rattle.reg_machine.specs.Assigning.{fault_refusal, has_the_one, is_any, is_many, may_own, names_group, owner_named, owner_of}
 use Rattle.reg_machine.specs.Refusals.{first_of}
 
 -- ---- the owner

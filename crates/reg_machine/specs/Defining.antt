@@ -9,5 +9,8 @@ use Rattle.reg_machine.specs.Past.{steps}
 
 -- at each moment up to the clock, and what wasn't made has none
 pub record AreDefined (history : List Stamped) (clock : ℕ) : Type 0 where
-  pub defined : (t a : ℕ) (row : AttributeRow) → t ≤ clock → attribute_row a (facts history t).attributes ≡ Some row → definition_in a (steps history clock) ≡ Some row.definition
-  pub new : (a : ℕ) → (facts history clock).made.attributes < a → definition_in a (steps history clock) ≡ None
+  pub defined : (t a : ℕ) (row : AttributeRow) → t ≤ clock
+      → attribute_row a (facts history t).attributes ≡ Some row
+      → definition_in a (steps history clock) ≡ Some row.definition
+  pub new : (a : ℕ) → (facts history clock).made.attributes < a
+      → definition_in a (steps history clock) ≡ None

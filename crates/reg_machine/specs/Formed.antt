@@ -1,4 +1,5 @@
--- What the facts of every history keep of forms and numbers: subjects have texts of persons, and no more memberships stand than may.
+-- What the facts of every history keep of forms and numbers: subjects have texts of persons, and no
+-- more memberships stand than may.
 use Rattle.std.specs.Prelude.{◌≡◌, ◌≤◌, List, true, length}
 use Rattle.std.specs.List.{AllByRecursion}
 use Rattle.reg_base.specs.Names.{is_person}

@@ -1,4 +1,5 @@
--- What a machine at a moment asks of events: they suit the facts, close no circle, and no row ends before it begins or has ended.
+-- What a machine at a moment asks of events: they suit the facts, close no circle, and no row ends
+-- before it begins or has ended.
 use Rattle.std.specs.Prelude.{◌<◌, ⊤, ℕ, List, [], ◌∷◌, IfSome}
 use Rattle.reg_terms.specs.declared.event.Event.{Event}
 use Rattle.reg_terms.specs.declared.event.Event.TheVariants.{RowAdded, RowRedated}

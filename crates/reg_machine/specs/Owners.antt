@@ -1,4 +1,5 @@
--- Which rows rules may act on: persons' rows of the groups that own a rule which takes rows away, or gives them an end.
+-- Which rows rules may act on: persons' rows of the groups that own a rule which takes rows away,
+-- or gives them an end.
 use Rattle.std.specs.Prelude.{ℕ, ◌==◌, List, Bool, false}
 use Rattle.std.specs.List.{list_any}
 use Rattle.reg_terms.specs.declared.kinds.Member.{Member}

@@ -1,5 +1,7 @@
--- The past that a history gives: its steps one after another, and by them who was a member when, the change log, and what is gone.
-use Rattle.std.specs.Prelude.{◌≡◌, ◌≤◌, ℕ, zero, suc, ◌*◌, List, [], ◌∷◌, ◌++◌, Bool, true, Option, None, Some, length, map, filter_map, option_map, if◌then◌else◌}
+-- The past that a history gives: its steps one after another, and by them who was a member when,
+-- the change log, and what is gone.
+use Rattle.std.specs.Prelude.{◌≡◌, ◌≤◌, ℕ, zero, suc, ◌*◌, List, [], ◌∷◌, ◌++◌, Bool, true, Option}
+use Rattle.std.specs.Prelude.{None, Some, length, map, filter_map, option_map, if◌then◌else◌}
 use Rattle.reg_base.specs.declared.entity.Entity.{Entity}
 use Rattle.reg_base.specs.declared.privilege.Privilege.{Privilege}
 use Rattle.reg_terms.specs.declared.command.Stamped.{Stamped}
@@ -35,18 +37,40 @@ use Rattle.reg_machine.specs.Live.{live}
 
 -- ---- steps
 
--- a date that comes, the first one after a moment: the rows that end there go, and rules act on what that ended
+-- a date that comes, the first one after a moment: the rows that end there go, and rules act on
+-- what that ended
 abbrev pub date_step : ℕ → ℕ → Lists → Step
-date_step a d f = record { at = d; before = f; events = map pair_gone (ending d f.rows); actions = date_actions a d f; after = date_passed a d f; live = live a f; live_after = live d (date_passed a d f) }
+date_step a d f = record {
+  at = d;
+  before = f;
+  events = map pair_gone (ending d f.rows);
+  actions = date_actions a d f;
+  after = date_passed a d f;
+  live = live a f;
+  live_after = live d (date_passed a d f);
+}
 
 -- a command of a caller at a moment, up to which all dates have come
 abbrev pub command_step : ℕ → Entity → Command → Lists → Step
-command_step at by command f = record { at = at; before = f; events = events_of at by command f; actions = command_actions at by command f; after = acted at by command f; live = live at f; live_after = live at (acted at by command f) }
+command_step at by command f = record {
+  at = at;
+  before = f;
+  events = events_of at by command f;
+  actions = command_actions at by command f;
+  after = acted at by command f;
+  live = live at f;
+  live_after = live at (acted at by command f);
+}
 
 -- at most n dates, each the least after the one before
 abbrev pub dates_passed_in : ℕ → ℕ → ℕ → Lists → List Step
 dates_passed_in zero a b f = []
-dates_passed_in (suc n) a b f = elim (due a b f.rows) [ None ↦ [] | Some d ↦ date_step a d f ∷ dates_passed_in n d b (date_passed a d f) ]
+dates_passed_in (suc n) a b f =
+    elim (due a b f.rows) [
+      | None ↦ []
+      | Some d ↦ date_step a d f
+          ∷ dates_passed_in n d b (date_passed a d f)
+    ]
 
 -- the dates that come after one moment and up to another
 unfoldable pub dates_passed : ℕ → ℕ → Lists → List Step
@@ -55,7 +79,9 @@ dates_passed a b f = dates_passed_in (2 * length f.rows) a b f
 -- these commands from a moment on, and the dates up to each and up to a last moment
 abbrev pub steps_after : ℕ → List Stamped → ℕ → Lists → List Step
 steps_after a [] t f = dates_passed a t f
-steps_after a (s ∷ ss) t f = dates_passed a s.at f ++ command_step s.at s.by s.command (pass a s.at f) ∷ steps_after s.at ss t (acted s.at s.by s.command (pass a s.at f))
+steps_after a (s ∷ ss) t f =
+    dates_passed a s.at f ++ command_step s.at s.by s.command (pass a s.at f)
+    ∷ steps_after s.at ss t (acted s.at s.by s.command (pass a s.at f))
 
 -- the steps of a history up to a moment
 unfoldable pub steps : List Stamped → ℕ → List Step
@@ -71,15 +97,19 @@ was_member history t g s = member (live t (facts history t)) g s
 abbrev pub IsStepBy : ℕ → Step → Type 0
 IsStepBy t step = step.at ≤ t
 
--- at each moment up to the clock the memberships and the facts are those after the last step up to it
+-- at each moment up to the clock the memberships and the facts are those after the last step up to
+-- it
 pub record AreLived (history : List Stamped) (clock : ℕ) : Type 0 where
   pub by : AllByRecursion (IsStepBy clock) (steps history clock)
-  pub lived : (t g s : ℕ) → t ≤ clock → member (live_by t (steps history clock)) g s ≡ was_member history t g s
+  pub lived : (t g s : ℕ) → t ≤ clock
+      → member (live_by t (steps history clock)) g s ≡ was_member history t g s
   pub left : (t : ℕ) → t ≤ clock → facts_by t (steps history clock) ≡ facts history t
 
 -- who was a member at a moment up to the clock stands
 abbrev pub AreKnown : List Stamped → ℕ → Type 0
-AreKnown history clock = (t g s : ℕ) → t ≤ clock → was_member history t g s ≡ true → has_subject s (facts history clock).subjects ≡ true
+AreKnown history clock =
+    (t g s : ℕ) → t ≤ clock → was_member history t g s ≡ true
+    → has_subject s (facts history clock).subjects ≡ true
 
 -- the intervals up to now in which a person was an effective member of a group
 unfoldable pub spans : List Stamped → ℕ → ℕ → ℕ → List (ℕ × Option ℕ)
@@ -88,7 +118,9 @@ spans history now g s = spans_until (λ t. was_member history t g s) now
 -- those of some persons, one person after another
 abbrev pub all_spans : List Stamped → ℕ → ℕ → List ℕ → List (ℕ × ℕ × Option ℕ)
 all_spans history now g [] = []
-all_spans history now g (s ∷ ss) = map (λ (span : ℕ × Option ℕ). (s, span.0, span.1)) (spans history now g s) ++ all_spans history now g ss
+all_spans history now g (s ∷ ss) =
+    map (λ (span : ℕ × Option ℕ). (s, span.0, span.1)) (spans history now g s)
+    ++ all_spans history now g ss
 
 -- ---- grants
 
@@ -140,12 +172,19 @@ present_name o f = if is_named o f then name_of o f else []
 
 -- an object's present name, or the one that it had when it went
 unfoldable pub last_name : List Stamped → ℕ → Object → List ℕ
-last_name history now o = elim (gone_name o (steps history now)) [ None ↦ present_name o (facts history now) | Some name ↦ name ]
+last_name history now o =
+    elim (gone_name o (steps history now))
+    [ None ↦ present_name o (facts history now) | Some name ↦ name ]
 
 -- the groups among what is gone, each with its name
 abbrev pub named_groups : List Gone → List (ℕ × List ℕ)
 named_groups [] = []
-named_groups (g ∷ gs) = elim (as_group (Some g.object)) [ None ↦ named_groups gs | Some id ↦ (id, g.name) ∷ named_groups gs ]
+named_groups (g ∷ gs) =
+    elim (as_group (Some g.object)) [
+      | None ↦ named_groups gs
+      | Some id ↦ (id, g.name)
+          ∷ named_groups gs
+    ]
 
 -- the groups that are gone, in the order in which they went, each with the name that it had then
 unfoldable pub gone_names : List Stamped → ℕ → List (ℕ × List ℕ)
@@ -154,7 +193,8 @@ gone_names history now = named_groups (all_gone (steps history now))
 -- the last group of this name
 abbrev pub last_named : List ℕ → List (ℕ × List ℕ) → Option ℕ
 last_named name [] = None
-last_named name (g ∷ gs) = option_or (last_named name gs) (if bytes_eq g.1 name then Some g.0 else None)
+last_named name (g ∷ gs) =
+    option_or (last_named name gs) (if bytes_eq g.1 name then Some g.0 else None)
 
 -- the group that went last of those that are gone and had this name then
 abbrev pub gone_named : List ℕ → List Stamped → ℕ → Option ℕ

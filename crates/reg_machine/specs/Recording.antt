@@ -31,27 +31,52 @@ recording now audit = record { now = now; audit = audit }
 
 -- what rules do after some events
 abbrev pub actions_after : Now → List Event → List Action
-actions_after now es = settling (ended (live now.clock now.facts) (live now.clock (all_happened es now.facts))) now.clock (all_happened es now.facts)
+actions_after now es =
+    settling (ended (live now.clock now.facts) (live now.clock (all_happened es now.facts)))
+    now.clock (all_happened es now.facts)
 
 -- the facts after some events and what follows them
 abbrev pub settled_after : Now → List Event → Lists
-settled_after now es = settle (ended (live now.clock now.facts) (live now.clock (all_happened es now.facts))) now.clock (all_happened es now.facts)
+settled_after now es =
+    settle (ended (live now.clock now.facts) (live now.clock (all_happened es now.facts))) now.clock
+    (all_happened es now.facts)
 
 -- the step that some events make, with what rules do after them
 abbrev pub carried_step : Now → List Event → Step
-carried_step now es = record { at = now.clock; before = now.facts; events = es; actions = actions_after now es; after = settled_after now es; live = live now.clock now.facts; live_after = live now.clock (settled_after now es) }
+carried_step now es = record {
+  at = now.clock;
+  before = now.facts;
+  events = es;
+  actions = actions_after now es;
+  after = settled_after now es;
+  live = live now.clock now.facts;
+  live_after = live now.clock (settled_after now es);
+}
 
--- the step that leads from facts with live data L by events to facts at a moment, with what rules do then
+-- the step that leads from facts with live data L by events to facts at a moment, with what rules
+-- do then
 abbrev pub settled_step : ℕ → Lists → List Event → Live → Lists → Step
-settled_step at before es L f = record { at = at; before = before; events = es; actions = settling (ended L (live at f)) at f; after = settle (ended L (live at f)) at f; live = L; live_after = live at (settle (ended L (live at f)) at f) }
+settled_step at before es L f = record {
+  at = at;
+  before = before;
+  events = es;
+  actions = settling (ended L (live at f)) at f;
+  after = settle (ended L (live at f)) at f;
+  live = L;
+  live_after = live at (settle (ended L (live at f)) at f);
+}
 
 -- the most steps that they take
 abbrev pub carried_steps : Now → List Event → ℕ
-carried_steps now es = events_steps now.clock es now.facts + most_steps_of (changes_by (actions_after now es)) (live now.clock (all_happened es now.facts))
+carried_steps now es =
+    events_steps now.clock es now.facts
+    + most_steps_of (changes_by (actions_after now es)) (live now.clock (all_happened es now.facts))
 
 -- a record has a step more, where that comes after the others
 abbrev pub Records : Audit → Audit → Step → Type 0
-Records old new step = (steps : List Step) → IsAudit steps old → FollowsOn steps step → IsAudit (steps ++ step ∷ []) new
+Records old new step =
+    (steps : List Step) → IsAudit steps old → FollowsOn steps step
+    → IsAudit (steps ++ step ∷ []) new
 
 -- what stands is what the history gives, and the record is of its steps
 pub record IsRecorded (history : List Stamped) (recording : Recording) : Type 0 where

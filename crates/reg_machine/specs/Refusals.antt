@@ -20,6 +20,9 @@ abbrev pub or_else : Option Refusal → Option Refusal → Option Refusal
 or_else None other = other
 or_else (Some refusal) other = Some refusal
 
--- the first refusal of a command of a caller after a history, at a moment: who is no caller, what isn't found or seen, what the caller lacks, and then all else
+-- the first refusal of a command of a caller after a history, at a moment: who is no caller, what
+-- isn't found or seen, what the caller lacks, and then all else
 unfoldable pub refusal : List Stamped → ℕ → Entity → Command → Option Refusal
-refusal history at by command = or_else (refused (live at (facts history at)) (facts history at) by command) (first_of (checks history (length (log history at)) at (facts history at) by command))
+refusal history at by command =
+    or_else (refused (live at (facts history at)) (facts history at) by command)
+    (first_of (checks history (length (log history at)) at (facts history at) by command))

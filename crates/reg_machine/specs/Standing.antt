@@ -45,4 +45,5 @@ pub record IsLived (at : ℕ) (f : Lists) (o : Object) (life : Option (ℕ × Op
 pub record AreStood (history : List Stamped) (clock : ℕ) : Type 0 where
   pub sound : IsSound (facts history clock)
   pub lived : (o : Object) → IsLived clock (facts history clock) o (life_of o (steps history clock))
-  pub stood : (o : Object) (t : ℕ) → t ≤ clock → stands o (facts history t) ≡ lives_at t (life_of o (steps history clock))
+  pub stood : (o : Object) (t : ℕ) → t ≤ clock
+      → stands o (facts history t) ≡ lives_at t (life_of o (steps history clock))

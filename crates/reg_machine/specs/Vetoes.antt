@@ -9,7 +9,8 @@ use Rattle.reg_facts.specs.Lists.{Lists}
 use Rattle.reg_effect.specs.Member.{member}
 use Rattle.reg_machine.specs.Live.{live}
 
--- a rule lets a person be added to a group at a moment: where it is a veto on the group, the person is an effective member of its condition
+-- a rule lets a person be added to a group at a moment: where it is a veto on the group, the person
+-- is an effective member of its condition
 abbrev pub Lets : ℕ → ℕ → ℕ → Lists → RuleForm → Type 0
 Lets at g s f (Veto owner condition) = (owner == g) ≡ true → member (live at f) condition s ≡ true
 Lets at g s f (RemoveLost check owner) = ⊤

@@ -15,7 +15,8 @@ ghost use Rattle.reg_audit.specs.Touched.{KnowsTouched};
 ghost use Rattle.reg_machine.specs.Checks as checks;
 ghost use Rattle.reg_machine.specs.Circles.{ClosesNone};
 ghost use Rattle.reg_machine.specs.Coming.{FindsDates};
-ghost use Rattle.reg_machine.specs.Dates.{beginning, date_changes, due, ending, pair_gone, without_ended, IsNext};
+ghost use Rattle.reg_machine.specs.Dates.{beginning, date_changes, due, ending, pair_gone};
+ghost use Rattle.reg_machine.specs.Dates.{without_ended, IsNext};
 ghost use Rattle.reg_machine.specs.Holding.{Holds, AllHold};
 ghost use Rattle.reg_machine.specs.Invariant.{IsOpen};
 ghost use Rattle.reg_machine.specs.Live.{live};
@@ -36,8 +37,8 @@ use std::alloc::{AllocError, Global};
 use std::marker::Model;
 use std::sync::ledger::Ledger;
 
-/// The facts at a moment, the effective memberships, however `K` keeps them, the graph of all nested
-/// groups and factors that stand, and the dates to come. Contracts see moment and facts.
+/// The facts at a moment, the effective memberships, however `K` keeps them, the graph of all
+/// nested groups and factors that stand, and the dates to come. Contracts see moment and facts.
 #[derive(Drop)]
 pub struct Current<K: Kept> {
     moment: Moment,
@@ -57,8 +58,8 @@ impl<K: Kept> Model for Current<K> {
     ghost invariant = { λ c. IsBeside c.moment c.facts (K.held c.sets) c.graph c.dates };
 }
 
-/// Carries an event out at the clock in the kept memberships, in the graph of what stands and in the
-/// dates to come; the facts are those before it. Out of memory all three are given up.
+/// Carries an event out at the clock in the kept memberships, in the graph of what stands and in
+/// the dates to come; the facts are those before it. Out of memory all three are given up.
 fn carry_beside<K: Kept, L: Ledger>(
     kept: K,
     graph: &mut Dag,
@@ -74,11 +75,16 @@ fn carry_beside<K: Kept, L: Ledger>(
     requires stands { IsPermutation graph.old (standing facts.now.rows facts.now.composites) }
     requires found { FindsDates dates.old at facts.now.rows }
     requires suit { SuitAll (changes_of at event.now (K.held kept)) (K.held kept) }
-    ensures held { IfOk result (λ k. K.held k ≡ changed_by (changes_of at event.now (K.held kept)) (K.held kept)) }
-    ensures told { IfOk result (λ k. (M : Live) → Remembers M (K.held kept) turned.old → Remembers M (K.held k) turned.new) }
-    ensures edges { OnOk result (IsPermutation graph.new (standing (happened event.now facts.now).rows (happened event.now facts.now).composites)) }
+    ensures held { IfOk result (λ k. K.held k
+        ≡ changed_by (changes_of at event.now (K.held kept)) (K.held kept)) }
+    ensures told { IfOk result (λ k. (M : Live) → Remembers M (K.held kept) turned.old
+        → Remembers M (K.held k) turned.new) }
+    ensures edges { OnOk result
+        (IsPermutation graph.new
+        (standing (happened event.now facts.now).rows (happened event.now facts.now).composites)) }
     ensures coming { OnOk result (FindsDates dates.new at (happened event.now facts.now).rows) }
-    ensures cost { OnOk result (steps.new ≤ steps.old + most_steps_of (changes_of at event.now (K.held kept)) (K.held kept)) }
+    ensures cost { OnOk result (steps.new
+        ≤ steps.old + most_steps_of (changes_of at event.now (K.held kept)) (K.held kept)) }
 {
     let kept = carry_out(kept, at, event, turned, steps)?;
     relink(graph, facts, event)?;
@@ -153,20 +159,22 @@ impl<K: Kept> Current<K> {
         let _ = &self.facts;
     }
 
-    /// The rows that end at the next date can go one after another, which leaves the others, and the
-    /// changes of live data that the date makes suit. It does nothing.
+    /// The rows that end at the next date can go one after another, which leaves the others, and
+    /// the changes of live data that the date makes suit. It does nothing.
     fn law_date(&self, date: Moment)
         requires { due self.now.clock date self.now.facts.rows ≡ Some date }
-        ensures gone { all_happened (map pair_gone (ending date self.now.facts.rows)) self.now.facts ≡ without_ended date self.now.facts }
-        ensures suit { SuitAll (date_changes date self.now.facts) (live self.now.clock self.now.facts) }
+        ensures gone { all_happened (map pair_gone (ending date self.now.facts.rows)) self.now.facts
+            ≡ without_ended date self.now.facts }
+        ensures suit { SuitAll (date_changes date self.now.facts)
+            (live self.now.clock self.now.facts) }
     {
         let _date = date;
         self.facts.law_sound();
         self.graph.acyclic();
     }
 
-    /// What stands after an event, and whom it turns is remembered. It takes at most the steps of the
-    /// changes of live data that the event makes.
+    /// What stands after an event, and whom it turns is remembered. It takes at most the steps of
+    /// the changes of live data that the event makes.
     pub fn carry<L: Ledger>(
         self,
         alloc: Global,
@@ -175,9 +183,13 @@ impl<K: Kept> Current<K> {
         steps: &mut Steps<L>,
     ) -> Result<Current<K>, AllocError>
         requires { Holds self.clock event self.facts }
-        ensures happened { IfOk result (λ c. c ≡ record { clock = self.clock; facts = happened event self.facts }) }
-        ensures told { IfOk result (λ c. (M : Live) → Remembers M (live self.clock self.facts) turned.old → Remembers M (live c.clock c.facts) turned.new) }
-        ensures cost { OnOk result (steps.new ≤ steps.old + event_steps self.clock event self.facts) }
+        ensures happened { IfOk result (λ c. c
+            ≡ record { clock = self.clock; facts = happened event self.facts }) }
+        ensures told { IfOk result (λ c. (M : Live)
+            → Remembers M (live self.clock self.facts) turned.old
+            → Remembers M (live c.clock c.facts) turned.new) }
+        ensures cost { OnOk result (steps.new
+            ≤ steps.old + event_steps self.clock event self.facts) }
     {
         let mut current = self;
         current.facts.law_sound();
@@ -212,8 +224,8 @@ impl<K: Kept> Current<K> {
         Ok(current)
     }
 
-    /// What stands after an event, whom it turns, and the objects whose grants it may change. It takes
-    /// at most the steps of the changes of live data that the event makes.
+    /// What stands after an event, whom it turns, and the objects whose grants it may change. It
+    /// takes at most the steps of the changes of live data that the event makes.
     fn carry_told<L: Ledger>(
         self,
         alloc: Global,
@@ -223,10 +235,16 @@ impl<K: Kept> Current<K> {
         steps: &mut Steps<L>,
     ) -> Result<Current<K>, AllocError>
         requires { Holds self.clock event self.facts }
-        ensures happened { IfOk result (λ c. c ≡ record { clock = self.clock; facts = happened event self.facts }) }
-        ensures told { IfOk result (λ c. (M : Live) → Remembers M (live self.clock self.facts) turned.old → Remembers M (live c.clock c.facts) turned.new) }
-        ensures touches { IfOk result (λ c. (f : Lists) → KnowsTouched f self.facts touched.old.items → KnowsTouched f c.facts touched.new.items) }
-        ensures cost { OnOk result (steps.new ≤ steps.old + event_steps self.clock event self.facts) }
+        ensures happened { IfOk result (λ c. c
+            ≡ record { clock = self.clock; facts = happened event self.facts }) }
+        ensures told { IfOk result (λ c. (M : Live)
+            → Remembers M (live self.clock self.facts) turned.old
+            → Remembers M (live c.clock c.facts) turned.new) }
+        ensures touches { IfOk result (λ c. (f : Lists)
+            → KnowsTouched f self.facts touched.old.items
+            → KnowsTouched f c.facts touched.new.items) }
+        ensures cost { OnOk result (steps.new
+            ≤ steps.old + event_steps self.clock event self.facts) }
     {
         match put_touched(alloc, self.facts(), &event, touched) {
             Ok(()) => self.carry(alloc, event, turned, steps),
@@ -250,10 +268,16 @@ impl<K: Kept> Current<K> {
         steps: &mut Steps<L>,
     ) -> Result<Current<K>, AllocError>
         requires { AllHold self.clock events.items self.facts }
-        ensures happened { IfOk result (λ c. c ≡ record { clock = self.clock; facts = all_happened events.items self.facts }) }
-        ensures told { IfOk result (λ c. (M : Live) → Remembers M (live self.clock self.facts) turned.old → Remembers M (live c.clock c.facts) turned.new) }
-        ensures touches { IfOk result (λ c. (f : Lists) → KnowsTouched f self.facts touched.old.items → KnowsTouched f c.facts touched.new.items) }
-        ensures cost { OnOk result (steps.new ≤ steps.old + events_steps self.clock events.items self.facts) }
+        ensures happened { IfOk result (λ c. c
+            ≡ record { clock = self.clock; facts = all_happened events.items self.facts }) }
+        ensures told { IfOk result (λ c. (M : Live)
+            → Remembers M (live self.clock self.facts) turned.old
+            → Remembers M (live c.clock c.facts) turned.new) }
+        ensures touches { IfOk result (λ c. (f : Lists)
+            → KnowsTouched f self.facts touched.old.items
+            → KnowsTouched f c.facts touched.new.items) }
+        ensures cost { OnOk result (steps.new
+            ≤ steps.old + events_steps self.clock events.items self.facts) }
     {
         let mut current = self;
         for event in events {
@@ -272,8 +296,12 @@ impl<K: Kept> Current<K> {
     ) -> Result<Current<K>, AllocError>
         requires { IsNext self.clock date self.facts.rows }
         ensures moved { IfOk result (λ c. c ≡ record { clock = date; facts = self.facts }) }
-        ensures told { IfOk result (λ c. (M : Live) → Remembers M (live self.clock self.facts) turned.old → Remembers M (live c.clock c.facts) turned.new) }
-        ensures cost { OnOk result (steps.new ≤ steps.old + most_steps_of (all_on (beginning date self.facts.rows)) (live self.clock self.facts)) }
+        ensures told { IfOk result (λ c. (M : Live)
+            → Remembers M (live self.clock self.facts) turned.old
+            → Remembers M (live c.clock c.facts) turned.new) }
+        ensures cost { OnOk result (steps.new
+            ≤ steps.old + most_steps_of (all_on (beginning date self.facts.rows))
+            (live self.clock self.facts)) }
     {
         let mut current = self;
         current.facts.law_sound();
@@ -299,14 +327,15 @@ impl<K: Kept> Current<K> {
     /// The memberships that end at the next date go, one after another.
     pub fn ending(&self, alloc: Global, date: Moment) -> Result<Vec<Event>, AllocError>
         requires { self.now.clock < date }
-        ensures { IfOk result (λ events. events.items ≡ map pair_gone (ending date self.now.facts.rows)) }
+        ensures { IfOk result (λ events. events.items
+            ≡ map pair_gone (ending date self.now.facts.rows)) }
     {
         let ending = self.dates.ending(date)?;
         rows_gone(alloc, &ending)
     }
 
-    /// Goes on to the next date: the memberships that end there, whose events these are, go, and those
-    /// that begin there come on. It takes at most the steps of these.
+    /// Goes on to the next date: the memberships that end there, whose events these are, go, and
+    /// those that begin there come on. It takes at most the steps of these.
     pub fn pass_date<L: Ledger>(
         self,
         alloc: Global,
@@ -318,10 +347,17 @@ impl<K: Kept> Current<K> {
     ) -> Result<Current<K>, AllocError>
         requires due { due self.clock date self.facts.rows ≡ Some date }
         requires events { events.items ≡ map pair_gone (ending date self.facts.rows) }
-        ensures moved { IfOk result (λ c. c ≡ record { clock = date; facts = without_ended date self.facts }) }
-        ensures told { IfOk result (λ c. (M : Live) → Remembers M (live self.clock self.facts) turned.old → Remembers M (live c.clock c.facts) turned.new) }
-        ensures touches { IfOk result (λ c. (f : Lists) → KnowsTouched f self.facts touched.old.items → KnowsTouched f c.facts touched.new.items) }
-        ensures cost { OnOk result (steps.new ≤ steps.old + most_steps_of (date_changes date self.facts) (live self.clock self.facts)) }
+        ensures moved { IfOk result (λ c. c
+            ≡ record { clock = date; facts = without_ended date self.facts }) }
+        ensures told { IfOk result (λ c. (M : Live)
+            → Remembers M (live self.clock self.facts) turned.old
+            → Remembers M (live c.clock c.facts) turned.new) }
+        ensures touches { IfOk result (λ c. (f : Lists)
+            → KnowsTouched f self.facts touched.old.items
+            → KnowsTouched f c.facts touched.new.items) }
+        ensures cost { OnOk result (steps.new
+            ≤ steps.old + most_steps_of (date_changes date self.facts)
+            (live self.clock self.facts)) }
     {
         let current = self;
         current.law_rows_open();

@@ -1,12 +1,18 @@
 // What refuses a command about assignments of attributes and their values.
-ghost use Rattle.std.specs.Prelude.{◌≡◌, ◌∷◌, [], not, is_some, IfOk, IsSome, Some, true, codes, option_map};
+ghost use Rattle.std.specs.Prelude.{◌≡◌, ◌∷◌, [], not, is_some, IfOk, IsSome, Some, true, codes};
+ghost use Rattle.std.specs.Prelude.{option_map};
 ghost use Rattle.std.specs.Option.{option_copied};
 ghost use Rattle.reg_base.specs.Entities.{entity_of};
 ghost use Rattle.reg_terms.specs.Limits.{max_assigns, max_values};
 ghost use Rattle.reg_terms.specs.declared.refusal.Refusal.TheVariants.{Single, WrongValue};
 ghost use Rattle.reg_attr.specs.Checks.{suits_owner};
-ghost use Rattle.reg_facts.specs.Attributes.{assign_row, definition_of, has_assign, value_count, value_of};
-ghost use Rattle.reg_machine.specs.Checks.{assign_add_checks, assign_checks, assign_remove_checks, fault_refusal, has_the_one, history_full, is_held_once, limited, may_own, missing_object, names_group, owner_of, value_add_checks, value_checks, value_remove_checks, value_stands};
+ghost use Rattle.reg_facts.specs.Attributes.{assign_row, definition_of, has_assign, value_count};
+ghost use Rattle.reg_facts.specs.Attributes.{value_of};
+ghost use Rattle.reg_machine.specs.Checks.{assign_add_checks, assign_checks, assign_remove_checks};
+ghost use Rattle.reg_machine.specs.Checks.{history_full, limited, missing_object, value_add_checks};
+ghost use Rattle.reg_machine.specs.Checks.{value_checks, value_remove_checks};
+ghost use Rattle.reg_machine.specs.Assigning.{fault_refusal, has_the_one, is_held_once, may_own};
+ghost use Rattle.reg_machine.specs.Assigning.{names_group, owner_of, value_stands};
 ghost use Rattle.reg_machine.specs.History.{now_facts};
 ghost use Rattle.reg_machine.specs.Refusals.{first_of};
 
@@ -73,7 +79,9 @@ fn no_owner(
     text: &Text,
     found: &Option<Object>,
 ) -> Result<Option<Refusal>, AllocError>
-    ensures { IfOk result (λ refusal. refusal ≡ first_of (missing_object text.now found.now ∷ (true, Refusal.WrongKind (codes "object")) ∷ [])) }
+    ensures { IfOk result (λ refusal. refusal
+        ≡ first_of (missing_object text.now found.now ∷ (true, Refusal.WrongKind (codes "object"))
+        ∷ [])) }
 {
     if is_missing(alloc, text, found)? {
         return missing_object(alloc, text);
@@ -108,7 +116,8 @@ impl<K: Kept> Machine<K> {
     /// Whether the definition of an attribute doesn't suit an owner.
     #[tactic(auto, using(crate::proofs::Owned::definition_is))]
     fn is_unsuited(&self, attribute: AttrId, owner: &Object) -> bool
-        ensures { result ≡ not (suits_owner (definition_of attribute (now_facts self.now)) owner.now) }
+        ensures { result ≡ not (suits_owner
+            (definition_of attribute (now_facts self.now)) owner.now) }
     {
         match self.facts().definition_of(attribute) {
             Some(definition) => check_assign(self.facts(), definition.id, *owner).is_err(),
@@ -118,7 +127,9 @@ impl<K: Kept> Machine<K> {
 
     /// Full, where there is no room for an assignment more, or for a command more.
     fn decide_assign_room(&self, alloc: Global) -> Result<Option<Refusal>, AllocError>
-        ensures { IfOk result (λ found. found ≡ first_of (limited max_assigns (now_facts self.now).made.assigns (codes "assignment") ∷ history_full self.now.history ∷ [])) }
+        ensures { IfOk result (λ found. found
+            ≡ first_of (limited max_assigns (now_facts self.now).made.assigns (codes "assignment")
+            ∷ history_full self.now.history ∷ [])) }
     {
         if self.facts().made().assigns >= MAX_ASSIGNS {
             return full(alloc, "assignment", u64::from(MAX_ASSIGNS));
@@ -128,7 +139,9 @@ impl<K: Kept> Machine<K> {
 
     /// Full, where there is no room for a value more, or for a command more.
     fn decide_value_room(&self, alloc: Global) -> Result<Option<Refusal>, AllocError>
-        ensures { IfOk result (λ found. found ≡ first_of (limited max_values (value_count (now_facts self.now).assigns) (codes "value") ∷ history_full self.now.history ∷ [])) }
+        ensures { IfOk result (λ found. found
+            ≡ first_of (limited max_values (value_count (now_facts self.now).assigns)
+            (codes "value") ∷ history_full self.now.history ∷ [])) }
     {
         if self.facts().value_count() >= MAX_VALUES {
             return full(alloc, "value", MAX_VALUES as u64);
@@ -143,7 +156,9 @@ impl<K: Kept> Machine<K> {
         attribute: AttrId,
         owner: &Object,
     ) -> Result<Option<Refusal>, AllocError>
-        ensures { IfOk result (λ found. found ≡ first_of (assign_checks self.now.history (now_facts self.now) attribute (Some owner.now))) }
+        ensures { IfOk result (λ found. found
+            ≡ first_of (assign_checks self.now.history (now_facts self.now) attribute
+            (Some owner.now))) }
     {
         if self.is_held_once(attribute, owner) {
             return Ok(Some(Refusal::Already));
@@ -163,8 +178,15 @@ impl<K: Kept> Machine<K> {
         assign: AssignId,
         value: &Value,
     ) -> Result<Option<Refusal>, AllocError>
-        requires { option_map (λ row. row.attribute) (assign_row assign (now_facts self.now).assigns) ≡ Some attribute }
-        ensures { IfOk result (λ found. found ≡ first_of ((not (is_some (value_of attribute value.now (now_facts self.now))), WrongValue) ∷ (has_the_one attribute assign (now_facts self.now), Single) ∷ limited max_values (value_count (now_facts self.now).assigns) (codes "value") ∷ history_full self.now.history ∷ [])) }
+        requires { option_map (λ row. row.attribute)
+            (assign_row assign (now_facts self.now).assigns) ≡ Some attribute }
+        ensures { IfOk result (λ found. found
+            ≡ first_of ((
+              not (is_some (value_of attribute value.now (now_facts self.now))),
+              WrongValue,
+            ) ∷ (has_the_one attribute assign (now_facts self.now), Single)
+            ∷ limited max_values (value_count (now_facts self.now).assigns) (codes "value")
+            ∷ history_full self.now.history ∷ [])) }
     {
         let _attribute = attribute;
         match check_value(self.facts(), alloc, assign, value)? {
@@ -183,7 +205,9 @@ impl<K: Kept> Machine<K> {
         id: u64,
         value: &Value,
     ) -> Result<Option<Refusal>, AllocError>
-        ensures { IfOk result (λ found. found ≡ first_of (value_checks self.now.history (now_facts self.now) attribute (Some owner.now) id value.now)) }
+        ensures { IfOk result (λ found. found
+            ≡ first_of (value_checks self.now.history (now_facts self.now) attribute
+            (Some owner.now) id value.now)) }
     {
         let facts = self.facts();
         if !facts.has_assign(id, owner, attribute) {
@@ -203,7 +227,9 @@ impl<K: Kept> Machine<K> {
         attribute: &Name,
         object: &Text,
     ) -> Result<Option<Refusal>, AllocError>
-        ensures { IfOk result (λ found. found ≡ first_of (assign_add_checks self.now.history (now_facts self.now) attribute.now object.now)) }
+        ensures { IfOk result (λ found. found
+            ≡ first_of (assign_add_checks self.now.history
+            (now_facts self.now) attribute.now object.now)) }
     {
         let Some(id) = self.facts().attribute_id(attribute.as_str()) else {
             return not_found(alloc, attribute.as_str());
@@ -223,7 +249,9 @@ impl<K: Kept> Machine<K> {
         object: &Text,
         id: u64,
     ) -> Result<Option<Refusal>, AllocError>
-        ensures { IfOk result (λ found. found ≡ first_of (assign_remove_checks self.now.history (now_facts self.now) attribute.now object.now id)) }
+        ensures { IfOk result (λ found. found
+            ≡ first_of (assign_remove_checks self.now.history
+            (now_facts self.now) attribute.now object.now id)) }
     {
         let Some(attribute_id) = self.facts().attribute_id(attribute.as_str()) else {
             return not_found(alloc, attribute.as_str());
@@ -247,7 +275,9 @@ impl<K: Kept> Machine<K> {
         id: u64,
         value: &Value,
     ) -> Result<Option<Refusal>, AllocError>
-        ensures { IfOk result (λ found. found ≡ first_of (value_add_checks self.now.history (now_facts self.now) attribute.now object.now id value.now)) }
+        ensures { IfOk result (λ found. found
+            ≡ first_of (value_add_checks self.now.history
+            (now_facts self.now) attribute.now object.now id value.now)) }
     {
         let Some(attribute_id) = self.facts().attribute_id(attribute.as_str()) else {
             return not_found(alloc, attribute.as_str());
@@ -259,8 +289,8 @@ impl<K: Kept> Machine<K> {
         self.decide_value(alloc, attribute_id, &owner, id, value)
     }
 
-    /// What refuses to take a value away from the assignment of an id, which is of this attribute to
-    /// this owner, if it stands.
+    /// What refuses to take a value away from the assignment of an id, which is of this attribute
+    /// to this owner, if it stands.
     fn decide_value_gone(
         &self,
         alloc: Global,
@@ -269,7 +299,16 @@ impl<K: Kept> Machine<K> {
         id: u64,
         value: &Value,
     ) -> Result<Option<Refusal>, AllocError>
-        ensures { IfOk result (λ found. found ≡ first_of ((not (has_assign id owner.now attribute (now_facts self.now).assigns), Refusal.NoSuch) ∷ (not (value_stands (assign_row id (now_facts self.now).assigns) (value_of attribute value.now (now_facts self.now))), Refusal.NoSuch) ∷ history_full self.now.history ∷ [])) }
+        ensures { IfOk result (λ found. found
+            ≡ first_of ((
+              not (has_assign id owner.now attribute (now_facts self.now).assigns),
+              Refusal.NoSuch,
+            ) ∷ (
+              not (value_stands (assign_row id (now_facts self.now).assigns)
+                  (value_of attribute value.now (now_facts self.now))),
+              Refusal.NoSuch,
+            )
+            ∷ history_full self.now.history ∷ [])) }
     {
         let facts = self.facts();
         if !facts.has_assign(id, owner, attribute) {
@@ -291,7 +330,9 @@ impl<K: Kept> Machine<K> {
         id: u64,
         value: &Value,
     ) -> Result<Option<Refusal>, AllocError>
-        ensures { IfOk result (λ found. found ≡ first_of (value_remove_checks self.now.history (now_facts self.now) attribute.now object.now id value.now)) }
+        ensures { IfOk result (λ found. found
+            ≡ first_of (value_remove_checks self.now.history
+            (now_facts self.now) attribute.now object.now id value.now)) }
     {
         let Some(attribute_id) = self.facts().attribute_id(attribute.as_str()) else {
             return not_found(alloc, attribute.as_str());

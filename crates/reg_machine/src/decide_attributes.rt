@@ -1,7 +1,9 @@
 // What refuses a command about definitions of attributes and attributes.
 ghost use Rattle.std.specs.Prelude.{◌≡◌, ◌∷◌, [], IfOk, codes};
 ghost use Rattle.reg_terms.specs.Limits.{max_attributes, max_definitions};
-ghost use Rattle.reg_machine.specs.Checks.{attr_add_checks, attr_delete_checks, attrdef_add_checks, attrdef_delete_checks, grant_full, history_full, limited};
+ghost use Rattle.reg_machine.specs.Checks.{attr_add_checks, attr_delete_checks, attrdef_add_checks};
+ghost use Rattle.reg_machine.specs.Checks.{attrdef_delete_checks, grant_full, history_full};
+ghost use Rattle.reg_machine.specs.Checks.{limited};
 ghost use Rattle.reg_machine.specs.History.{now_facts};
 ghost use Rattle.reg_machine.specs.Refusals.{first_of};
 
@@ -21,7 +23,10 @@ impl<K: Kept> Machine<K> {
         alloc: Global,
         by: &Entity,
     ) -> Result<Option<Refusal>, AllocError>
-        ensures { IfOk result (λ found. found ≡ first_of (limited max_definitions (now_facts self.now).made.definitions (codes "definition") ∷ grant_full by.now (now_facts self.now) ∷ history_full self.now.history ∷ [])) }
+        ensures { IfOk result (λ found. found
+            ≡ first_of (limited max_definitions (now_facts self.now).made.definitions
+            (codes "definition") ∷ grant_full by.now (now_facts self.now)
+            ∷ history_full self.now.history ∷ [])) }
     {
         if self.facts().made().definitions >= MAX_DEFINITIONS {
             return full(alloc, "definition", u64::from(MAX_DEFINITIONS));
@@ -31,7 +36,9 @@ impl<K: Kept> Machine<K> {
 
     /// Full, where there is no room for an attribute more, or for a command more.
     fn decide_attribute_room(&self, alloc: Global) -> Result<Option<Refusal>, AllocError>
-        ensures { IfOk result (λ found. found ≡ first_of (limited max_attributes (now_facts self.now).made.attributes (codes "attribute") ∷ history_full self.now.history ∷ [])) }
+        ensures { IfOk result (λ found. found
+            ≡ first_of (limited max_attributes (now_facts self.now).made.attributes
+            (codes "attribute") ∷ history_full self.now.history ∷ [])) }
     {
         if self.facts().made().attributes >= MAX_ATTRIBUTES {
             return full(alloc, "attribute", u64::from(MAX_ATTRIBUTES));
@@ -45,7 +52,9 @@ impl<K: Kept> Machine<K> {
         by: &Entity,
         definition: &Name,
     ) -> Result<Option<Refusal>, AllocError>
-        ensures { IfOk result (λ found. found ≡ first_of (attrdef_add_checks self.now.history (now_facts self.now) by.now definition.now)) }
+        ensures { IfOk result (λ found. found
+            ≡ first_of (attrdef_add_checks self.now.history
+            (now_facts self.now) by.now definition.now)) }
     {
         let home_name = home_of(definition.as_str());
         let home = self.facts().folder_id(home_name);
@@ -63,7 +72,9 @@ impl<K: Kept> Machine<K> {
         alloc: Global,
         definition: &Name,
     ) -> Result<Option<Refusal>, AllocError>
-        ensures { IfOk result (λ found. found ≡ first_of (attrdef_delete_checks self.now.history (now_facts self.now) definition.now)) }
+        ensures { IfOk result (λ found. found
+            ≡ first_of (attrdef_delete_checks self.now.history
+            (now_facts self.now) definition.now)) }
     {
         let Some(id) = self.facts().definition_id(definition.as_str()) else {
             return not_found(alloc, definition.as_str());
@@ -80,7 +91,9 @@ impl<K: Kept> Machine<K> {
         attribute: &Name,
         definition: &Name,
     ) -> Result<Option<Refusal>, AllocError>
-        ensures { IfOk result (λ found. found ≡ first_of (attr_add_checks self.now.history (now_facts self.now) attribute.now definition.now)) }
+        ensures { IfOk result (λ found. found
+            ≡ first_of (attr_add_checks self.now.history
+            (now_facts self.now) attribute.now definition.now)) }
     {
         let home_name = home_of(attribute.as_str());
         let home = self.facts().folder_id(home_name);
@@ -101,7 +114,8 @@ impl<K: Kept> Machine<K> {
         alloc: Global,
         attribute: &Name,
     ) -> Result<Option<Refusal>, AllocError>
-        ensures { IfOk result (λ found. found ≡ first_of (attr_delete_checks self.now.history (now_facts self.now) attribute.now)) }
+        ensures { IfOk result (λ found. found
+            ≡ first_of (attr_delete_checks self.now.history (now_facts self.now) attribute.now)) }
     {
         let Some(id) = self.facts().attribute_id(attribute.as_str()) else {
             return not_found(alloc, attribute.as_str());

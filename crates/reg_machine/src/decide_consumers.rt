@@ -19,7 +19,8 @@ impl<K: Kept> Machine<K> {
         alloc: Global,
         consumer: &Text,
     ) -> Result<Option<Refusal>, AllocError>
-        ensures { IfOk result (λ found. found ≡ first_of (consumer_add_checks self.now.history (now_facts self.now) consumer.now)) }
+        ensures { IfOk result (λ found. found
+            ≡ first_of (consumer_add_checks self.now.history (now_facts self.now) consumer.now)) }
     {
         if self.facts().consumer_place(consumer.as_str()).is_some() {
             return taken(alloc, consumer.as_str());
@@ -36,7 +37,9 @@ impl<K: Kept> Machine<K> {
         consumer: &Text,
         seq: u64,
     ) -> Result<Option<Refusal>, AllocError>
-        ensures { IfOk result (λ found. found ≡ first_of (consumer_ack_checks self.now.history (length (log self.now.history self.now.clock)) (now_facts self.now) consumer.now seq)) }
+        ensures { IfOk result (λ found. found
+            ≡ first_of (consumer_ack_checks self.now.history
+            (length (log self.now.history self.now.clock)) (now_facts self.now) consumer.now seq)) }
     {
         let Some(kept) = self.facts().consumer_place(consumer.as_str()) else {
             return not_found(alloc, consumer.as_str());

@@ -2,7 +2,10 @@
 ghost use Rattle.std.specs.Prelude.{◌≡◌, ◌&&◌, not, is_some, IfOk, Some};
 ghost use Rattle.reg_base.specs.Entities.{entity_of};
 ghost use Rattle.reg_facts.specs.Grants.{grant_for};
-ghost use Rattle.reg_machine.specs.Checks.{grant_add_checks, grant_remove_checks, inherit_add_checks, inherit_remove_checks, bare_text, names_internal, takes_no_grant, is_foreign, is_system, is_unknown, grant_stands, inherit_stands};
+ghost use Rattle.reg_machine.specs.Checks.{grant_add_checks, grant_remove_checks};
+ghost use Rattle.reg_machine.specs.Checks.{inherit_add_checks, inherit_remove_checks, bare_text};
+ghost use Rattle.reg_machine.specs.Checks.{names_internal, takes_no_grant, is_foreign, is_system};
+ghost use Rattle.reg_machine.specs.Checks.{is_unknown, grant_stands, inherit_stands};
 ghost use Rattle.reg_machine.specs.History.{now_facts};
 ghost use Rattle.reg_machine.specs.Refusals.{first_of};
 
@@ -17,7 +20,8 @@ use std::alloc::{AllocError, Global};
 
 /// What a text names isn't found: a group by its name, and all else by the text.
 pub fn missing_object(alloc: Global, text: &Text) -> Result<Option<Refusal>, AllocError>
-    ensures { IfOk result (λ found. found ≡ Some (Refusal.NotFound (bare_text (entity_of text.now) text.now))) }
+    ensures { IfOk result (λ found. found
+        ≡ Some (Refusal.NotFound (bare_text (entity_of text.now) text.now))) }
 {
     match Entity::parse(alloc, text.bytes())? {
         Some(Entity::Group(name)) => not_found(alloc, name.as_str()),
@@ -38,7 +42,8 @@ fn names_internal(alloc: Global, text: &Text) -> Result<bool, AllocError>
 /// Whether a text, of which this object was found, names neither an object that stands nor an
 /// entity of the registry itself.
 pub fn is_missing(alloc: Global, text: &Text, found: &Option<Object>) -> Result<bool, AllocError>
-    ensures { IfOk result (λ b. b ≡ (not (is_some found.now) && not (names_internal (entity_of text.now)))) }
+    ensures { IfOk result (λ b. b
+        ≡ (not (is_some found.now) && not (names_internal (entity_of text.now)))) }
 {
     if found.is_some() {
         return Ok(false);
@@ -138,7 +143,9 @@ impl<K: Kept> Machine<K> {
         privilege: Privilege,
         holder: &Entity,
     ) -> Result<Option<Refusal>, AllocError>
-        ensures { IfOk result (λ found. found ≡ first_of (grant_add_checks self.now.history (now_facts self.now) object.now privilege holder.now)) }
+        ensures { IfOk result (λ found. found
+            ≡ first_of (grant_add_checks self.now.history
+            (now_facts self.now) object.now privilege holder.now)) }
     {
         let found = self.facts().object_of(alloc, object)?;
         if is_missing(alloc, object, &found)? {
@@ -173,7 +180,9 @@ impl<K: Kept> Machine<K> {
         privilege: Privilege,
         holder: &Entity,
     ) -> Result<Option<Refusal>, AllocError>
-        ensures { IfOk result (λ found. found ≡ first_of (grant_remove_checks self.now.history (now_facts self.now) object.now privilege holder.now)) }
+        ensures { IfOk result (λ found. found
+            ≡ first_of (grant_remove_checks self.now.history
+            (now_facts self.now) object.now privilege holder.now)) }
     {
         let found = self.facts().object_of(alloc, object)?;
         if is_missing(alloc, object, &found)? {
@@ -207,7 +216,9 @@ impl<K: Kept> Machine<K> {
         privilege: Privilege,
         holder: &Entity,
     ) -> Result<Option<Refusal>, AllocError>
-        ensures { IfOk result (λ found. found ≡ first_of (inherit_add_checks self.now.history (now_facts self.now) folder.now kind scope privilege holder.now)) }
+        ensures { IfOk result (λ found. found
+            ≡ first_of (inherit_add_checks self.now.history
+            (now_facts self.now) folder.now kind scope privilege holder.now)) }
     {
         if self.facts().folder_id(folder.as_str()).is_none() {
             return not_found(alloc, folder.as_str());
@@ -242,7 +253,9 @@ impl<K: Kept> Machine<K> {
         privilege: Privilege,
         holder: &Entity,
     ) -> Result<Option<Refusal>, AllocError>
-        ensures { IfOk result (λ found. found ≡ first_of (inherit_remove_checks self.now.history (now_facts self.now) folder.now kind scope privilege holder.now)) }
+        ensures { IfOk result (λ found. found
+            ≡ first_of (inherit_remove_checks self.now.history
+            (now_facts self.now) folder.now kind scope privilege holder.now)) }
     {
         if self.facts().folder_id(folder.as_str()).is_none() {
             return not_found(alloc, folder.as_str());

@@ -1,7 +1,8 @@
 // What refuses a load of a loader job.
 ghost use Rattle.std.specs.Prelude.{◌≡◌, None, Some, IfOk};
 ghost use Rattle.reg_load.specs.LoadChecks.{added_rows, first_fault, load_checks};
-ghost use Rattle.reg_machine.specs.Checks.{all_load_checks, load_of_checks, load_refusal, load_room_checks, row_veto, rows_veto};
+ghost use Rattle.reg_machine.specs.Checks.{all_load_checks, load_of_checks, load_refusal};
+ghost use Rattle.reg_machine.specs.Checks.{load_room_checks, row_veto, rows_veto};
 ghost use Rattle.reg_machine.specs.History.{now_facts};
 ghost use Rattle.reg_machine.specs.Live.{live};
 ghost use Rattle.reg_machine.specs.Refusals.{first_of};
@@ -23,7 +24,8 @@ impl<K: Kept> Machine<K> {
     /// The first rule that forbids a person in a group. There is none on a group that is yet to be
     /// made.
     fn row_veto(&self, row: &PersonRow) -> Option<RuleId>
-        ensures { result ≡ row_veto (live self.now.clock (now_facts self.now)) (now_facts self.now) row.now }
+        ensures { result ≡ row_veto (live self.now.clock (now_facts self.now))
+            (now_facts self.now) row.now }
     {
         if row.group > u64::from(self.facts().made().groups) {
             return None;
@@ -34,7 +36,8 @@ impl<K: Kept> Machine<K> {
 
     /// The rule that forbids the first of some rows that a rule forbids.
     fn rows_veto(&self, rows: &[PersonRow]) -> Option<RuleId>
-        ensures { result ≡ rows_veto (live self.now.clock (now_facts self.now)) (now_facts self.now) rows.now }
+        ensures { result ≡ rows_veto (live self.now.clock (now_facts self.now))
+            (now_facts self.now) rows.now }
     {
         for row in rows {
             if let Some(rule) = self.row_veto(row) {
@@ -53,8 +56,11 @@ impl<K: Kept> Machine<K> {
         removed: &[LoadRow],
         added: &[LoadRow],
     ) -> Result<Option<RuleId>, AllocError>
-        requires { first_fault (load_checks job.now created.now removed.now added.now (now_facts self.now)) ≡ None }
-        ensures { IfOk result (λ rule. rule ≡ rows_veto (live self.now.clock (now_facts self.now)) (now_facts self.now) (added_rows job.now created.now (now_facts self.now) added.now)) }
+        requires { first_fault (load_checks job.now created.now removed.now added.now
+            (now_facts self.now)) ≡ None }
+        ensures { IfOk result (λ rule. rule
+            ≡ rows_veto (live self.now.clock (now_facts self.now)) (now_facts self.now)
+            (added_rows job.now created.now (now_facts self.now) added.now)) }
     {
         let rows = added_rows(self.facts(), alloc, job, created, removed, added)?;
         Ok(self.rows_veto(&rows))
@@ -67,7 +73,8 @@ impl<K: Kept> Machine<K> {
         job: &JobRow,
         fault: LoadFault,
     ) -> Result<Option<Refusal>, AllocError>
-        ensures { IfOk result (λ found. found ≡ Some (load_refusal job.now (now_facts self.now) fault)) }
+        ensures { IfOk result (λ found. found
+            ≡ Some (load_refusal job.now (now_facts self.now) fault)) }
     {
         match fault {
             LoadFault::NotFound { object } => Ok(Some(Refusal::NotFound { object })),
@@ -93,7 +100,8 @@ impl<K: Kept> Machine<K> {
         job: &JobRow,
         room: Option<LoadFault>,
     ) -> Result<Option<Refusal>, AllocError>
-        ensures { IfOk result (λ found. found ≡ first_of (load_room_checks self.now.history job.now (now_facts self.now) room)) }
+        ensures { IfOk result (λ found. found
+            ≡ first_of (load_room_checks self.now.history job.now (now_facts self.now) room)) }
     {
         match room {
             None => self.decide_room(alloc),
@@ -115,7 +123,9 @@ impl<K: Kept> Machine<K> {
         removed: &[LoadRow],
         added: &[LoadRow],
     ) -> Result<Option<Refusal>, AllocError>
-        ensures { IfOk result (λ found. found ≡ first_of (load_of_checks self.now.history self.now.clock (now_facts self.now) by.now job.now created.now removed.now added.now)) }
+        ensures { IfOk result (λ found. found
+            ≡ first_of (load_of_checks self.now.history self.now.clock
+            (now_facts self.now) by.now job.now created.now removed.now added.now)) }
     {
         if let Some(fault) = check_load(self.facts(), alloc, job, created, removed, added)? {
             return self.load_refusal(alloc, job, fault);
@@ -137,7 +147,9 @@ impl<K: Kept> Machine<K> {
         removed: &LoadRows,
         added: &LoadRows,
     ) -> Result<Option<Refusal>, AllocError>
-        ensures { IfOk result (λ found. found ≡ first_of (all_load_checks self.now.history self.now.clock (now_facts self.now) by.now job.now created.now removed.now added.now)) }
+        ensures { IfOk result (λ found. found
+            ≡ first_of (all_load_checks self.now.history self.now.clock
+            (now_facts self.now) by.now job.now created.now removed.now added.now)) }
     {
         match self.facts().job(job.as_str()) {
             Some(row) => {

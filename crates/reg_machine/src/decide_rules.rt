@@ -1,11 +1,13 @@
 // What refuses a command about rules.
 ghost use Rattle.std.specs.Prelude.{◌≡◌, ◌∷◌, [], IfOk, codes};
 ghost use Rattle.reg_terms.specs.Limits.{max_rules};
-ghost use Rattle.reg_terms.specs.declared.command.Command.TheVariants.{RuleRemoveLost, RuleEndLost, RuleVeto};
+ghost use Rattle.reg_terms.specs.declared.command.Command.TheVariants.{RuleRemoveLost, RuleEndLost};
+ghost use Rattle.reg_terms.specs.declared.command.Command.TheVariants.{RuleVeto};
 ghost use Rattle.reg_terms.specs.declared.kinds.RuleForm.TheVariants.{EndLost};
 ghost use Rattle.reg_terms.specs.declared.refusal.Refusal.TheVariants.{Already};
 ghost use Rattle.reg_facts.specs.Rules.{form_of, has_rule, on_create_for};
-ghost use Rattle.reg_machine.specs.Checks.{rule_of_groups_checks, rule_on_create_checks, rule_delete_checks, rule_stands, limited, history_full};
+ghost use Rattle.reg_machine.specs.Checks.{rule_of_groups_checks, rule_on_create_checks};
+ghost use Rattle.reg_machine.specs.Checks.{rule_delete_checks, rule_stands, limited, history_full};
 ghost use Rattle.reg_machine.specs.History.{now_facts};
 ghost use Rattle.reg_machine.specs.Refusals.{first_of};
 
@@ -66,7 +68,9 @@ impl<K: Kept> Machine<K> {
 
     /// Full, where there is no room for a rule more, or for a command more.
     fn decide_rule_room(&self, alloc: Global) -> Result<Option<Refusal>, AllocError>
-        ensures { IfOk result (λ found. found ≡ first_of (limited max_rules (now_facts self.now).made.rules (codes "rule") ∷ history_full self.now.history ∷ [])) }
+        ensures { IfOk result (λ found. found
+            ≡ first_of (limited max_rules (now_facts self.now).made.rules (codes "rule")
+            ∷ history_full self.now.history ∷ [])) }
     {
         if self.facts().made().rules >= MAX_RULES {
             return full(alloc, "rule", u64::from(MAX_RULES));
@@ -80,7 +84,10 @@ impl<K: Kept> Machine<K> {
         alloc: Global,
         form: &Option<RuleForm>,
     ) -> Result<Option<Refusal>, AllocError>
-        ensures { IfOk result (λ found. found ≡ first_of ((rule_stands form.now (now_facts self.now), Already) ∷ limited max_rules (now_facts self.now).made.rules (codes "rule") ∷ history_full self.now.history ∷ [])) }
+        ensures { IfOk result (λ found. found
+            ≡ first_of ((rule_stands form.now (now_facts self.now), Already)
+            ∷ limited max_rules (now_facts self.now).made.rules (codes "rule")
+            ∷ history_full self.now.history ∷ [])) }
     {
         if self.rule_stands(form) {
             return Ok(Some(Refusal::Already));
@@ -94,7 +101,10 @@ impl<K: Kept> Machine<K> {
         check: &Name,
         owner: &Name,
     ) -> Result<Option<Refusal>, AllocError>
-        ensures { IfOk result (λ found. found ≡ first_of (rule_of_groups_checks self.now.history (now_facts self.now) check.now owner.now (form_of (RuleRemoveLost check.now owner.now) (now_facts self.now)))) }
+        ensures { IfOk result (λ found. found
+            ≡ first_of (rule_of_groups_checks self.now.history
+            (now_facts self.now) check.now owner.now
+            (form_of (RuleRemoveLost check.now owner.now) (now_facts self.now)))) }
     {
         let Some(check_id) = self.facts().group_id(check.as_str()) else {
             return not_found(alloc, check.as_str());
@@ -116,7 +126,10 @@ impl<K: Kept> Machine<K> {
         owner: &Name,
         days: u64,
     ) -> Result<Option<Refusal>, AllocError>
-        ensures { IfOk result (λ found. found ≡ first_of (rule_of_groups_checks self.now.history (now_facts self.now) check.now owner.now (form_of (RuleEndLost check.now owner.now days) (now_facts self.now)))) }
+        ensures { IfOk result (λ found. found
+            ≡ first_of (rule_of_groups_checks self.now.history
+            (now_facts self.now) check.now owner.now
+            (form_of (RuleEndLost check.now owner.now days) (now_facts self.now)))) }
     {
         let Some(check_id) = self.facts().group_id(check.as_str()) else {
             return not_found(alloc, check.as_str());
@@ -136,7 +149,10 @@ impl<K: Kept> Machine<K> {
         owner: &Name,
         condition: &Name,
     ) -> Result<Option<Refusal>, AllocError>
-        ensures { IfOk result (λ found. found ≡ first_of (rule_of_groups_checks self.now.history (now_facts self.now) owner.now condition.now (form_of (RuleVeto owner.now condition.now) (now_facts self.now)))) }
+        ensures { IfOk result (λ found. found
+            ≡ first_of (rule_of_groups_checks self.now.history
+            (now_facts self.now) owner.now condition.now
+            (form_of (RuleVeto owner.now condition.now) (now_facts self.now)))) }
     {
         let Some(owner_id) = self.facts().group_id(owner.as_str()) else {
             return not_found(alloc, owner.as_str());
@@ -159,7 +175,9 @@ impl<K: Kept> Machine<K> {
         privilege: Privilege,
         holder: &Entity,
     ) -> Result<Option<Refusal>, AllocError>
-        ensures { IfOk result (λ found. found ≡ first_of (rule_on_create_checks self.now.history (now_facts self.now) folder.now scope privilege holder.now)) }
+        ensures { IfOk result (λ found. found
+            ≡ first_of (rule_on_create_checks self.now.history
+            (now_facts self.now) folder.now scope privilege holder.now)) }
     {
         let Some(id) = self.facts().folder_id(folder.as_str()) else {
             return not_found(alloc, folder.as_str());
@@ -182,7 +200,8 @@ impl<K: Kept> Machine<K> {
         alloc: Global,
         id: u64,
     ) -> Result<Option<Refusal>, AllocError>
-        ensures { IfOk result (λ found. found ≡ first_of (rule_delete_checks self.now.history (now_facts self.now) id)) }
+        ensures { IfOk result (λ found. found
+            ≡ first_of (rule_delete_checks self.now.history (now_facts self.now) id)) }
     {
         if self.facts().rule(id).is_none() {
             return Ok(Some(Refusal::NoSuch));

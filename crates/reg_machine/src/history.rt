@@ -4,8 +4,9 @@ ghost use Rattle.std.specs.Prelude.{◌≡◌, ◌≤◌, ◌+◌, ◌^◌, ◌+
 use crate::unstored::Unstored;
 use reg_facts::Stamped;
 
-/// The accepted commands, in order. Their number is stored, and they themselves are not: what is answered comes
-/// from the facts and from the record of the past, which an invariant of the machine ties to them.
+/// The accepted commands, in order. Their number is stored, and they themselves are not: what is
+/// answered comes from the facts and from the record of the past, which an invariant of the machine
+/// ties to them.
 #[derive(Drop)]
 pub(crate) struct History {
     commands: Unstored<Stamped>,
@@ -33,7 +34,9 @@ impl History {
 
     /// The commands and one more. None where their number isn't to be told any more.
     pub(crate) fn then(self, stamped: &Stamped) -> Option<History>
-        ensures { MatchOption result (2 ^ 64 ≤ length self.commands.items + 1) (λ h. h.commands.items ≡ self.commands.items ++ stamped.now ∷ []) }
+        ensures { MatchOption result (2 ^ 64
+            ≤ length self.commands.items + 1) (λ h. h.commands.items
+            ≡ self.commands.items ++ stamped.now ∷ []) }
     {
         let History { commands, count } = self;
         let count = count.checked_add(1)?;

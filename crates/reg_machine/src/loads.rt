@@ -20,7 +20,10 @@ impl<K: Kept> Machine<K> {
     /// A law, which does nothing: a load that isn't refused lists no more names than groups may be
     /// made, no more rows that go than may stand, and no more that come than a table may bring.
     pub fn law_loads_few(&self)
-        ensures { (by : Entity) (job : List ℕ) (created : List (List ℕ)) (removed added : List LoadRow) → refusal self.now.history self.now.clock by (Load job created removed added) ≡ None → ListsFew created removed added }
+        ensures { (by : Entity) (job : List ℕ) (created : List (List ℕ))
+            (removed added : List LoadRow)
+            → refusal self.now.history self.now.clock by (Load job created removed added) ≡ None
+            → ListsFew created removed added }
     {
         self.law_formed();
     }
@@ -35,8 +38,11 @@ impl<K: Kept> Machine<K> {
         removed: &LoadRows,
         added: &LoadRows,
     ) -> Result<Vec<Event>, AllocError>
-        requires { refusal self.now.history self.now.clock by.now (Load job.now created.now removed.now added.now) ≡ None }
-        ensures { IfOk result (λ events. events.items ≡ load_events self.now.clock by.now created.now removed.now added.now (now_facts self.now)) }
+        requires { refusal self.now.history self.now.clock by.now
+            (Load job.now created.now removed.now added.now) ≡ None }
+        ensures { IfOk result (λ events. events.items
+            ≡ load_events self.now.clock by.now created.now removed.now added.now
+            (now_facts self.now)) }
     {
         match self.facts().job(job.as_str()) {
             Some(row) => load_events(

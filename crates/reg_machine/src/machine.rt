@@ -1,5 +1,6 @@
 // The machine.
-ghost use Rattle.std.specs.Prelude.{◌≡◌, ◌≤◌, ◌+◌, ◌++◌, ◌∷◌, ◌&&◌, [], ℕ, List, Option, IfOk, OnOk, None, Some, true, false, length};
+ghost use Rattle.std.specs.Prelude.{◌≡◌, ◌≤◌, ◌+◌, ◌++◌, ◌∷◌, ◌&&◌, [], ℕ, List, Option, IfOk};
+ghost use Rattle.std.specs.Prelude.{OnOk, None, Some, true, false, length};
 ghost use Rattle.std.specs.List.{list_any, AllByRecursion};
 ghost use Rattle.reg_base.specs.declared.entity.Entity.{Entity};
 ghost use Rattle.reg_terms.specs.declared.command.Command.{Command};
@@ -70,7 +71,8 @@ fn push_stamped(
     by: &Entity,
     command: Command,
 ) -> Result<History, Spent>
-    ensures { IfOk result (λ h. h.commands.items ≡ stamped.commands.items ++ (record { at = at; by = by.now; command = command }) ∷ []) }
+    ensures { IfOk result (λ h. h.commands.items
+        ≡ stamped.commands.items ++ (record { at = at; by = by.now; command = command }) ∷ []) }
 {
     let by = by.copy(alloc)?;
     let one = Stamped { at, by, command };
@@ -94,9 +96,14 @@ impl<K: Kept> Model for Machine<K> {
 
     ghost Value = { State };
 
-    ghost view = { λ m. record { history = m.stamped.commands.items; clock = m.recorded.value.current.clock } };
+    ghost view = { λ m. record {
+      history = m.stamped.commands.items;
+      clock = m.recorded.value.current.clock;
+    } };
 
-    ghost invariant = { λ m. IsRecorded m.stamped.commands.items (recording m.recorded.value.current m.recorded.value.audit) };
+    ghost invariant = { λ m.
+        IsRecorded m.stamped.commands.items
+        (recording m.recorded.value.current m.recorded.value.audit) };
 }
 
 impl<K: Kept> Machine<K> {
@@ -179,27 +186,35 @@ impl<K: Kept> Machine<K> {
     }
 
     /// What stands from the clock on, as long as no command comes: nothing that is live changes
-    /// between two dates, and a row on which no rule acts is on from its beginning until just before
-    /// its end. It does nothing.
+    /// between two dates, and a row on which no rule acts is on from its beginning until just
+    /// before its end. It does nothing.
     fn law_stays(&self)
-        ensures between { (u : ℕ) → self.now.clock ≤ u → due self.now.clock u (now_facts self.now).rows ≡ None → live u (facts self.now.history u) ≡ live self.now.clock (now_facts self.now) }
-        ensures on { (u g : ℕ) (m : Member) → self.now.clock ≤ u → may_lose g m (now_facts self.now).rules ≡ false → has_live_row g m (live u (facts self.now.history u)).rows ≡ list_any (λ (row : MemberRow). is_row g m row && is_on u row) (now_facts self.now).rows }
+        ensures between { (u : ℕ) → self.now.clock ≤ u
+            → due self.now.clock u (now_facts self.now).rows ≡ None
+            → live u (facts self.now.history u) ≡ live self.now.clock (now_facts self.now) }
+        ensures on { (u g : ℕ) (m : Member) → self.now.clock ≤ u
+            → may_lose g m (now_facts self.now).rules ≡ false
+            → has_live_row g m (live u (facts self.now.history u)).rows
+            ≡ list_any (λ (row : MemberRow). is_row g m row
+            && is_on u row) (now_facts self.now).rows }
     {
         self.recorded.current().law_rows_open();
     }
 
-    /// The facts after one command more at the clock are those that it makes of the facts now. It does
-    /// nothing.
+    /// The facts after one command more at the clock are those that it makes of the facts now. It
+    /// does nothing.
     #[tactic(auto, using(crate::proofs::Moments::facts_push))]
     pub fn acts(&self)
-        ensures { (by : Entity) (command : Command) → facts (appended self.now by command).history self.now.clock ≡ acted self.now.clock by command (now_facts self.now) }
+        ensures { (by : Entity) (command : Command)
+            → facts (appended self.now by command).history self.now.clock
+            ≡ acted self.now.clock by command (now_facts self.now) }
     {
         let _ = &self.stamped;
     }
 
-    /// After each step of the history, a date that came or a command, who stopped being an effective
-    /// member of a group by it has no membership that is on in the owner of a rule that takes it away.
-    /// It does nothing.
+    /// After each step of the history, a date that came or a command, who stopped being an
+    /// effective member of a group by it has no membership that is on in the owner of a rule that
+    /// takes it away. It does nothing.
     pub fn law_lost(&self)
         ensures { AllByRecursion TakesLost (steps self.now.history self.now.clock) }
     {
@@ -207,19 +222,31 @@ impl<K: Kept> Machine<K> {
         reg_rules::law_lost();
     }
 
-    /// Each command of the history that adds a person to a group found the person, at its moment and by
-    /// the facts before it, an effective member of the condition of each veto on the group; and so did
-    /// each load that adds persons to groups, but for the groups that it made. It does nothing.
+    /// Each command of the history that adds a person to a group found the person, at its moment
+    /// and by the facts before it, an effective member of the condition of each veto on the group;
+    /// and so did each load that adds persons to groups, but for the groups that it made. It does
+    /// nothing.
     pub fn law_vetoed(&self)
-        ensures members { (before after : List Stamped) (at : ℕ) (by : Entity) (group : List ℕ) (who : Entity) (from until : Option ℕ) (person : ℕ) → self.now.history ≡ before ++ (record { at = at; by = by; command = MemberAdd group who from until }) ∷ after → edits.member_of who (facts before at) ≡ Some (Person person) → AllLet at (edits.the_id (group_id group (facts before at))) person (facts before at) }
-        ensures loads { (before after : List Stamped) (at : ℕ) (by : Entity) (name : List ℕ) (created : List (List ℕ)) (removed added : List LoadRow) (job : JobRow) → self.now.history ≡ before ++ (record { at = at; by = by; command = Load name created removed added }) ∷ after → job_by name (facts before at).jobs ≡ Some job → AllByRecursion (IsLet at (facts before at)) (added_rows job created (facts before at) added) }
+        ensures members { (before after : List Stamped) (at : ℕ) (by : Entity) (group : List ℕ)
+            (who : Entity) (from until : Option ℕ) (person : ℕ)
+            → self.now.history ≡ before
+            ++ (record { at = at; by = by; command = MemberAdd group who from until }) ∷ after
+            → edits.member_of who (facts before at) ≡ Some (Person person)
+            → AllLet at (edits.the_id (group_id group (facts before at))) person (facts before at) }
+        ensures loads { (before after : List Stamped) (at : ℕ) (by : Entity) (name : List ℕ)
+            (created : List (List ℕ)) (removed added : List LoadRow) (job : JobRow)
+            → self.now.history ≡ before
+            ++ (record { at = at; by = by; command = Load name created removed added }) ∷ after
+            → job_by name (facts before at).jobs ≡ Some job
+            → AllByRecursion (IsLet at (facts before at))
+            (added_rows job created (facts before at) added) }
     {
         self.law_legal();
     }
 
-    /// The machine at the next date: the rows that end there go, those that begin there come on, and
-    /// rules do what follows. It takes at most the steps that the dates after it leave of those up to
-    /// any later moment.
+    /// The machine at the next date: the rows that end there go, those that begin there come on,
+    /// and rules do what follows. It takes at most the steps that the dates after it leave of those
+    /// up to any later moment.
     fn pass_date<L: Ledger>(
         self,
         alloc: Global,
@@ -228,7 +255,9 @@ impl<K: Kept> Machine<K> {
     ) -> Result<Machine<K>, Spent>
         requires { due self.clock date (now_facts self).rows ≡ Some date }
         ensures moved { IfOk result (λ m. m ≡ record { history = self.history; clock = date }) }
-        ensures cost { OnOk result ((u : ℕ) → due self.clock u (now_facts self).rows ≡ Some date → steps.new + pass_steps date u (facts self.history date) ≤ steps.old + pass_steps self.clock u (now_facts self)) }
+        ensures cost { OnOk result ((u : ℕ) → due self.clock u (now_facts self).rows ≡ Some date
+            → steps.new + pass_steps date u (facts self.history date)
+            ≤ steps.old + pass_steps self.clock u (now_facts self)) }
     {
         let Machine { stamped, recorded } = self;
         recorded.audit().law_follows();
@@ -237,9 +266,9 @@ impl<K: Kept> Machine<K> {
     }
 
     /// Sets the clock forward, and changes nothing else: the dates of memberships up to the new
-    /// moment come, one after another, and rules do what follows each. It takes at most the steps of
-    /// what these dates and the rules change, and where no date comes it is a look at the first dates
-    /// to come.
+    /// moment come, one after another, and rules do what follows each. It takes at most the steps
+    /// of what these dates and the rules change, and where no date comes it is a look at the first
+    /// dates to come.
     pub fn advance<L: Ledger>(
         self,
         alloc: Global,
@@ -248,12 +277,16 @@ impl<K: Kept> Machine<K> {
     ) -> Result<Machine<K>, Spent>
         requires { self.clock ≤ to }
         ensures moved { IfOk result (λ m. m ≡ record { history = self.history; clock = to }) }
-        ensures cost { OnOk result (steps.new ≤ steps.old + pass_steps self.clock to (now_facts self)) }
+        ensures cost { OnOk result (steps.new
+            ≤ steps.old + pass_steps self.clock to (now_facts self)) }
 
         // As long as no command comes, nothing that is live changes between two dates, and a row on
         // which no rule acts is on from its beginning until just before its end.
-        ensures between { due self.clock to (now_facts self).rows ≡ None → live to (facts self.history to) ≡ live self.clock (now_facts self) }
-        ensures on { (g : ℕ) (m : Member) → may_lose g m (now_facts self).rules ≡ false → has_live_row g m (live to (facts self.history to)).rows ≡ list_any (λ (row : MemberRow). is_row g m row && is_on to row) (now_facts self).rows }
+        ensures between { due self.clock to (now_facts self).rows ≡ None
+            → live to (facts self.history to) ≡ live self.clock (now_facts self) }
+        ensures on { (g : ℕ) (m : Member) → may_lose g m (now_facts self).rules ≡ false
+            → has_live_row g m (live to (facts self.history to)).rows
+            ≡ list_any (λ (row : MemberRow). is_row g m row && is_on to row) (now_facts self).rows }
     {
         let mut machine = self;
         machine.law_stays();
@@ -272,7 +305,8 @@ impl<K: Kept> Machine<K> {
         by: &Entity,
         command: &Command,
     ) -> Result<Option<Refusal>, AllocError>
-        ensures { IfOk result (λ found. found ≡ refusal self.now.history self.now.clock by.now command.now) }
+        ensures { IfOk result (λ found. found
+            ≡ refusal self.now.history self.now.clock by.now command.now) }
     {
         if let Command::MemberAdd {
             group,
@@ -297,7 +331,10 @@ impl<K: Kept> Machine<K> {
         by: &Entity,
         command: &Command,
     ) -> Result<Option<Refusal>, AllocError>
-        ensures { IfOk result (λ found. found ≡ first_of (checks.checks self.now.history (length (log self.now.history self.now.clock)) self.now.clock (now_facts self.now) by.now command.now)) }
+        ensures { IfOk result (λ found. found
+            ≡ first_of (checks.checks self.now.history
+            (length (log self.now.history self.now.clock)) self.now.clock
+            (now_facts self.now) by.now command.now)) }
     {
         match command {
             Command::FolderAdd { folder, .. } => self.decide_folder_add(alloc, by, folder),
@@ -420,21 +457,23 @@ impl<K: Kept> Machine<K> {
         }
     }
 
-    /// A law, which does nothing: subjects have texts of persons, and no more memberships stand than
-    /// may.
+    /// A law, which does nothing: subjects have texts of persons, and no more memberships stand
+    /// than may.
     pub(crate) fn law_formed(&self)
         ensures { AreFormed (now_facts self.now) }
     {
         let _ = &self.stamped;
     }
 
-    /// A law, which does nothing: what a command that isn't refused makes happen suits the facts, and
-    /// can happen at the clock.
+    /// A law, which does nothing: what a command that isn't refused makes happen suits the facts,
+    /// and can happen at the clock.
     fn law_allowed(&self, by: &Entity, command: &Command)
         requires allowed { refusal self.now.history self.now.clock by.now command.now ≡ None }
         requires form { has_form command.now ≡ true }
         ensures suits { CanEdit self.now.clock by.now command.now (now_facts self.now) }
-        ensures hold { AllHold self.now.clock (events_of self.now.clock by.now command.now (now_facts self.now)) (now_facts self.now) }
+        ensures hold { AllHold self.now.clock
+            (events_of self.now.clock by.now command.now (now_facts self.now))
+            (now_facts self.now) }
     {
         let _ = by;
         let _ = command;
@@ -458,8 +497,11 @@ impl<K: Kept> Machine<K> {
     ) -> Result<Vec<Event>, AllocError>
         requires allowed { refusal self.now.history self.now.clock by.now command.now ≡ None }
         requires form { has_form command.now ≡ true }
-        ensures events { IfOk result (λ events. events.items ≡ events_of self.now.clock by.now command.now (now_facts self.now)) }
-        ensures hold { AllHold self.now.clock (events_of self.now.clock by.now command.now (now_facts self.now)) (now_facts self.now) }
+        ensures events { IfOk result (λ events. events.items
+            ≡ events_of self.now.clock by.now command.now (now_facts self.now)) }
+        ensures hold { AllHold self.now.clock
+            (events_of self.now.clock by.now command.now (now_facts self.now))
+            (now_facts self.now) }
     {
         self.law_allowed(by, command);
         match command {
@@ -473,8 +515,9 @@ impl<K: Kept> Machine<K> {
         }
     }
 
-    /// Takes a command that isn't refused into the history, at the clock, and rules do what follows.
-    /// It takes at most the steps of the changes of live data that the command and the rules make.
+    /// Takes a command that isn't refused into the history, at the clock, and rules do what
+    /// follows. It takes at most the steps of the changes of live data that the command and the
+    /// rules make.
     pub fn apply<L: Ledger>(
         self,
         alloc: Global,
@@ -485,7 +528,11 @@ impl<K: Kept> Machine<K> {
         requires allowed { refusal self.history self.clock by.now command ≡ None }
         requires form { has_form command ≡ true }
         ensures appended { IfOk result (λ m. m ≡ appended self by.now command) }
-        ensures cost { OnOk result (steps.new ≤ steps.old + carried_steps (record { clock = self.clock; facts = now_facts self }) (events_of self.clock by.now command (now_facts self))) }
+        ensures cost { OnOk result (steps.new
+            ≤ steps.old + carried_steps (record {
+              clock = self.clock;
+              facts = now_facts self;
+            }) (events_of self.clock by.now command (now_facts self))) }
     {
         let events = self.events_of(alloc, by, &command)?;
         let Machine { stamped, recorded } = self;

@@ -1,5 +1,6 @@
 // What a machine tells of the past.
-ghost use Rattle.std.specs.Prelude.{◌≡◌, ◌≤◌, ◌<◌, ◌+◌, ◌*◌, ◌^◌, ◌++◌, ◌==◌, ℕ, List, length, true, None, Some, IfOk};
+ghost use Rattle.std.specs.Prelude.{◌≡◌, ◌≤◌, ◌<◌, ◌+◌, ◌*◌, ◌^◌, ◌++◌, ◌==◌, ℕ, List, length};
+ghost use Rattle.std.specs.Prelude.{true, None, Some, IfOk};
 ghost use Rattle.std.specs.List.{list_any, AllByRecursion};
 ghost use Rattle.std.specs.List.Sorted.{IsStrictlySortedBy};
 ghost use Rattle.std.specs.Option.{option_copied};
@@ -25,7 +26,9 @@ ghost use Rattle.reg_audit.specs.Lives.{gone_name};
 ghost use Rattle.reg_machine.specs.History.{facts, now_facts};
 ghost use Rattle.reg_machine.specs.Invariant.{IsFrom};
 ghost use Rattle.reg_machine.specs.Standing.{lives_at, stands};
-ghost use Rattle.reg_machine.specs.Past.{all_spans, def_of, end_of, gone, gone_by_id, gone_named, grant_spans, group_end, last_name, life, log, present_name, spans, steps, was_granted, was_member};
+ghost use Rattle.reg_machine.specs.Past.{all_spans, def_of, end_of, gone, gone_by_id, gone_named};
+ghost use Rattle.reg_machine.specs.Past.{grant_spans, group_end, last_name, life, log};
+ghost use Rattle.reg_machine.specs.Past.{present_name, spans, steps, was_granted, was_member};
 
 use crate::Machine;
 use reg_base::{AttrDefId, AttrId, GroupId, Moment, Privilege, Steps, SubjectId, Text};
@@ -82,7 +85,9 @@ fn told_name(
     facts: &Facts,
     object: &Object,
 ) -> Result<Text, AllocError>
-    ensures { IfOk result (λ name. name ≡ elim (option_copied gone.entry) [ None ↦ present_name object.now facts.now | Some x ↦ x ]) }
+    ensures { IfOk result (λ name. name
+        ≡ elim (option_copied gone.entry)
+        [ None ↦ present_name object.now facts.now | Some x ↦ x ]) }
 {
     match gone {
         Some(name) => name.copy(alloc),
@@ -142,13 +147,14 @@ impl<K: Kept> Machine<K> {
 
     /// How far each consumer of the change log has read. Takes no memory.
     pub fn places(&self) -> &Places
-        ensures { (name : List ℕ) → place_of result.now name ≡ consumer_place name (now_facts self.now).consumers }
+        ensures { (name : List ℕ)
+            → place_of result.now name ≡ consumer_place name (now_facts self.now).consumers }
     {
         self.recorded.audit().places()
     }
 
-    /// Whether a person was an effective member of a group at a moment up to the clock. A step is one
-    /// interval looked at. Takes no memory.
+    /// Whether a person was an effective member of a group at a moment up to the clock. A step is
+    /// one interval looked at. Takes no memory.
     pub fn was_member<L: Ledger>(
         &self,
         group: GroupId,
@@ -159,7 +165,8 @@ impl<K: Kept> Machine<K> {
         requires { t ≤ self.now.clock }
         ensures value { result ≡ was_member self.now.history t group subject }
         ensures looks { steps.new ≤ steps.old + 1 }
-        ensures cost { (n : ℕ) → steps.new ≡ steps.old + n → 2 ^ n ≤ 2 * length (spans self.now.history self.now.clock group subject) + 1 }
+        ensures cost { (n : ℕ) → steps.new ≡ steps.old + n
+            → 2 ^ n ≤ 2 * length (spans self.now.history self.now.clock group subject) + 1 }
     {
         let past = self.recorded.audit().past();
         past.law_noted_later();
@@ -167,46 +174,52 @@ impl<K: Kept> Machine<K> {
         past.was_member(group, subject, t, steps)
     }
 
-    /// Who was an effective member of a group at a moment up to the clock, by id. Costs what was ever
-    /// noted of the group.
+    /// Who was an effective member of a group at a moment up to the clock, by id. Costs what was
+    /// ever noted of the group.
     pub fn members_at(&self, group: GroupId, t: Moment) -> Result<Vec<SubjectId>, AllocError>
         requires { t ≤ self.now.clock }
-        ensures { IfOk result (λ persons. Lists (λ s. was_member self.now.history t group s) persons.items) }
+        ensures { IfOk result (λ persons.
+            Lists (λ s. was_member self.now.history t group s) persons.items) }
     {
         self.recorded.audit().past().members_at(group, t)
     }
 
-    /// The groups of which a person was an effective member at a moment up to the clock, by id. Costs
-    /// what was ever noted of the person.
+    /// The groups of which a person was an effective member at a moment up to the clock, by id.
+    /// Costs what was ever noted of the person.
     pub fn groups_at(&self, subject: SubjectId, t: Moment) -> Result<Vec<GroupId>, AllocError>
         requires { t ≤ self.now.clock }
-        ensures { IfOk result (λ groups. Lists (λ g. was_member self.now.history t g subject) groups.items) }
+        ensures { IfOk result (λ groups.
+            Lists (λ g. was_member self.now.history t g subject) groups.items) }
     {
         self.recorded.audit().past().groups_at(subject, t)
     }
 
-    /// The intervals up to the clock in which a person was an effective member of a group: each from
-    /// the moment at which it began until just before the one at which it ended, none empty, no two
-    /// touching, in order.
+    /// The intervals up to the clock in which a person was an effective member of a group: each
+    /// from the moment at which it began until just before the one at which it ended, none empty,
+    /// no two touching, in order.
     pub fn spans(
         &self,
         group: GroupId,
         subject: SubjectId,
     ) -> Result<Vec<(Moment, Option<Moment>)>, AllocError>
-        ensures { IfOk result (λ rows. rows.items ≡ spans self.now.history self.now.clock group subject) }
+        ensures { IfOk result (λ rows. rows.items
+            ≡ spans self.now.history self.now.clock group subject) }
     {
         let past = self.recorded.audit().past();
         past.law_noted_later();
         past.spans(group, subject)
     }
 
-    /// All those intervals of a group, by person and then by their start. Costs what was ever noted of
-    /// the group.
+    /// All those intervals of a group, by person and then by their start. Costs what was ever noted
+    /// of the group.
     pub fn history_of(
         &self,
         group: GroupId,
     ) -> Result<Vec<(SubjectId, Moment, Option<Moment>)>, AllocError>
-        ensures { IfOk result (λ rows. (ids : List ℕ) → IsStrictlySortedBy nat_cmp ids → ((t s : ℕ) → t ≤ self.now.clock → was_member self.now.history t group s ≡ true → list_any (λ x. x == s) ids ≡ true) → rows.items ≡ all_spans self.now.history self.now.clock group ids) }
+        ensures { IfOk result (λ rows. (ids : List ℕ) → IsStrictlySortedBy nat_cmp ids
+            → ((t s : ℕ) → t ≤ self.now.clock → was_member self.now.history t group s ≡ true
+            → list_any (λ x. x == s) ids ≡ true)
+            → rows.items ≡ all_spans self.now.history self.now.clock group ids) }
     {
         let past = self.recorded.audit().past();
         past.law_noted_later();
@@ -215,8 +228,8 @@ impl<K: Kept> Machine<K> {
         past.history_of(group)
     }
 
-    /// Whether a holder had a privilege on an object, by a grant or an inherit, at a moment up to the
-    /// clock. A step is one interval looked at. Takes no memory.
+    /// Whether a holder had a privilege on an object, by a grant or an inherit, at a moment up to
+    /// the clock. A step is one interval looked at. Takes no memory.
     pub fn was_granted<L: Ledger>(
         &self,
         object: Object,
@@ -228,7 +241,9 @@ impl<K: Kept> Machine<K> {
         requires { t ≤ self.now.clock }
         ensures value { result ≡ was_granted self.now.history t object privilege holder }
         ensures looks { steps.new ≤ steps.old + 1 }
-        ensures cost { (n : ℕ) → steps.new ≡ steps.old + n → 2 ^ n ≤ 2 * length (grant_spans self.now.history self.now.clock object privilege holder) + 1 }
+        ensures cost { (n : ℕ) → steps.new ≡ steps.old + n
+            → 2 ^ n ≤ 2 * length (grant_spans self.now.history self.now.clock object privilege
+            holder) + 1 }
     {
         let past = self.recorded.audit().past();
         past.law_noted_later();
@@ -236,9 +251,9 @@ impl<K: Kept> Machine<K> {
         past.was_granted(object, privilege, holder, t, steps)
     }
 
-    /// The grants that stood on an object at a moment up to the clock, direct and inherited, each pair
-    /// once: by the privilege's code, then everyone, persons by id, groups by id. Costs what was ever
-    /// noted of the object. The only error is out of memory.
+    /// The grants that stood on an object at a moment up to the clock, direct and inherited, each
+    /// pair once: by the privilege's code, then everyone, persons by id, groups by id. Costs what
+    /// was ever noted of the object. The only error is out of memory.
     pub fn grants_at(
         &self,
         object: Object,
@@ -252,8 +267,8 @@ impl<K: Kept> Machine<K> {
         Ok(found)
     }
 
-    /// The wheel group at a moment up to the clock: the group that was named `etc:sysadmingroup` then.
-    /// Takes no memory.
+    /// The wheel group at a moment up to the clock: the group that was named `etc:sysadmingroup`
+    /// then. Takes no memory.
     pub fn wheel_at(&self, t: Moment) -> Option<GroupId>
         requires { t ≤ self.now.clock }
         ensures { result ≡ wheel (facts self.now.history t) }
@@ -267,42 +282,62 @@ impl<K: Kept> Machine<K> {
     /// only error is out of memory.
     pub fn assigns_at(&self, owner: Object, t: Moment) -> Result<Vec<AssignRow>, AllocError>
         requires { t ≤ self.now.clock }
-        ensures { IfOk result (λ rows. rows.items ≡ assigns_on owner (facts self.now.history t).assigns) }
+        ensures { IfOk result (λ rows. rows.items
+            ≡ assigns_on owner (facts self.now.history t).assigns) }
     {
         let past = self.recorded.audit().past();
         let rows = past.assigns_at(owner, t)?;
         Ok(rows)
     }
 
-    /// The definition of which an attribute was made. None exactly where the attribute was never made.
-    /// Takes no memory.
+    /// The definition of which an attribute was made. None exactly where the attribute was never
+    /// made. Takes no memory.
     pub fn def_of(&self, attribute: AttrId) -> Option<AttrDefId>
         ensures { result ≡ def_of self.now.history self.now.clock attribute }
     {
         self.recorded.audit().def_of(attribute)
     }
 
-    /// Who was a member of a group at a moment up to the clock stands; what stood before a moment, no
-    /// command changes from that moment on; and an object stood at a moment up to the clock exactly
-    /// where its life has the moment, and an attribute that stood then was of the definition of which
-    /// it was made. It does nothing.
+    /// Who was a member of a group at a moment up to the clock stands; what stood before a moment,
+    /// no command changes from that moment on; and an object stood at a moment up to the clock
+    /// exactly where its life has the moment, and an attribute that stood then was of the
+    /// definition of which it was made. It does nothing.
     pub fn law_past(&self)
-        ensures stays { (before after : List Stamped) (c t : ℕ) → self.now.history ≡ before ++ after → AllByRecursion (IsFrom c) after → t < c → facts self.now.history t ≡ facts before t }
-        ensures known { (t g s : ℕ) → t ≤ self.now.clock → was_member self.now.history t g s ≡ true → has_subject s (now_facts self.now).subjects ≡ true }
-        ensures defined { (t a : ℕ) (row : AttributeRow) → t ≤ self.now.clock → attribute_row a (facts self.now.history t).attributes ≡ Some row → def_of self.now.history self.now.clock a ≡ Some row.definition }
-        ensures stood { (o : Object) (t : ℕ) → t ≤ self.now.clock → stands o (facts self.now.history t) ≡ lives_at t (life self.now.history self.now.clock o) }
+        ensures stays { (before after : List Stamped) (c t : ℕ) → self.now.history ≡ before ++ after
+            → AllByRecursion (IsFrom c) after → t < c → facts self.now.history t ≡ facts before t }
+        ensures known { (t g s : ℕ) → t ≤ self.now.clock → was_member self.now.history t g s ≡ true
+            → has_subject s (now_facts self.now).subjects ≡ true }
+        ensures defined { (t a : ℕ) (row : AttributeRow) → t ≤ self.now.clock
+            → attribute_row a (facts self.now.history t).attributes ≡ Some row
+            → def_of self.now.history self.now.clock a ≡ Some row.definition }
+        ensures stood { (o : Object) (t : ℕ) → t ≤ self.now.clock
+            → stands o (facts self.now.history t)
+            ≡ lives_at t (life self.now.history self.now.clock o) }
     {
         let _ = &self.recorded;
     }
 
-    /// Over two machines, of which one's history goes on from the other's by commands from the other's
-    /// clock on: who was a member, who held what and what was assigned is the same at every moment
-    /// before that clock. It does nothing.
+    /// Over two machines, of which one's history goes on from the other's by commands from the
+    /// other's clock on: who was a member, who held what and what was assigned is the same at every
+    /// moment before that clock. It does nothing.
     pub fn law_goes_on(&self, later: &Machine<K>)
-        ensures members { (after : List Stamped) (t g s : ℕ) → later.now.history ≡ self.now.history ++ after → AllByRecursion (IsFrom self.now.clock) after → t < self.now.clock → was_member later.now.history t g s ≡ was_member self.now.history t g s }
-        ensures granted { (after : List Stamped) (t : ℕ) (o : Object) (p : Privilege) (h : Holder) → later.now.history ≡ self.now.history ++ after → AllByRecursion (IsFrom self.now.clock) after → t < self.now.clock → was_granted later.now.history t o p h ≡ was_granted self.now.history t o p h }
-        ensures assigned { (after : List Stamped) (t : ℕ) (o : Object) → later.now.history ≡ self.now.history ++ after → AllByRecursion (IsFrom self.now.clock) after → t < self.now.clock → assigns_on o (facts later.now.history t).assigns ≡ assigns_on o (facts self.now.history t).assigns }
-        ensures stays { (after : List Stamped) (t : ℕ) → later.now.history ≡ self.now.history ++ after → AllByRecursion (IsFrom self.now.clock) after → t < self.now.clock → facts later.now.history t ≡ facts self.now.history t }
+        ensures members { (after : List Stamped) (t g s : ℕ)
+            → later.now.history ≡ self.now.history ++ after
+            → AllByRecursion (IsFrom self.now.clock) after → t < self.now.clock
+            → was_member later.now.history t g s ≡ was_member self.now.history t g s }
+        ensures granted { (after : List Stamped) (t : ℕ) (o : Object) (p : Privilege) (h : Holder)
+            → later.now.history ≡ self.now.history ++ after
+            → AllByRecursion (IsFrom self.now.clock) after → t < self.now.clock
+            → was_granted later.now.history t o p h ≡ was_granted self.now.history t o p h }
+        ensures assigned { (after : List Stamped) (t : ℕ) (o : Object)
+            → later.now.history ≡ self.now.history ++ after
+            → AllByRecursion (IsFrom self.now.clock) after → t < self.now.clock
+            → assigns_on o (facts later.now.history t).assigns
+            ≡ assigns_on o (facts self.now.history t).assigns }
+        ensures stays { (after : List Stamped) (t : ℕ)
+            → later.now.history ≡ self.now.history ++ after
+            → AllByRecursion (IsFrom self.now.clock) after → t < self.now.clock
+            → facts later.now.history t ≡ facts self.now.history t }
     {
         let _ = &later.recorded;
     }
@@ -363,8 +398,8 @@ impl<K: Kept> Machine<K> {
         self.recorded.audit().gone_named(name)
     }
 
-    /// An object's present name, or the one that it had when it went; a subject's text; empty for what
-    /// was never made. The only error is out of memory.
+    /// An object's present name, or the one that it had when it went; a subject's text; empty for
+    /// what was never made. The only error is out of memory.
     #[tactic(auto, unfolding(crate::specs::Past::last_name))]
     pub fn last_name(&self, alloc: Global, object: Object) -> Result<Text, AllocError>
         ensures { IfOk result (λ name. name ≡ last_name self.now.history self.now.clock object) }

@@ -11,7 +11,9 @@ ghost use Rattle.reg_load.specs.Loading.{AreNames};
 ghost use Rattle.reg_loader.specs.Plan.{GroupStands, counts_of, is_composite_target};
 ghost use Rattle.reg_machine.specs.History.{now_facts};
 ghost use Rattle.reg_machine.specs.Live.{live};
-ghost use Rattle.reg_machine.specs.Loads.{AreGroupsNamed, IsReady, command_of, is_list, job_outcome, load_outcome, planned_outcome, table_outcome, too_many};
+ghost use Rattle.reg_machine.specs.Loads.{AreGroupsNamed, IsReady, command_of, is_list};
+ghost use Rattle.reg_machine.specs.Loads.{job_outcome, load_outcome, planned_outcome};
+ghost use Rattle.reg_machine.specs.Loads.{table_outcome, too_many};
 ghost use Rattle.reg_machine.specs.Past.{present_name};
 ghost use Rattle.reg_machine.specs.Refusals.{refusal};
 
@@ -76,7 +78,8 @@ fn law_plan(plan: &Plan)
 
 /// The target of a job that stands stands.
 fn law_target(facts: &Facts)
-    ensures { (name : List ℕ) (job : JobRow) → job_by name facts.now.jobs ≡ Some job → GroupStands job.target facts.now }
+    ensures { (name : List ℕ) (job : JobRow) → job_by name facts.now.jobs ≡ Some job
+        → GroupStands job.target facts.now }
 {
     facts.law_jobs();
 }
@@ -142,7 +145,9 @@ impl<K: Kept> Machine<K> {
         by: &Entity,
         job: &Text,
     ) -> Result<Option<Refusal>, AllocError>
-        ensures { IfOk result (λ found. found ≡ refused (live self.now.clock (now_facts self.now)) (now_facts self.now) by.now (Load job.now [] [] [])) }
+        ensures { IfOk result (λ found. found
+            ≡ refused (live self.now.clock (now_facts self.now)) (now_facts self.now) by.now
+            (Load job.now [] [] [])) }
     {
         let command = empty_load(alloc, job)?;
         let barred = refused(alloc, self.facts(), self.kept(), by, &command);
@@ -154,7 +159,8 @@ impl<K: Kept> Machine<K> {
     /// form.
     fn law_planned(&self, by: &Entity, job: &Text, plan: &Plan)
         requires { is_extension job.now ≡ true }
-        ensures { refusal self.now.history self.now.clock by.now (command_of job.now plan.now) ≡ None → has_form (command_of job.now plan.now) ≡ true }
+        ensures { refusal self.now.history self.now.clock by.now (command_of job.now plan.now)
+            ≡ None → has_form (command_of job.now plan.now) ≡ true }
     {
         let _ = by;
         let _ = job;
@@ -171,8 +177,10 @@ impl<K: Kept> Machine<K> {
         plan: Plan,
     ) -> Result<Result<(Command, LoadCounts), Refusal>, AllocError>
         requires { is_extension job.now ≡ true }
-        ensures outcome { IfOk result (λ outcome. outcome ≡ planned_outcome self.now.history self.now.clock by.now job.now plan) }
-        ensures ready { IfOk result (λ outcome. IsReady self.now.history self.now.clock by.now outcome) }
+        ensures outcome { IfOk result (λ outcome. outcome
+            ≡ planned_outcome self.now.history self.now.clock by.now job.now plan) }
+        ensures ready { IfOk result
+            (λ outcome. IsReady self.now.history self.now.clock by.now outcome) }
     {
         self.law_planned(by, job, &plan);
         let (command, counts) = command_of(alloc, job, plan)?;
@@ -191,7 +199,8 @@ impl<K: Kept> Machine<K> {
 
     /// The refusal of a job whose one group is a composite.
     fn composite_target(&self, alloc: Global, job: &JobRow) -> Result<Refusal, AllocError>
-        ensures { IfOk result (λ reason. reason ≡ IsComposite (present_name job.now.target (now_facts self.now))) }
+        ensures { IfOk result (λ reason. reason
+            ≡ IsComposite (present_name job.now.target (now_facts self.now))) }
     {
         let object = present_name(alloc, self.facts(), &job.target)?;
         Ok(Refusal::IsComposite { object })
@@ -208,8 +217,10 @@ impl<K: Kept> Machine<K> {
     ) -> Result<Result<(Command, LoadCounts), Refusal>, AllocError>
         requires form { is_extension job.now ≡ true }
         requires stands { GroupStands row.now.target (now_facts self.now) }
-        ensures outcome { IfOk result (λ outcome. outcome ≡ table_outcome self.now.history self.now.clock by.now job.now row.now (Ok table.now)) }
-        ensures ready { IfOk result (λ outcome. IsReady self.now.history self.now.clock by.now outcome) }
+        ensures outcome { IfOk result (λ outcome. outcome
+            ≡ table_outcome self.now.history self.now.clock by.now job.now row.now (Ok table.now)) }
+        ensures ready { IfOk result
+            (λ outcome. IsReady self.now.history self.now.clock by.now outcome) }
     {
         match plan(alloc, self.facts(), self.kept(), row, table) {
             Ok(plan) => self.plan_command(alloc, by, job, plan),
@@ -235,8 +246,10 @@ impl<K: Kept> Machine<K> {
     ) -> Result<Result<(Command, LoadCounts), Refusal>, AllocError>
         requires form { is_extension job.now ≡ true }
         requires stands { GroupStands row.now.target (now_facts self.now) }
-        ensures outcome { IfOk result (λ outcome. outcome ≡ job_outcome self.now.history self.now.clock by.now job.now table.now (Some row.now)) }
-        ensures ready { IfOk result (λ outcome. IsReady self.now.history self.now.clock by.now outcome) }
+        ensures outcome { IfOk result (λ outcome. outcome
+            ≡ job_outcome self.now.history self.now.clock by.now job.now table.now (Some row.now)) }
+        ensures ready { IfOk result
+            (λ outcome. IsReady self.now.history self.now.clock by.now outcome) }
     {
         if is_composite_target(self.facts(), &row.target) {
             let refusal = self.composite_target(alloc, row)?;
@@ -253,13 +266,14 @@ impl<K: Kept> Machine<K> {
         }
     }
 
-    /// What comes of a caller's request to load the bytes of a table by the job of this name, at the
-    /// clock: the command of the table's plan, which nothing refuses, and what it does in numbers; or
-    /// the first refusal. What refuses each load of the job comes first; then IsComposite, where the
-    /// job's one group is a composite; BadTable; Full, where the table has too many records, of the
-    /// history if that is full and else of `record`; Failsafe; and then what refuses the command. It
-    /// changes nothing. The only error is out of memory. It costs what reading the table costs, a
-    /// look into names and persons for each record, and a walk over the groups.
+    /// What comes of a caller's request to load the bytes of a table by the job of this name, at
+    /// the clock: the command of the table's plan, which nothing refuses, and what it does in
+    /// numbers; or the first refusal. What refuses each load of the job comes first; then
+    /// IsComposite, where the job's one group is a composite; BadTable; Full, where the table has
+    /// too many records, of the history if that is full and else of `record`; Failsafe; and then
+    /// what refuses the command. It changes nothing. The only error is out of memory. It costs what
+    /// reading the table costs, a look into names and persons for each record, and a walk over the
+    /// groups.
     #[tactic(auto, unfolding(crate::specs::Loads::load_outcome))]
     pub fn plan_load(
         &self,
@@ -269,8 +283,10 @@ impl<K: Kept> Machine<K> {
         table: &[u8],
     ) -> Result<Result<(Command, LoadCounts), Refusal>, AllocError>
         requires { is_extension job.now ≡ true }
-        ensures outcome { IfOk result (λ outcome. outcome ≡ load_outcome self.now.history self.now.clock by.now job.now table.now) }
-        ensures ready { IfOk result (λ outcome. IsReady self.now.history self.now.clock by.now outcome) }
+        ensures outcome { IfOk result (λ outcome. outcome
+            ≡ load_outcome self.now.history self.now.clock by.now job.now table.now) }
+        ensures ready { IfOk result
+            (λ outcome. IsReady self.now.history self.now.clock by.now outcome) }
     {
         if let Some(refusal) = self.load_barred(alloc, by, job)? {
             return Ok(Err(refusal));

@@ -17,10 +17,12 @@ ghost use Rattle.reg_audit.specs.Assigning.{assign_changes, MayNote};
 ghost use Rattle.reg_audit.specs.Audit.{IsAudit};
 ghost use Rattle.reg_audit.specs.Notes.{notes_of};
 ghost use Rattle.reg_audit.specs.Touched.{KnowsTouched};
-ghost use Rattle.reg_machine.specs.Dates.{date_changes, date_passed, date_steps, due, ending, pair_gone, without_ended};
+ghost use Rattle.reg_machine.specs.Dates.{date_changes, date_passed, date_steps, due, ending};
+ghost use Rattle.reg_machine.specs.Dates.{pair_gone, without_ended};
 ghost use Rattle.reg_machine.specs.Holding.{AllHold};
 ghost use Rattle.reg_machine.specs.Live.{live};
-ghost use Rattle.reg_machine.specs.Recording.{carried_step, carried_steps, settled_after, settled_step, Records};
+ghost use Rattle.reg_machine.specs.Recording.{carried_step, carried_steps, settled_after};
+ghost use Rattle.reg_machine.specs.Recording.{settled_step, Records};
 ghost use Rattle.reg_machine.specs.Past.{date_step};
 ghost use Rattle.reg_machine.specs.Steps.{events_steps};
 
@@ -41,8 +43,9 @@ pub struct Recorded<K: Kept> {
     audit: Audit,
 }
 
-/// What stands after some events, what they change themselves, the memberships that they turn, which
-/// are remembered, and the objects whose grants they may change. It takes at most the steps of these.
+/// What stands after some events, what they change themselves, the memberships that they turn,
+/// which are remembered, and the objects whose grants they may change. It takes at most the steps
+/// of these.
 fn carried<K: Kept, L: Ledger>(
     alloc: Global,
     current: Current<K>,
@@ -50,11 +53,14 @@ fn carried<K: Kept, L: Ledger>(
     steps: &mut Steps<L>,
 ) -> Result<(Current<K>, Notes, Turned, Vec<Object>), AllocError>
     requires { AllHold current.clock events.items current.facts }
-    ensures happened { IfOk result (λ r. r.0 ≡ record { clock = current.clock; facts = all_happened events.items current.facts }) }
+    ensures happened { IfOk result (λ r. r.0
+        ≡ record { clock = current.clock; facts = all_happened events.items current.facts }) }
     ensures notes { IfOk result (λ r. r.1 ≡ notes_of current.clock current.facts events.items) }
-    ensures told { IfOk result (λ r. Remembers (live current.clock current.facts) (live r.0.clock r.0.facts) r.2) }
+    ensures told { IfOk result
+        (λ r. Remembers (live current.clock current.facts) (live r.0.clock r.0.facts) r.2) }
     ensures touches { IfOk result (λ r. KnowsTouched current.facts r.0.facts r.3.items) }
-    ensures cost { OnOk result (steps.new ≤ steps.old + events_steps current.clock events.items current.facts) }
+    ensures cost { OnOk result (steps.new
+        ≤ steps.old + events_steps current.clock events.items current.facts) }
 {
     let mut turned = Turned::new(alloc);
     let mut touched = Vec::new(alloc);
@@ -83,11 +89,16 @@ fn passed<K: Kept, L: Ledger>(
     steps: &mut Steps<L>,
 ) -> Result<(Current<K>, Notes, Turned, Vec<Object>), AllocError>
     requires { due current.clock date current.facts.rows ≡ Some date }
-    ensures moved { IfOk result (λ r. r.0 ≡ record { clock = date; facts = without_ended date current.facts }) }
-    ensures notes { IfOk result (λ r. r.1 ≡ notes_of date current.facts (map pair_gone (ending date current.facts.rows))) }
-    ensures told { IfOk result (λ r. Remembers (live current.clock current.facts) (live r.0.clock r.0.facts) r.2) }
+    ensures moved { IfOk result (λ r. r.0
+        ≡ record { clock = date; facts = without_ended date current.facts }) }
+    ensures notes { IfOk result (λ r. r.1
+        ≡ notes_of date current.facts (map pair_gone (ending date current.facts.rows))) }
+    ensures told { IfOk result
+        (λ r. Remembers (live current.clock current.facts) (live r.0.clock r.0.facts) r.2) }
     ensures touches { IfOk result (λ r. KnowsTouched current.facts r.0.facts r.3.items) }
-    ensures cost { OnOk result (steps.new ≤ steps.old + most_steps_of (date_changes date current.facts) (live current.clock current.facts)) }
+    ensures cost { OnOk result (steps.new
+        ≤ steps.old + most_steps_of (date_changes date current.facts)
+        (live current.clock current.facts)) }
 {
     let mut turned = Turned::new(alloc);
     let mut touched = Vec::new(alloc);
@@ -109,9 +120,9 @@ fn passed<K: Kept, L: Ledger>(
     Ok((current, notes, turned, touched))
 }
 
-/// What follows a step, after which this stands, is carried out, and the step is recorded, by what it
-/// changed itself, the memberships that it turned so far, and the objects whose grants it may have
-/// changed. It takes at most the steps of what follows. Out of memory all is given up.
+/// What follows a step, after which this stands, is carried out, and the step is recorded, by what
+/// it changed itself, the memberships that it turned so far, and the objects whose grants it may
+/// have changed. It takes at most the steps of what follows. Out of memory all is given up.
 fn finished<K: Kept, L: Ledger>(
     alloc: Global,
     audit: Audit,
@@ -122,11 +133,23 @@ fn finished<K: Kept, L: Ledger>(
     steps: &mut Steps<L>,
 ) -> Result<Recorded<K>, AllocError>
     requires { MayNote notes.at notes.assigns audit.past }
-    ensures settled { IfOk result (λ r. (M : Live) → Remembers M (live current.clock current.facts) turned → r.current ≡ record { clock = current.clock; facts = settle (ended M (live current.clock current.facts)) current.clock current.facts }) }
-    ensures recorded { IfOk result (λ r. (before : Lists) (es : List Event) (M : Live) → Remembers M (live current.clock current.facts) turned → notes ≡ notes_of current.clock before es → KnowsTouched before current.facts touched.items → Records audit r.audit (settled_step current.clock before es M current.facts)) }
-    ensures opens { IfOk result (λ r. AllByRecursion (IsOpen r.current.clock) r.current.facts.rows) }
+    ensures settled { IfOk result (λ r. (M : Live)
+        → Remembers M (live current.clock current.facts) turned
+        → r.current ≡ record {
+          clock = current.clock;
+          facts = settle (ended M (live current.clock current.facts)) current.clock current.facts;
+        }) }
+    ensures recorded { IfOk result (λ r. (before : Lists) (es : List Event) (M : Live)
+        → Remembers M (live current.clock current.facts) turned
+        → notes ≡ notes_of current.clock before es → KnowsTouched before current.facts touched.items
+        → Records audit r.audit (settled_step current.clock before es M current.facts)) }
+    ensures opens { IfOk result
+        (λ r. AllByRecursion (IsOpen r.current.clock) r.current.facts.rows) }
     ensures sound { IfOk result (λ r. IsSound r.current.facts) }
-    ensures cost { OnOk result ((M : Live) → Remembers M (live current.clock current.facts) turned → steps.new ≤ steps.old + most_steps_of (changes_by (settling (ended M (live current.clock current.facts)) current.clock current.facts)) (live current.clock current.facts)) }
+    ensures cost { OnOk result ((M : Live) → Remembers M (live current.clock current.facts) turned
+        → steps.new ≤ steps.old + most_steps_of
+        (changes_by (settling (ended M (live current.clock current.facts)) current.clock
+        current.facts)) (live current.clock current.facts)) }
 {
     let after = settled(alloc, current, turned, steps);
     let Ok((current, actions, turns)) = after else {
@@ -186,11 +209,18 @@ impl<K: Kept> Recorded<K> {
     ) -> Result<Recorded<K>, AllocError>
         requires hold { AllHold self.current.clock events.items self.current.facts }
         requires noted { MayNote self.current.clock (assign_changes events.items) self.audit.past }
-        ensures happened { IfOk result (λ r. r.current ≡ record { clock = self.current.clock; facts = settled_after self.current events.items }) }
-        ensures recorded { IfOk result (λ r. Records self.audit r.audit (carried_step self.current events.items)) }
-        ensures opens { IfOk result (λ r. AllByRecursion (IsOpen r.current.clock) r.current.facts.rows) }
+        ensures happened { IfOk result (λ r. r.current
+            ≡ record {
+              clock = self.current.clock;
+              facts = settled_after self.current events.items;
+            }) }
+        ensures recorded { IfOk result
+            (λ r. Records self.audit r.audit (carried_step self.current events.items)) }
+        ensures opens { IfOk result
+            (λ r. AllByRecursion (IsOpen r.current.clock) r.current.facts.rows) }
         ensures sound { IfOk result (λ r. IsSound r.current.facts) }
-        ensures cost { OnOk result (steps.new ≤ steps.old + carried_steps self.current events.items) }
+        ensures cost { OnOk result (steps.new
+            ≤ steps.old + carried_steps self.current events.items) }
     {
         let Recorded { current, audit } = self;
         let after = carried(alloc, current, events, steps);
@@ -201,8 +231,8 @@ impl<K: Kept> Recorded<K> {
         finished(alloc, audit, current, notes, turned, touched, steps)
     }
 
-    /// What stands at the next date, with what rules do there, which is recorded as a step. It takes
-    /// at most the steps of the memberships that end and begin there, and of what rules do.
+    /// What stands at the next date, with what rules do there, which is recorded as a step. It
+    /// takes at most the steps of the memberships that end and begin there, and of what rules do.
     pub fn pass_date<L: Ledger>(
         self,
         alloc: Global,
@@ -210,12 +240,21 @@ impl<K: Kept> Recorded<K> {
         steps: &mut Steps<L>,
     ) -> Result<Recorded<K>, AllocError>
         requires due { due self.current.clock date self.current.facts.rows ≡ Some date }
-        requires noted { MayNote date (assign_changes (map pair_gone (ending date self.current.facts.rows))) self.audit.past }
-        ensures moved { IfOk result (λ r. r.current ≡ record { clock = date; facts = date_passed self.current.clock date self.current.facts }) }
-        ensures recorded { IfOk result (λ r. Records self.audit r.audit (date_step self.current.clock date self.current.facts)) }
-        ensures opens { IfOk result (λ r. AllByRecursion (IsOpen r.current.clock) r.current.facts.rows) }
+        requires noted { MayNote date
+            (assign_changes (map pair_gone (ending date self.current.facts.rows))) self.audit.past }
+        ensures moved { IfOk result (λ r. r.current
+            ≡ record {
+              clock = date;
+              facts = date_passed self.current.clock date self.current.facts;
+            }) }
+        ensures recorded { IfOk result
+            (λ r. Records self.audit r.audit
+            (date_step self.current.clock date self.current.facts)) }
+        ensures opens { IfOk result
+            (λ r. AllByRecursion (IsOpen r.current.clock) r.current.facts.rows) }
         ensures sound { IfOk result (λ r. IsSound r.current.facts) }
-        ensures cost { OnOk result (steps.new ≤ steps.old + date_steps self.current.clock date self.current.facts) }
+        ensures cost { OnOk result (steps.new
+            ≤ steps.old + date_steps self.current.clock date self.current.facts) }
     {
         let Recorded { current, audit } = self;
         let after = passed(alloc, current, date, steps);
@@ -245,12 +284,21 @@ pub fn carried_on<K: Kept, L: Ledger>(
     steps: &mut Steps<L>,
 ) -> Result<Box<Recorded<K>>, AllocError>
     requires hold { AllHold recorded.value.current.clock events.items recorded.value.current.facts }
-    requires noted { MayNote recorded.value.current.clock (assign_changes events.items) recorded.value.audit.past }
-    ensures happened { IfOk result (λ b. b.value.current ≡ record { clock = recorded.value.current.clock; facts = settled_after recorded.value.current events.items }) }
-    ensures recorded { IfOk result (λ b. Records recorded.value.audit b.value.audit (carried_step recorded.value.current events.items)) }
-    ensures opens { IfOk result (λ b. AllByRecursion (IsOpen b.value.current.clock) b.value.current.facts.rows) }
+    requires noted { MayNote recorded.value.current.clock
+        (assign_changes events.items) recorded.value.audit.past }
+    ensures happened { IfOk result (λ b. b.value.current
+        ≡ record {
+          clock = recorded.value.current.clock;
+          facts = settled_after recorded.value.current events.items;
+        }) }
+    ensures recorded { IfOk result
+        (λ b. Records recorded.value.audit b.value.audit
+        (carried_step recorded.value.current events.items)) }
+    ensures opens { IfOk result
+        (λ b. AllByRecursion (IsOpen b.value.current.clock) b.value.current.facts.rows) }
     ensures sound { IfOk result (λ b. IsSound b.value.current.facts) }
-    ensures cost { OnOk result (steps.new ≤ steps.old + carried_steps recorded.value.current events.items) }
+    ensures cost { OnOk result (steps.new
+        ≤ steps.old + carried_steps recorded.value.current events.items) }
 {
     let recorded = Box::into_inner(recorded).carry(alloc, events, steps)?;
     let recorded = Box::new(alloc, recorded)?;
@@ -264,13 +312,24 @@ pub fn passed_on<K: Kept, L: Ledger>(
     date: Moment,
     steps: &mut Steps<L>,
 ) -> Result<Box<Recorded<K>>, AllocError>
-    requires due { due recorded.value.current.clock date recorded.value.current.facts.rows ≡ Some date }
-    requires noted { MayNote date (assign_changes (map pair_gone (ending date recorded.value.current.facts.rows))) recorded.value.audit.past }
-    ensures moved { IfOk result (λ b. b.value.current ≡ record { clock = date; facts = date_passed recorded.value.current.clock date recorded.value.current.facts }) }
-    ensures recorded { IfOk result (λ b. Records recorded.value.audit b.value.audit (date_step recorded.value.current.clock date recorded.value.current.facts)) }
-    ensures opens { IfOk result (λ b. AllByRecursion (IsOpen b.value.current.clock) b.value.current.facts.rows) }
+    requires due { due recorded.value.current.clock date recorded.value.current.facts.rows
+        ≡ Some date }
+    requires noted { MayNote date
+        (assign_changes (map pair_gone (ending date recorded.value.current.facts.rows)))
+        recorded.value.audit.past }
+    ensures moved { IfOk result (λ b. b.value.current
+        ≡ record {
+          clock = date;
+          facts = date_passed recorded.value.current.clock date recorded.value.current.facts;
+        }) }
+    ensures recorded { IfOk result
+        (λ b. Records recorded.value.audit b.value.audit
+        (date_step recorded.value.current.clock date recorded.value.current.facts)) }
+    ensures opens { IfOk result
+        (λ b. AllByRecursion (IsOpen b.value.current.clock) b.value.current.facts.rows) }
     ensures sound { IfOk result (λ b. IsSound b.value.current.facts) }
-    ensures cost { OnOk result (steps.new ≤ steps.old + date_steps recorded.value.current.clock date recorded.value.current.facts) }
+    ensures cost { OnOk result (steps.new
+        ≤ steps.old + date_steps recorded.value.current.clock date recorded.value.current.facts) }
 {
     let recorded = Box::into_inner(recorded).pass_date(alloc, date, steps)?;
     let recorded = Box::new(alloc, recorded)?;

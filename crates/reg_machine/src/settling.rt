@@ -77,8 +77,8 @@ fn losses(alloc: Global, turns: &[(GroupId, SubjectId, bool)]) -> Result<Pairs, 
 }
 
 /// What stands after what follows where these memberships (group, person) ended, what rules did, in
-/// order, and the memberships that were turned since they are remembered. It takes at most the steps of
-/// the changes that rules make. Out of memory all is given up.
+/// order, and the memberships that were turned since they are remembered. It takes at most the
+/// steps of the changes that rules make. Out of memory all is given up.
 fn followed<K: Kept, L: Ledger>(
     alloc: Global,
     current: Current<K>,
@@ -86,10 +86,15 @@ fn followed<K: Kept, L: Ledger>(
     turned: Turned,
     steps: &mut Steps<L>,
 ) -> Result<(Current<K>, Vec<Action>, Vec<(GroupId, SubjectId, bool)>), AllocError>
-    ensures stands { IfOk result (λ r. r.0 ≡ record { clock = current.clock; facts = settle ended current.clock current.facts }) }
+    ensures stands { IfOk result (λ r. r.0
+        ≡ record { clock = current.clock; facts = settle ended current.clock current.facts }) }
     ensures actions { IfOk result (λ r. r.1.items ≡ settling ended current.clock current.facts) }
-    ensures turns { IfOk result (λ r. (M : Live) → Remembers M (live current.clock current.facts) turned → r.2.items ≡ turns M (live r.0.clock r.0.facts)) }
-    ensures cost { OnOk result (steps.new ≤ steps.old + most_steps_of (changes_by (settling ended current.clock current.facts)) (live current.clock current.facts)) }
+    ensures turns { IfOk result (λ r. (M : Live)
+        → Remembers M (live current.clock current.facts) turned
+        → r.2.items ≡ turns M (live r.0.clock r.0.facts)) }
+    ensures cost { OnOk result (steps.new
+        ≤ steps.old + most_steps_of (changes_by (settling ended current.clock current.facts))
+        (live current.clock current.facts)) }
 {
     let mut turned = turned;
     let last = settle_in(alloc, current, ended, &mut turned, steps);
@@ -114,28 +119,45 @@ fn turned_so_far<K: Kept>(
     current: &Current<K>,
     turned: &Turned,
 ) -> Result<(Vec<(GroupId, SubjectId, bool)>, Pairs), AllocError>
-    ensures turns { IfOk result (λ r. (M : Live) → Remembers M (live current.now.clock current.now.facts) turned.now → r.0.items ≡ turns M (live current.now.clock current.now.facts)) }
-    ensures ended { IfOk result (λ r. (M : Live) → Remembers M (live current.now.clock current.now.facts) turned.now → r.1 ≡ ended M (live current.now.clock current.now.facts)) }
+    ensures turns { IfOk result (λ r. (M : Live)
+        → Remembers M (live current.now.clock current.now.facts) turned.now
+        → r.0.items ≡ turns M (live current.now.clock current.now.facts)) }
+    ensures ended { IfOk result (λ r. (M : Live)
+        → Remembers M (live current.now.clock current.now.facts) turned.now
+        → r.1 ≡ ended M (live current.now.clock current.now.facts)) }
 {
     let turns = turned.list(current.kept())?;
     let ended = losses(alloc, &turns)?;
     Ok((turns, ended))
 }
 
-/// What stands after what follows a step, what rules did, in order, and the memberships that the step
-/// turned; those that it turned so far are remembered. Where it ended none, nothing follows, and that
-/// costs a look at these. It takes at most the steps of the changes that rules make. Out of memory all
-/// is given up.
+/// What stands after what follows a step, what rules did, in order, and the memberships that the
+/// step turned; those that it turned so far are remembered. Where it ended none, nothing follows,
+/// and that costs a look at these. It takes at most the steps of the changes that rules make. Out
+/// of memory all is given up.
 pub fn settled<K: Kept, L: Ledger>(
     alloc: Global,
     current: Current<K>,
     turned: Turned,
     steps: &mut Steps<L>,
 ) -> Result<(Current<K>, Vec<Action>, Vec<(GroupId, SubjectId, bool)>), AllocError>
-    ensures stands { IfOk result (λ r. (M : Live) → Remembers M (live current.clock current.facts) turned → r.0 ≡ record { clock = current.clock; facts = settle (ended M (live current.clock current.facts)) current.clock current.facts }) }
-    ensures actions { IfOk result (λ r. (M : Live) → Remembers M (live current.clock current.facts) turned → r.1.items ≡ settling (ended M (live current.clock current.facts)) current.clock current.facts) }
-    ensures turns { IfOk result (λ r. (M : Live) → Remembers M (live current.clock current.facts) turned → r.2.items ≡ turns M (live r.0.clock r.0.facts)) }
-    ensures cost { OnOk result ((M : Live) → Remembers M (live current.clock current.facts) turned → steps.new ≤ steps.old + most_steps_of (changes_by (settling (ended M (live current.clock current.facts)) current.clock current.facts)) (live current.clock current.facts)) }
+    ensures stands { IfOk result (λ r. (M : Live)
+        → Remembers M (live current.clock current.facts) turned
+        → r.0 ≡ record {
+          clock = current.clock;
+          facts = settle (ended M (live current.clock current.facts)) current.clock current.facts;
+        }) }
+    ensures actions { IfOk result (λ r. (M : Live)
+        → Remembers M (live current.clock current.facts) turned
+        → r.1.items ≡ settling (ended M (live current.clock current.facts)) current.clock
+        current.facts) }
+    ensures turns { IfOk result (λ r. (M : Live)
+        → Remembers M (live current.clock current.facts) turned
+        → r.2.items ≡ turns M (live r.0.clock r.0.facts)) }
+    ensures cost { OnOk result ((M : Live) → Remembers M (live current.clock current.facts) turned
+        → steps.new ≤ steps.old + most_steps_of
+        (changes_by (settling (ended M (live current.clock current.facts)) current.clock
+        current.facts)) (live current.clock current.facts)) }
 {
     let so_far = turned_so_far(alloc, &current, &turned);
     let Ok((turns, ended)) = so_far else {

@@ -25,7 +25,8 @@ fn is_last(objects: &[Object], object: &Object) -> bool
 
 /// Puts an object behind others, unless it is the last of them.
 fn put(object: Object, touched: &mut Vec<Object>) -> Result<(), AllocError>
-    ensures kept { OnOk result ((o : Object) → is_listed o touched.old.items ≡ true → is_listed o touched.new.items ≡ true) }
+    ensures kept { OnOk result ((o : Object) → is_listed o touched.old.items ≡ true
+        → is_listed o touched.new.items ≡ true) }
     ensures put { OnOk result (is_listed object touched.new.items ≡ true) }
 {
     if is_last(touched, &object) {
@@ -37,8 +38,10 @@ fn put(object: Object, touched: &mut Vec<Object>) -> Result<(), AllocError>
 
 /// Puts objects behind others.
 fn put_all(objects: &[Object], touched: &mut Vec<Object>) -> Result<(), AllocError>
-    ensures kept { OnOk result ((o : Object) → is_listed o touched.old.items ≡ true → is_listed o touched.new.items ≡ true) }
-    ensures put { OnOk result ((o : Object) → is_listed o objects.now ≡ true → is_listed o touched.new.items ≡ true) }
+    ensures kept { OnOk result ((o : Object) → is_listed o touched.old.items ≡ true
+        → is_listed o touched.new.items ≡ true) }
+    ensures put { OnOk result ((o : Object) → is_listed o objects.now ≡ true
+        → is_listed o touched.new.items ≡ true) }
 {
     for object in objects {
         put(*object, touched)?;
@@ -55,7 +58,8 @@ pub fn put_touched(
     touched: &mut Vec<Object>,
 ) -> Result<(), AllocError>
     requires { Suits event.now facts.now }
-    ensures { OnOk result ((f : Lists) → KnowsTouched f facts.now touched.old.items → KnowsTouched f (happened event.now facts.now) touched.new.items) }
+    ensures { OnOk result ((f : Lists) → KnowsTouched f facts.now touched.old.items
+        → KnowsTouched f (happened event.now facts.now) touched.new.items) }
 {
     law_untouched(facts);
     let objects = touched_objects(alloc, facts, event)?;

@@ -5,8 +5,8 @@ ghost use base.Fml.{ftrue};
 
 use std::marker::{Model, PhantomData};
 
-/// A list that takes no memory, since code can't read it: contracts alone see its items. What they say of it is
-/// worth as much as what ties them to what is stored.
+/// A list that takes no memory, since code can't read it: contracts alone see its items. What they
+/// say of it is worth as much as what ties them to what is stored.
 pub(crate) struct Unstored<T> {
     marker: PhantomData<T>,
     pub(crate) ghost items: { List T } by { coded_list T.code },

@@ -23,7 +23,8 @@ impl Names {
 
     /// The index of the facts after a command, called with the facts before it. It takes no memory.
     pub fn edit(self, before: &Facts, command: &Command) -> Names
-        ensures { (at : ℕ) (by : Entity) → CanEdit at by command.now before.now → IsInStep result (edit at by command.now before.now) }
+        ensures { (at : ℕ) (by : Entity) → CanEdit at by command.now before.now
+            → IsInStep result (edit at by command.now before.now) }
     {
         before.law_edit();
         let _ = command;

@@ -20,7 +20,8 @@ fn push_path(
     folder: FolderId,
 ) -> Result<(), AllocError>
     requires { levels ≤ most_levels }
-    ensures { OnOk result (string_bytes name.new ≡ string_bytes name.old ++ with_colons (path levels folder facts.now.folders)) }
+    ensures { OnOk result (string_bytes name.new
+        ≡ string_bytes name.old ++ with_colons (path levels folder facts.now.folders)) }
 {
     if levels == 0 {
         return Ok(());
@@ -37,8 +38,8 @@ fn push_path(
     Ok(())
 }
 
-/// The name of an object, from below the root; the root's is `:`. The only error is out of memory. It
-/// costs the length of the name.
+/// The name of an object, from below the root; the root's is `:`. The only error is out of memory.
+/// It costs the length of the name.
 pub fn name_of(alloc: Global, facts: &Facts, object: &Object) -> Result<Text, AllocError>
     requires { is_named object.now facts.now ≡ true }
     ensures { IfOk result (λ text. text ≡ name_of object.now facts.now) }

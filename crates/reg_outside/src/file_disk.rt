@@ -1,8 +1,10 @@
 // A real file as a disk. What is trusted: that the system's calls do what they promise.
-ghost use Rattle.std.specs.Prelude.{◌≡◌, ◌≤◌, ◌<◌, ◌+◌, ◌^◌, None, List, ℕ, length, option_map, ⊤, IfOk, OnOk};
+ghost use Rattle.std.specs.Prelude.{◌≡◌, ◌≤◌, ◌<◌, ◌+◌, ◌^◌, None, List, ℕ, length, option_map, ⊤};
+ghost use Rattle.std.specs.Prelude.{IfOk, OnOk};
 ghost use Rattle.reg_outside.specs.Disk.{Only, Same, Torn, put};
 ghost use Rattle.reg_outside.specs.Faults.{Rose, HasCause};
-ghost use Rattle.reg_outside.specs.FileDisk.{faults_of, path_of, NoImage, NoImageSince, TellsNothing, CountsFaults};
+ghost use Rattle.reg_outside.specs.FileDisk.{faults_of, path_of, NoImage, NoImageSince};
+ghost use Rattle.reg_outside.specs.FileDisk.{TellsNothing, CountsFaults};
 ghost use Rattle.reg_outside.specs.Memory.{one_more};
 
 use crate::{Disk, Failed};
@@ -12,11 +14,12 @@ use std::os::unix::fs::FileExt;
 // The end of a write is below it.
 const END: u64 = 1 << 63;
 
-/// A file as a disk. It is opened at the first call, and made where it is absent. From then on until
-/// the disk is dropped it is locked (`flock`), so that one program at a time works on it: where
-/// another has it locked, every call fails. Its bytes aren't told. The count of faults begins at 0
-/// and rises by one at each call that fails, and nowhere else. A sync is `fdatasync`. The first one
-/// syncs the folder of the path too, so that a file that was just made is found after a crash.
+/// A file as a disk. It is opened at the first call, and made where it is absent. From then on
+/// until the disk is dropped it is locked (`flock`), so that one program at a time works on it:
+/// where another has it locked, every call fails. Its bytes aren't told. The count of faults begins
+/// at 0 and rises by one at each call that fails, and nowhere else. A sync is `fdatasync`. The
+/// first one syncs the folder of the path too, so that a file that was just made is found after a
+/// crash.
 #[derive(Drop)]
 pub struct FileDisk<'a> {
     rt: &'a HostRuntime,
@@ -72,8 +75,8 @@ impl<'a> FileDisk<'a> {
         Ok(())
     }
 
-    // Brings the file to the medium, and at the first call its folder. Another program may have made
-    // the file and ended before its sync, so a file that was there already is no different.
+    // Brings the file to the medium, and at the first call its folder. Another program may have
+    // made the file and ended before its sync, so a file that was there already is no different.
     fn bring(&mut self) -> std::io::Result<()>
         ensures { self.new.faults ≡ self.old.faults }
     {

@@ -1,7 +1,10 @@
-// A disk in memory. It keeps a record of its writes and syncs, so that what a crash might have left is known.
-ghost use Rattle.std.specs.Prelude.{◌≡◌, ◌⊎◌, ◌≤◌, ◌<◌, ◌+◌, ◌^◌, List, ℕ, [], length, take, drop, Some, IfOk, OnOk, OnErr, true, is_err, if◌then◌else◌};
+// A disk in memory. It keeps a record of its writes and syncs, so that what a crash might have left
+// is known.
+ghost use Rattle.std.specs.Prelude.{◌≡◌, ◌⊎◌, ◌≤◌, ◌<◌, ◌+◌, ◌^◌, List, ℕ, [], length, take, drop};
+ghost use Rattle.std.specs.Prelude.{Some, IfOk, OnOk, OnErr, true, is_err, if◌then◌else◌};
 ghost use Rattle.reg_outside.specs.Disk.{Changes, Exactly, Same, Torn, put};
-ghost use Rattle.reg_outside.specs.DiskSteps.{MayLeave, LeftSince, reads_image, only_image, image_since};
+ghost use Rattle.reg_outside.specs.DiskSteps.{MayLeave, LeftSince, reads_image, only_image};
+ghost use Rattle.reg_outside.specs.DiskSteps.{image_since};
 ghost use Rattle.reg_outside.specs.Faults.{HasCause};
 ghost use Rattle.reg_outside.specs.Memory.{is_listed, called, failed, no_calls};
 ghost use Rattle.reg_outside.specs.MemoryDisk.{bytes_of, first_of, steps_of, calls_of, IsFull};
@@ -68,9 +71,11 @@ impl Disk for MemoryDisk {
 
     fn len(&mut self) -> Result<u64, Failed>
         ensures length { IfOk result (λ n. n ≡ length (bytes_of self.old)) }
-        ensures same { (bytes_of self.new ≡ bytes_of self.old) × (first_of self.new ≡ first_of self.old) × (steps_of self.new ≡ steps_of self.old) }
+        ensures same { (bytes_of self.new ≡ bytes_of self.old)
+            × (first_of self.new ≡ first_of self.old) × (steps_of self.new ≡ steps_of self.old) }
         ensures cause { HasCause (calls_of self.old).faults (calls_of self.new).faults result }
-        ensures counted { calls_of self.new ≡ (if is_err result then failed (calls_of self.old) else called (calls_of self.old)) }
+        ensures counted { calls_of self.new
+            ≡ (if is_err result then failed (calls_of self.old) else called (calls_of self.old)) }
         ensures listed { is_err result ≡ is_listed (calls_of self.old) }
     {
         self.calls.next()?;
@@ -80,10 +85,13 @@ impl Disk for MemoryDisk {
     fn read_at(&mut self, at: u64, buf: &mut [u8]) -> Result<usize, Failed>
         ensures bound { IfOk result (λ n. n ≤ length buf.new) }
         ensures bytes { IfOk result (λ n. take n buf.new ≡ take n (drop at (bytes_of self.old))) }
-        ensures end { IfOk result (λ n. n ≡ 0 → 0 < length buf.new → length (bytes_of self.old) ≤ at) }
-        ensures same { (bytes_of self.new ≡ bytes_of self.old) × (first_of self.new ≡ first_of self.old) × (steps_of self.new ≡ steps_of self.old) }
+        ensures end { IfOk result (λ n. n ≡ 0 → 0 < length buf.new
+            → length (bytes_of self.old) ≤ at) }
+        ensures same { (bytes_of self.new ≡ bytes_of self.old)
+            × (first_of self.new ≡ first_of self.old) × (steps_of self.new ≡ steps_of self.old) }
         ensures cause { HasCause (calls_of self.old).faults (calls_of self.new).faults result }
-        ensures counted { calls_of self.new ≡ (if is_err result then failed (calls_of self.old) else called (calls_of self.old)) }
+        ensures counted { calls_of self.new
+            ≡ (if is_err result then failed (calls_of self.old) else called (calls_of self.old)) }
         ensures listed { is_err result ≡ is_listed (calls_of self.old) }
     {
         self.calls.next()?;
@@ -103,12 +111,19 @@ impl Disk for MemoryDisk {
         ensures written { OnOk result (bytes_of self.new ≡ put at bytes.now (bytes_of self.old)) }
         ensures failed { OnErr result (bytes_of self.new ≡ bytes_of self.old) }
         ensures end { OnOk result (at + length bytes.now < 2 ^ 63) }
-        ensures crash { Changes (λ d. length (steps_of d)) (λ d. MayLeave (first_of d) (steps_of d)) (λ d. LeftSince (first_of d) (steps_of d)) (Torn at (length bytes.now)) self.old self.new }
-        ensures exact { OnOk result (Exactly (Torn at (length bytes.now)) (MayLeave (first_of self.old) (steps_of self.old)) (MayLeave (first_of self.new) (steps_of self.new))) }
-        ensures exact_at_fault { OnErr result (Exactly (Torn at (length bytes.now)) (MayLeave (first_of self.old) (steps_of self.old)) (MayLeave (first_of self.new) (steps_of self.new)) ⊎ IsFull self.old) }
+        ensures crash { Changes (λ d. length (steps_of d)) (λ d. MayLeave (first_of d) (steps_of d))
+            (λ d. LeftSince (first_of d) (steps_of d))
+            (Torn at (length bytes.now)) self.old self.new }
+        ensures exact { OnOk result
+            (Exactly (Torn at (length bytes.now)) (MayLeave (first_of self.old) (steps_of self.old))
+            (MayLeave (first_of self.new) (steps_of self.new))) }
+        ensures exact_at_fault { OnErr result
+            (Exactly (Torn at (length bytes.now)) (MayLeave (first_of self.old) (steps_of self.old))
+            (MayLeave (first_of self.new) (steps_of self.new)) ⊎ IsFull self.old) }
         ensures cause { HasCause (calls_of self.old).faults (calls_of self.new).faults result }
         ensures listed { is_listed (calls_of self.old) ≡ true → is_err result ≡ true }
-        ensures counted { calls_of self.new ≡ (if is_err result then failed (calls_of self.old) else called (calls_of self.old)) }
+        ensures counted { calls_of self.new
+            ≡ (if is_err result then failed (calls_of self.old) else called (calls_of self.old)) }
     {
         if self.calls.next().is_err() {
             self.held.cut(at as usize, bytes.len());
@@ -129,11 +144,14 @@ impl Disk for MemoryDisk {
 
     fn sync(&mut self) -> Result<(), Failed>
         ensures same { bytes_of self.new ≡ bytes_of self.old }
-        ensures durable { OnOk result ((c : List ℕ) → MayLeave (first_of self.new) (steps_of self.new) c → c ≡ bytes_of self.new) }
-        ensures crash { Changes (λ d. length (steps_of d)) (λ d. MayLeave (first_of d) (steps_of d)) (λ d. LeftSince (first_of d) (steps_of d)) Same self.old self.new }
+        ensures durable { OnOk result ((c : List ℕ)
+            → MayLeave (first_of self.new) (steps_of self.new) c → c ≡ bytes_of self.new) }
+        ensures crash { Changes (λ d. length (steps_of d)) (λ d. MayLeave (first_of d) (steps_of d))
+            (λ d. LeftSince (first_of d) (steps_of d)) Same self.old self.new }
         ensures cause { HasCause (calls_of self.old).faults (calls_of self.new).faults result }
         ensures listed { is_listed (calls_of self.old) ≡ true → is_err result ≡ true }
-        ensures counted { calls_of self.new ≡ (if is_err result then failed (calls_of self.old) else called (calls_of self.old)) }
+        ensures counted { calls_of self.new
+            ≡ (if is_err result then failed (calls_of self.old) else called (calls_of self.old)) }
     {
         self.calls.next()?;
         if self.held.sync().is_err() {

@@ -25,19 +25,22 @@ holder_cmp = (holder_ord.ghosts).cmp
 
 -- by object, then by privilege, and then by holder
 abbrev pub grant_cmp : Object × Privilege × Holder → Object × Privilege × Holder → Ordering
-grant_cmp a b = ordering_then (ordering_then (object_cmp a.0 b.0) (privilege_cmp a.1 b.1)) (holder_cmp a.2 b.2)
+grant_cmp a b =
+    ordering_then (ordering_then (object_cmp a.0 b.0) (privilege_cmp a.1 b.1)) (holder_cmp a.2 b.2)
 
 -- by privilege, and then by holder
 abbrev pub held_cmp : Privilege × Holder → Privilege × Holder → Ordering
 held_cmp a b = ordering_then (privilege_cmp a.0 b.0) (holder_cmp a.1 b.1)
 
 -- whether a holder had a privilege on an object at a moment
-abbrev pub is_granted : List (((Object × Privilege × Holder) × ℕ) × ℕ) → Object → Privilege → Holder → ℕ → Bool
+abbrev pub is_granted : List (((Object × Privilege × Holder) × ℕ) × ℕ) → Object → Privilege → Holder
+    → ℕ → Bool
 is_granted grants o p h t = covers (spans_of grant_cmp grants (o, p, h)) t
 
 -- whether a privilege of a holder is among some
 abbrev pub has_grant : List (Privilege × Holder) → Privilege → Holder → Bool
-has_grant grants p h = list_any (λ g. is_eq (privilege_cmp g.0 p) && is_eq (holder_cmp g.1 h)) grants
+has_grant grants p h =
+    list_any (λ g. is_eq (privilege_cmp g.0 p) && is_eq (holder_cmp g.1 h)) grants
 
 -- the number of a group that holds something has 32 bits
 abbrev pub Fits : Holder → Type 0
@@ -47,4 +50,6 @@ Fits (holder.Group g) = g < 2 ^ 32
 
 -- no group of a greater number ever held anything
 abbrev pub AreHeld : List (((Object × Privilege × Holder) × ℕ) × ℕ) → Type 0
-AreHeld grants = (o : Object) (p : Privilege) (g t : ℕ) → 2 ^ 32 ≤ g → is_granted grants o p (holder.Group g) t ≡ false
+AreHeld grants =
+    (o : Object) (p : Privilege) (g t : ℕ) → 2 ^ 32 ≤ g
+    → is_granted grants o p (holder.Group g) t ≡ false

@@ -1,5 +1,7 @@
 -- How assignments and their values are kept: a life for each, from when until when it stood.
-use Rattle.std.specs.Prelude.{◌≡◌, ◌≤◌, ◌<◌, ◌==◌, ◌&&◌, ⊤, ℕ, suc, Bool, List, [], ◌∷◌, map, filter, not, nat_lt, Option, Some, None, option_map, true, false, if◌then◌else◌}
+use Rattle.std.specs.Prelude.{◌≡◌, ◌≤◌, ◌<◌, ◌==◌, ◌&&◌, ⊤, ℕ, suc, Bool, List, [], ◌∷◌, map}
+use Rattle.std.specs.Prelude.{filter, not, nat_lt, Option, Some, None, option_map, true, false}
+use Rattle.std.specs.Prelude.{if◌then◌else◌}
 use Rattle.std.specs.BTreeMap.{BTreeMap, get}
 use Rattle.std.specs.List.{AllByRecursion, find}
 use Rattle.std.specs.Ordering.{nat_cmp}
@@ -62,7 +64,9 @@ AreLivesBy at lives = AllByRecursion (λ (life : AssignLife). IsBy at (life.from
 
 -- the owner of an assignment that was made
 abbrev pub owner_of : ℕ → List AssignLife → Option Object
-owner_of id lives = option_map (λ (life : AssignLife). life.owner) (find (λ (life : AssignLife). life.id == id) lives)
+owner_of id lives =
+    option_map (λ (life : AssignLife). life.owner) (find (λ (life : AssignLife). life.id
+    == id) lives)
 
 -- ids ascend, and the owners are those of the lives
 pub record AreLives (lives : List AssignLife) (owners : BTreeMap ℕ Object) : Type 0 where
@@ -81,25 +85,33 @@ is_open life = elim life.until [ None ↦ true | Some end ↦ false ]
 
 -- the values that stood in an assignment at a moment, in the order in which they were added
 abbrev pub values_at : List ValueLife → ℕ → ℕ → List AttrValue
-values_at values a t = map (λ (life : ValueLife). life.value) (filter (λ (life : ValueLife). (life.assign == a) && stood t life) values)
+values_at values a t =
+    map (λ (life : ValueLife). life.value) (filter (λ (life : ValueLife). (life.assign == a)
+    && stood t life) values)
 
 -- the first value that is this one, of those that stand in an assignment
 abbrev pub first_open : ℕ → AttrValue → List ValueLife → Option ValueLife
-first_open a v values = find (λ (life : ValueLife). (life.assign == a) && (is_open life && same_value life.value v)) values
+first_open a v values =
+    find (λ (life : ValueLife). (life.assign == a)
+    && (is_open life && same_value life.value v)) values
 
 -- whether a life is that of a value of an assignment, by its number
 abbrev pub is_numbered : ℕ → ℕ → ValueLife → Bool
 is_numbered a n life = (life.assign == a) && (life.number == n)
 
--- a life that ends at a moment in the place of that of its number, which goes where the life would be empty
+-- a life that ends at a moment in the place of that of its number, which goes where the life would
+-- be empty
 abbrev pub closed_in : ValueLife → ℕ → List ValueLife → List ValueLife
 closed_in closed at values =
-    if nat_lt closed.from at then map (λ (life : ValueLife). if is_numbered closed.assign closed.number life then closed else life) values
+    if nat_lt closed.from at
+    then map (λ (life : ValueLife). if is_numbered closed.assign closed.number life then closed
+    else life) values
     else filter (λ (life : ValueLife). not (is_numbered closed.assign closed.number life)) values
 
 -- no life begins or ends later than a moment
 abbrev pub AreValuesBy : ℕ → List ValueLife → Type 0
-AreValuesBy at values = AllByRecursion (λ (life : ValueLife). IsBy at (life.from, life.until)) values
+AreValuesBy at values =
+    AllByRecursion (λ (life : ValueLife). IsBy at (life.from, life.until)) values
 
 abbrev pub standing_of : ValueLife → Standing
 standing_of life = record { assign = life.assign; number = life.number }
@@ -114,7 +126,12 @@ pub record AreValues (values : List ValueLife) (standing : List Standing) (next 
 
 -- an assignment with the values that a function gives it
 abbrev pub row_of : (ℕ → List AttrValue) → AssignLife → AssignRow
-row_of values life = record { id = life.id; attribute = life.attribute; owner = life.owner; values = values life.id }
+row_of values life = record {
+  id = life.id;
+  attribute = life.attribute;
+  owner = life.owner;
+  values = values life.id;
+}
 
 -- the assignments that stood at a moment
 abbrev pub rows_at : (ℕ → List AttrValue) → List AssignLife → ℕ → List AssignRow

@@ -1,5 +1,6 @@
 -- Memberships as intervals.
-use Rattle.std.specs.Prelude.{◌≡◌, ◌≤◌, ◌^◌, ◌==◌, ◌++◌, ℕ, List, [], ◌∷◌, Bool, true, false, Option, map}
+use Rattle.std.specs.Prelude.{◌≡◌, ◌≤◌, ◌^◌, ◌==◌, ◌++◌, ℕ, List, [], ◌∷◌, Bool, true, false}
+use Rattle.std.specs.Prelude.{Option, map}
 use Rattle.std.specs.Ordering.{nat_cmp, ordering_then, eq_by_cmp}
 use Rattle.std.specs.List.{list_any}
 use Rattle.std.specs.List.Sorted.{IsStrictlySortedBy}
@@ -18,7 +19,9 @@ are_on pairs x y t = covers (spans_of pair_cmp pairs (x, y)) t
 -- the intervals of a number with some others, each with the other number, one after another
 abbrev pub second_spans : List (((ℕ × ℕ) × ℕ) × ℕ) → ℕ → List ℕ → List (ℕ × ℕ × Option ℕ)
 second_spans pairs x [] = []
-second_spans pairs x (y ∷ ys) = map (λ (span : ℕ × Option ℕ). (y, span.0, span.1)) (spans_of pair_cmp pairs (x, y)) ++ second_spans pairs x ys
+second_spans pairs x (y ∷ ys) =
+    map (λ (span : ℕ × Option ℕ). (y, span.0, span.1)) (spans_of pair_cmp pairs (x, y))
+    ++ second_spans pairs x ys
 
 -- the numbers that pass a test, ascending
 pub record Lists (test : ℕ → Bool) (numbers : List ℕ) : Type 0 where

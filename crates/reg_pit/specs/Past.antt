@@ -17,7 +17,8 @@ use Rattle.reg_pit.specs.declared.past.Past.{Past}
 abbrev pub member_spans : Past → ℕ → ℕ → List (ℕ × Option ℕ)
 member_spans past g s = spans_of pair_cmp past.memberships (g, s)
 
--- the intervals in which some persons were members of the group, each with its person, person by person
+-- the intervals in which some persons were members of the group, each with its person, person by
+-- person
 abbrev pub all_member_spans : Past → ℕ → List ℕ → List (ℕ × ℕ × Option ℕ)
 all_member_spans past g ids = second_spans past.memberships g ids
 
@@ -56,12 +57,15 @@ pub record NotedBy (at : ℕ) (past : Past) : Type 0 where
   pub wheel : AreNotedBy at past.wheel
   pub assigns : AreAssignedBy at past.assigns
 
--- what is said of memberships, of grants, of the wheel group or of assignments is what was said before
+-- what is said of memberships, of grants, of the wheel group or of assignments is what was said
+-- before
 abbrev pub KeepsMembers : Past → Past → Type 0
 KeepsMembers old new = (g s t : ℕ) → was_member new g s t ≡ was_member old g s t
 
 abbrev pub KeepsGrants : Past → Past → Type 0
-KeepsGrants old new = (o : Object) (p : Privilege) (h : Holder) (t : ℕ) → was_granted new o p h t ≡ was_granted old o p h t
+KeepsGrants old new =
+    (o : Object) (p : Privilege) (h : Holder) (t : ℕ)
+    → was_granted new o p h t ≡ was_granted old o p h t
 
 abbrev pub KeepsWheel : Past → Past → Type 0
 KeepsWheel old new = (t : ℕ) → wheel_at new t ≡ wheel_at old t

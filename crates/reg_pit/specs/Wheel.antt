@@ -2,7 +2,8 @@
 use Rattle.std.specs.Prelude.{◌≤◌, ℕ, List, [], ◌∷◌, Option, None, nat_le, if◌then◌else◌}
 use Rattle.std.specs.List.{AllByRecursion}
 
--- what was noted last up to a moment, of notes in the order of their moments, where something was noted before them
+-- what was noted last up to a moment, of notes in the order of their moments, where something was
+-- noted before them
 abbrev pub last_up_to : ℕ → Option ℕ → List (ℕ × Option ℕ) → Option ℕ
 last_up_to t before [] = before
 last_up_to t before (note ∷ notes) = last_up_to t (if nat_le note.0 t then note.1 else before) notes

@@ -2,7 +2,8 @@
 ghost use Rattle.std.specs.Prelude.{◌≡◌, ◌≤◌, ◌<◌, ◌==◌, ◌++◌, ◌∷◌, [], true, map, IfOk};
 ghost use Rattle.std.specs.List.{list_any};
 ghost use Rattle.reg_terms.specs.Kinds.{same_object};
-ghost use Rattle.reg_pit.specs.Lives.{had, is_life, ended, gone_if, Rising, ids_of, last_made, on_owner};
+ghost use Rattle.reg_pit.specs.Lives.{had, is_life, ended, gone_if, Rising, ids_of, last_made};
+ghost use Rattle.reg_pit.specs.Lives.{on_owner};
 ghost use Rattle.reg_pit.specs.declared.assign_lives.AssignLife.{AssignLife};
 
 use reg_base::{AssignId, AttrId, Moment};
@@ -167,7 +168,8 @@ impl AssignLives {
 
     /// From a moment on no assignment to an owner stands. Costs what was ever assigned to it.
     pub(crate) fn end_on(self, owner: Object, at: Moment) -> Result<AssignLives, AllocError>
-        ensures { IfOk result (λ after. after ≡ map (gone_if (λ (life : AssignLife). same_object life.owner owner) at) self) }
+        ensures { IfOk result (λ after. after
+            ≡ map (gone_if (λ (life : AssignLife). same_object life.owner owner) at) self) }
     {
         let ids = self.ids_on(&owner)?;
         let mut after = self;

@@ -197,7 +197,8 @@ impl Assigns {
     /// The assignments to an owner at a moment, by id, with the values that stood then. Costs what
     /// was ever assigned to it.
     pub(crate) fn on(&self, owner: Object, t: Moment) -> Result<Vec<AssignRow>, AllocError>
-        ensures { IfOk result (λ rows. rows.items ≡ filter (λ (row : AssignRow). same_object row.owner owner) (assigned_at self.now t)) }
+        ensures { IfOk result (λ rows. rows.items
+            ≡ filter (λ (row : AssignRow). same_object row.owner owner) (assigned_at self.now t)) }
     {
         let mut rows = Vec::new(self.alloc);
         for life in self.lives.on(owner) {

@@ -1,5 +1,6 @@
 // Who held which privilege on each object.
-ghost use Rattle.std.specs.Prelude.{◌≡◌, ◌≤◌, ◌+◌, ◌*◌, ◌^◌, ◌&&◌, ℕ, [], true, length, map, nat_le, IfOk, if◌then◌else◌};
+ghost use Rattle.std.specs.Prelude.{◌≡◌, ◌≤◌, ◌+◌, ◌*◌, ◌^◌, ◌&&◌, ℕ, [], true, length, map};
+ghost use Rattle.std.specs.Prelude.{nat_le, IfOk, if◌then◌else◌};
 ghost use Rattle.std.specs.Ordering.{eq_by_cmp};
 ghost use Rattle.std.specs.List.Sorted.{IsStrictlySortedBy};
 ghost use Rattle.reg_base.specs.declared.privilege.Privilege.{Privilege};
@@ -96,8 +97,12 @@ impl Grants {
         at: Moment,
     ) -> Result<Grants, AllocError>
         requires { (k : Object × Privilege × Holder) → NoLater at (spans_of grant_cmp self k) }
-        ensures noted { IfOk result (λ after. (o : Object) (p : Privilege) (h : Holder) (t : ℕ) → is_granted after o p h t ≡ (if same_object o object && nat_le at t then has_grant grants.now p h else is_granted self o p h t)) }
-        ensures last { IfOk result (λ after. (k : Object × Privilege × Holder) → NoLater at (spans_of grant_cmp after k)) }
+        ensures noted { IfOk result (λ after. (o : Object) (p : Privilege) (h : Holder) (t : ℕ)
+            → is_granted after o p h t
+            ≡ (if same_object o object && nat_le at t then has_grant grants.now p h
+            else is_granted self o p h t)) }
+        ensures last { IfOk result (λ after. (k : Object × Privilege × Holder)
+            → NoLater at (spans_of grant_cmp after k)) }
     {
         let greatest = Holder::Group(GroupId::new(u32::MAX));
         let first = key_of(&object, &Privilege::Admin, &Holder::Everyone);
@@ -123,12 +128,14 @@ impl Grants {
     ) -> bool
         ensures value { result ≡ is_granted self.now object privilege holder t }
         ensures looks { steps.new ≤ steps.old + 1 }
-        ensures cost { (n : ℕ) → steps.new ≡ steps.old + n → 2 ^ n ≤ 2 * length (spans_of grant_cmp self.now (object, privilege, holder)) + 1 }
+        ensures cost { (n : ℕ) → steps.new ≡ steps.old + n
+            → 2 ^ n ≤ 2 * length (spans_of grant_cmp self.now (object, privilege, holder)) + 1 }
     {
         self.granted.at((object, privilege, holder), t, steps)
     }
 
-    /// The intervals of each privilege of a holder are none empty, and no two touch. It does nothing.
+    /// The intervals of each privilege of a holder are none empty, and no two touch. It does
+    /// nothing.
     pub(crate) fn law_spans(&self)
         ensures { (k : Object × Privilege × Holder) → AreSpans (spans_of grant_cmp self.now k) }
     {
@@ -142,7 +149,8 @@ impl Grants {
         t: Moment,
     ) -> Result<Vec<(Privilege, Holder)>, AllocError>
         ensures ascending { IfOk result (λ grants. IsStrictlySortedBy held_cmp grants.items) }
-        ensures each { IfOk result (λ grants. (p : Privilege) (h : Holder) → has_grant grants.items p h ≡ is_granted self.now object p h t) }
+        ensures each { IfOk result (λ grants. (p : Privilege) (h : Holder)
+            → has_grant grants.items p h ≡ is_granted self.now object p h t) }
     {
         let greatest = Holder::Group(GroupId::new(u32::MAX));
         let first = key_of(&object, &Privilege::Admin, &Holder::Everyone);

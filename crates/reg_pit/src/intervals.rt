@@ -1,10 +1,13 @@
 // Intervals of moments for each key.
-ghost use Rattle.std.specs.Prelude.{Bool, List, Option, ◌≡◌, ◌≤◌, ◌<◌, ◌+◌, ◌*◌, ◌^◌, ◌&&◌, ℕ, [], true, false, length, nat_le, nat_lt, Some, None, IfSome, IfNone, IfOk, OnOk, OnErr, if◌then◌else◌};
+ghost use Rattle.std.specs.Prelude.{Bool, List, Option, ◌≡◌, ◌≤◌, ◌<◌, ◌+◌, ◌*◌, ◌^◌, ◌&&◌, ℕ, []};
+ghost use Rattle.std.specs.Prelude.{true, false, length, nat_le, nat_lt, Some, None, IfSome};
+ghost use Rattle.std.specs.Prelude.{IfNone, IfOk, OnOk, OnErr, if◌then◌else◌};
 ghost use Rattle.std.specs.Ordering.{eq_by_cmp, is_gt};
 ghost use Rattle.std.specs.List.{list_any};
 ghost use Rattle.std.specs.List.Sorted.{IsStrictlySortedBy};
 ghost use Rattle.reg_pit.specs.Spans.{covers, AreSpans, AreSpansOf, NoLater, spans_until};
-ghost use Rattle.reg_pit.specs.Runs.{AreRuns, EndedBy, Switched, is_between, spans_of, TiesAreOne, AreAllOn, keyed_spans};
+ghost use Rattle.reg_pit.specs.Runs.{AreRuns, EndedBy, Switched, is_between, spans_of, TiesAreOne};
+ghost use Rattle.reg_pit.specs.Runs.{AreAllOn, keyed_spans};
 
 use crate::ends::End;
 use reg_base::{Moment, Steps};
@@ -109,8 +112,12 @@ impl<K: Ord + Copy> Intervals<K> {
     /// moment stays so. Out of memory the intervals stay as they were.
     pub fn set(&mut self, key: K, on: bool, at: Moment) -> Result<(), AllocError>
         requires { (k : K) → NoLater at (spans_of K.cmp self.old k) }
-        ensures set { OnOk result ((k : K) (t : ℕ) → covers (spans_of K.cmp self.new k) t ≡ (if eq_by_cmp K.cmp key k && nat_le at t then on else covers (spans_of K.cmp self.old k) t)) }
-        ensures before { OnOk result ((k : K) (t : ℕ) → t < at → covers (spans_of K.cmp self.new k) t ≡ covers (spans_of K.cmp self.old k) t) }
+        ensures set { OnOk result ((k : K) (t : ℕ)
+            → covers (spans_of K.cmp self.new k) t
+            ≡ (if eq_by_cmp K.cmp key k && nat_le at t then on
+            else covers (spans_of K.cmp self.old k) t)) }
+        ensures before { OnOk result ((k : K) (t : ℕ) → t < at
+            → covers (spans_of K.cmp self.new k) t ≡ covers (spans_of K.cmp self.old k) t) }
         ensures last { OnOk result ((k : K) → NoLater at (spans_of K.cmp self.new k)) }
         ensures err { OnErr result (self.new ≡ self.old) }
     {
@@ -124,7 +131,8 @@ impl<K: Ord + Copy> Intervals<K> {
 
     /// The start of the first interval of the key that ends after a moment.
     fn first_after(&self, key: K, t: Moment) -> Option<Moment>
-        ensures some { IfSome result (λ start. nat_le start t ≡ covers (spans_of K.cmp self.now key) t) }
+        ensures some { IfSome result (λ start. nat_le start t
+            ≡ covers (spans_of K.cmp self.now key) t) }
         ensures one { IfSome result (λ start. 1 ≤ length (spans_of K.cmp self.now key)) }
         ensures none { IfNone result (covers (spans_of K.cmp self.now key) t ≡ false) }
     {
@@ -152,7 +160,8 @@ impl<K: Ord + Copy> Intervals<K> {
     pub fn at<L: Ledger>(&self, key: K, t: Moment, steps: &mut Steps<L>) -> bool
         ensures value { result ≡ covers (spans_of K.cmp self.now key) t }
         ensures looks { steps.new ≤ steps.old + 1 }
-        ensures cost { (s : ℕ) → steps.new ≡ steps.old + s → 2 ^ s ≤ 2 * length (spans_of K.cmp self.now key) + 1 }
+        ensures cost { (s : ℕ) → steps.new ≡ steps.old + s
+            → 2 ^ s ≤ 2 * length (spans_of K.cmp self.now key) + 1 }
     {
         match self.first_after(key, t) {
             Some(start) => {
@@ -184,7 +193,9 @@ impl<K: Ord + Copy> Intervals<K> {
         to: K,
     ) -> Result<Vec<(K, Moment, Option<Moment>)>, AllocError>
         requires { is_gt (K.cmp from to) ≡ false }
-        ensures { IfOk result (λ rows. TiesAreOne K.cmp → (keys : List K) → IsStrictlySortedBy K.cmp keys → AreAllOn K.cmp from to self.now keys → rows.items ≡ keyed_spans K.cmp self.now keys) }
+        ensures { IfOk result (λ rows. TiesAreOne K.cmp → (keys : List K)
+            → IsStrictlySortedBy K.cmp keys → AreAllOn K.cmp from to self.now keys
+            → rows.items ≡ keyed_spans K.cmp self.now keys) }
     {
         let first = End::at(Moment::start());
         let mut rows = Vec::new(self.alloc);
@@ -199,7 +210,9 @@ impl<K: Ord + Copy> Intervals<K> {
     pub fn on_between(&self, from: K, to: K, t: Moment) -> Result<Vec<K>, AllocError>
         requires { is_gt (K.cmp from to) ≡ false }
         ensures ascending { IfOk result (λ keys. IsStrictlySortedBy K.cmp keys.items) }
-        ensures each { IfOk result (λ keys. (k : K) → list_any (eq_by_cmp K.cmp k) keys.items ≡ (is_between K.cmp from to k && covers (spans_of K.cmp self.now k) t)) }
+        ensures each { IfOk result (λ keys. (k : K)
+            → list_any (eq_by_cmp K.cmp k) keys.items
+            ≡ (is_between K.cmp from to k && covers (spans_of K.cmp self.now k) t)) }
     {
         let first = End::at(Moment::start());
         let mut keys = Vec::new(self.alloc);
@@ -216,7 +229,10 @@ impl<K: Ord + Copy> Intervals<K> {
     pub fn clear(self, from: K, to: K, at: Moment) -> Result<Intervals<K>, AllocError>
         requires forward { is_gt (K.cmp from to) ≡ false }
         requires last { (k : K) → NoLater at (spans_of K.cmp self k) }
-        ensures cleared { IfOk result (λ after. (k : K) (t : ℕ) → covers (spans_of K.cmp after k) t ≡ (if is_between K.cmp from to k && nat_le at t then false else covers (spans_of K.cmp self k) t)) }
+        ensures cleared { IfOk result (λ after. (k : K) (t : ℕ)
+            → covers (spans_of K.cmp after k) t
+            ≡ (if is_between K.cmp from to k && nat_le at t then false
+            else covers (spans_of K.cmp self k) t)) }
         ensures last { IfOk result (λ after. (k : K) → NoLater at (spans_of K.cmp after k)) }
     {
         let keys = self.on_between(from, to, at)?;
@@ -245,7 +261,8 @@ impl<K: Ord + Copy> Intervals<K> {
 
     /// Two lists of intervals for the same moments are one. It does nothing.
     pub fn law_one_list(&self)
-        ensures { (test : ℕ → Bool) (now : ℕ) (a b : List (ℕ × Option ℕ)) → AreSpansOf test now a → AreSpansOf test now b → a ≡ b }
+        ensures { (test : ℕ → Bool) (now : ℕ) (a b : List (ℕ × Option ℕ)) → AreSpansOf test now a
+            → AreSpansOf test now b → a ≡ b }
     {
         let _ = &self.starts;
     }

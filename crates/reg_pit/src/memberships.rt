@@ -1,5 +1,6 @@
 // When each person was an effective member of each group.
-ghost use Rattle.std.specs.Prelude.{◌≡◌, ◌≤◌, ◌+◌, ◌*◌, ◌^◌, ◌==◌, ◌&&◌, ℕ, List, [], true, length, map, nat_le, IfOk, OnOk, if◌then◌else◌};
+ghost use Rattle.std.specs.Prelude.{◌≡◌, ◌≤◌, ◌+◌, ◌*◌, ◌^◌, ◌==◌, ◌&&◌, ℕ, List, [], true, length};
+ghost use Rattle.std.specs.Prelude.{map, nat_le, IfOk, OnOk, if◌then◌else◌};
 ghost use Rattle.std.specs.List.{list_any};
 ghost use Rattle.std.specs.List.Sorted.{IsStrictlySortedBy};
 ghost use Rattle.std.specs.Ordering.{nat_cmp};
@@ -63,7 +64,8 @@ fn know(
     begins: bool,
 ) -> Result<(), AllocError>
     ensures known { OnOk result (begins ≡ true → has_pair (s, g) by_person.new.keys ≡ true) }
-    ensures others { OnOk result ((k : ℕ × ℕ) → has_pair k by_person.old.keys ≡ true → has_pair k by_person.new.keys ≡ true) }
+    ensures others { OnOk result ((k : ℕ × ℕ) → has_pair k by_person.old.keys ≡ true
+        → has_pair k by_person.new.keys ≡ true) }
 {
     if begins {
         by_person.insert((s, g))?;
@@ -92,7 +94,9 @@ impl Memberships {
         at: Moment,
     ) -> Result<Memberships, AllocError>
         requires { (k : ℕ × ℕ) → NoLater at (spans_of pair_cmp self k) }
-        ensures noted { IfOk result (λ after. (x y t : ℕ) → are_on after x y t ≡ (if ((x == g) && (y == s)) && nat_le at t then on else are_on self x y t)) }
+        ensures noted { IfOk result (λ after. (x y t : ℕ)
+            → are_on after x y t ≡ (if ((x == g) && (y == s)) && nat_le at t then on
+            else are_on self x y t)) }
         ensures last { IfOk result (λ after. (k : ℕ × ℕ) → NoLater at (spans_of pair_cmp after k)) }
     {
         let Memberships {
@@ -120,7 +124,8 @@ impl Memberships {
     ) -> bool
         ensures value { result ≡ are_on self.now g s t }
         ensures looks { steps.new ≤ steps.old + 1 }
-        ensures cost { (n : ℕ) → steps.new ≡ steps.old + n → 2 ^ n ≤ 2 * length (spans_of pair_cmp self.now (g, s)) + 1 }
+        ensures cost { (n : ℕ) → steps.new ≡ steps.old + n
+            → 2 ^ n ≤ 2 * length (spans_of pair_cmp self.now (g, s)) + 1 }
     {
         self.by_group.at((g, s), t, steps)
     }
@@ -143,7 +148,9 @@ impl Memberships {
         &self,
         g: GroupId,
     ) -> Result<Vec<(SubjectId, Moment, Option<Moment>)>, AllocError>
-        ensures { IfOk result (λ rows. (ids : List ℕ) → IsStrictlySortedBy nat_cmp ids → ((s t : ℕ) → are_on self.now g s t ≡ true → list_any (λ x. x == s) ids ≡ true) → rows.items ≡ second_spans self.now g ids) }
+        ensures { IfOk result (λ rows. (ids : List ℕ) → IsStrictlySortedBy nat_cmp ids
+            → ((s t : ℕ) → are_on self.now g s t ≡ true → list_any (λ x. x == s) ids ≡ true)
+            → rows.items ≡ second_spans self.now g ids) }
     {
         let first = (g, SubjectId::new(0));
         let last = (g, SubjectId::new(u32::MAX));

@@ -1,5 +1,6 @@
 // What was the case at each moment.
-ghost use Rattle.std.specs.Prelude.{◌≡◌, ◌≤◌, ◌+◌, ◌*◌, ◌^◌, ◌==◌, ◌&&◌, Bool, List, [], ℕ, None, true, false, length, filter, nat_le, IfOk, if◌then◌else◌};
+ghost use Rattle.std.specs.Prelude.{◌≡◌, ◌≤◌, ◌+◌, ◌*◌, ◌^◌, ◌==◌, ◌&&◌, Bool, List, [], ℕ, None};
+ghost use Rattle.std.specs.Prelude.{true, false, length, filter, nat_le, IfOk, if◌then◌else◌};
 ghost use Rattle.std.specs.List.{list_any};
 ghost use Rattle.std.specs.Ordering.{nat_cmp};
 ghost use Rattle.std.specs.List.Sorted.{IsStrictlySortedBy};
@@ -33,12 +34,16 @@ pub struct Past {
 }
 
 impl Past {
-    ghost use Rattle.reg_pit.specs.Past.{was_member, member_spans, all_member_spans, was_granted, grant_spans, wheel_at, assigns_at, last_assign, IsNewAssign, NotedBy, KeepsMembers, KeepsGrants, KeepsWheel, KeepsAssigns};
+    ghost use Rattle.reg_pit.specs.Past.{was_member, member_spans, all_member_spans, was_granted};
+    ghost use Rattle.reg_pit.specs.Past.{grant_spans, wheel_at, assigns_at, last_assign};
+    ghost use Rattle.reg_pit.specs.Past.{IsNewAssign, NotedBy, KeepsMembers, KeepsGrants};
+    ghost use Rattle.reg_pit.specs.Past.{KeepsWheel, KeepsAssigns};
 
     /// Nothing was ever the case. Takes no memory.
     pub fn start(alloc: Global) -> Past
         ensures members { (g s t : ℕ) → was_member result g s t ≡ false }
-        ensures grants { (o : Object) (p : Privilege) (h : Holder) (t : ℕ) → was_granted result o p h t ≡ false }
+        ensures grants { (o : Object) (p : Privilege) (h : Holder) (t : ℕ)
+            → was_granted result o p h t ≡ false }
         ensures wheel { (t : ℕ) → wheel_at result t ≡ None }
         ensures assigns { (t : ℕ) → assigns_at result t ≡ [] }
         ensures no_assign { last_assign result ≡ 0 }
@@ -62,7 +67,9 @@ impl Past {
         at: Moment,
     ) -> Result<Past, AllocError>
         requires { NotedBy at self }
-        ensures noted { IfOk result (λ past. (x y t : ℕ) → was_member past x y t ≡ (if ((x == g) && (y == s)) && nat_le at t then on else was_member self x y t)) }
+        ensures noted { IfOk result (λ past. (x y t : ℕ)
+            → was_member past x y t ≡ (if ((x == g) && (y == s)) && nat_le at t then on
+            else was_member self x y t)) }
         ensures grants { IfOk result (λ past. KeepsGrants self past) }
         ensures wheel { IfOk result (λ past. KeepsWheel self past) }
         ensures assigns { IfOk result (λ past. KeepsAssigns self past) }
@@ -93,7 +100,10 @@ impl Past {
         at: Moment,
     ) -> Result<Past, AllocError>
         requires { NotedBy at self }
-        ensures noted { IfOk result (λ past. (o : Object) (p : Privilege) (h : Holder) (t : ℕ) → was_granted past o p h t ≡ (if same_object o object && nat_le at t then has_grant grants.now p h else was_granted self o p h t)) }
+        ensures noted { IfOk result (λ past. (o : Object) (p : Privilege) (h : Holder) (t : ℕ)
+            → was_granted past o p h t
+            ≡ (if same_object o object && nat_le at t then has_grant grants.now p h
+            else was_granted self o p h t)) }
         ensures members { IfOk result (λ past. KeepsMembers self past) }
         ensures wheel { IfOk result (λ past. KeepsWheel self past) }
         ensures assigns { IfOk result (λ past. KeepsAssigns self past) }
@@ -118,7 +128,8 @@ impl Past {
     /// was so before the moment stays so. Out of memory the past is given up.
     pub fn note_wheel(self, wheel: Option<GroupId>, at: Moment) -> Result<Past, AllocError>
         requires { NotedBy at self }
-        ensures noted { IfOk result (λ past. (t : ℕ) → wheel_at past t ≡ (if nat_le at t then wheel else wheel_at self t)) }
+        ensures noted { IfOk result (λ past. (t : ℕ)
+            → wheel_at past t ≡ (if nat_le at t then wheel else wheel_at self t)) }
         ensures members { IfOk result (λ past. KeepsMembers self past) }
         ensures grants { IfOk result (λ past. KeepsGrants self past) }
         ensures assigns { IfOk result (λ past. KeepsAssigns self past) }
@@ -146,8 +157,11 @@ impl Past {
     pub fn note_assign(self, change: AssignChange, at: Moment) -> Result<Past, AllocError>
         requires noted { NotedBy at self }
         requires new { IsNewAssign self change }
-        ensures noted { IfOk result (λ past. (t : ℕ) → assigns_at past t ≡ (if nat_le at t then changed change (assigns_at self t) else assigns_at self t)) }
-        ensures greatest { IfOk result (λ past. last_assign past ≡ last_after change (last_assign self)) }
+        ensures noted { IfOk result (λ past. (t : ℕ)
+            → assigns_at past t ≡ (if nat_le at t then changed change (assigns_at self t)
+            else assigns_at self t)) }
+        ensures greatest { IfOk result (λ past. last_assign past
+            ≡ last_after change (last_assign self)) }
         ensures members { IfOk result (λ past. KeepsMembers self past) }
         ensures grants { IfOk result (λ past. KeepsGrants self past) }
         ensures wheel { IfOk result (λ past. KeepsWheel self past) }
@@ -179,7 +193,8 @@ impl Past {
     ) -> bool
         ensures value { result ≡ was_member self.now g s t }
         ensures looks { steps.new ≤ steps.old + 1 }
-        ensures cost { (n : ℕ) → steps.new ≡ steps.old + n → 2 ^ n ≤ 2 * length (member_spans self.now g s) + 1 }
+        ensures cost { (n : ℕ) → steps.new ≡ steps.old + n
+            → 2 ^ n ≤ 2 * length (member_spans self.now g s) + 1 }
     {
         self.memberships.at(g, s, t, steps)
     }
@@ -193,8 +208,11 @@ impl Past {
         s: SubjectId,
     ) -> Result<Vec<(Moment, Option<Moment>)>, AllocError>
         ensures value { IfOk result (λ spans. spans.items ≡ member_spans self.now g s) }
-        ensures until { IfOk result (λ spans. (test : ℕ → Bool) (now : ℕ) → NotedBy now self.now → ((t : ℕ) → t ≤ now → was_member self.now g s t ≡ test t) → spans.items ≡ spans_until test now) }
-        ensures one { IfOk result (λ spans. (now : ℕ) → NotedBy now self.now → AreSpansOf (was_member self.now g s) now spans.items) }
+        ensures until { IfOk result (λ spans. (test : ℕ → Bool) (now : ℕ) → NotedBy now self.now
+            → ((t : ℕ) → t ≤ now → was_member self.now g s t ≡ test t)
+            → spans.items ≡ spans_until test now) }
+        ensures one { IfOk result (λ spans. (now : ℕ) → NotedBy now self.now
+            → AreSpansOf (was_member self.now g s) now spans.items) }
     {
         let spans = self.memberships.spans(g, s)?;
         Ok(spans)
@@ -206,7 +224,9 @@ impl Past {
         &self,
         g: GroupId,
     ) -> Result<Vec<(SubjectId, Moment, Option<Moment>)>, AllocError>
-        ensures { IfOk result (λ rows. (ids : List ℕ) → IsStrictlySortedBy nat_cmp ids → ((s t : ℕ) → was_member self.now g s t ≡ true → list_any (λ x. x == s) ids ≡ true) → rows.items ≡ all_member_spans self.now g ids) }
+        ensures { IfOk result (λ rows. (ids : List ℕ) → IsStrictlySortedBy nat_cmp ids
+            → ((s t : ℕ) → was_member self.now g s t ≡ true → list_any (λ x. x == s) ids ≡ true)
+            → rows.items ≡ all_member_spans self.now g ids) }
     {
         self.memberships.history(g)
     }
@@ -238,7 +258,8 @@ impl Past {
     ) -> bool
         ensures value { result ≡ was_granted self.now object privilege holder t }
         ensures looks { steps.new ≤ steps.old + 1 }
-        ensures cost { (n : ℕ) → steps.new ≡ steps.old + n → 2 ^ n ≤ 2 * length (grant_spans self.now object privilege holder) + 1 }
+        ensures cost { (n : ℕ) → steps.new ≡ steps.old + n
+            → 2 ^ n ≤ 2 * length (grant_spans self.now object privilege holder) + 1 }
     {
         self.grants.at(object, privilege, holder, t, steps)
     }
@@ -251,7 +272,8 @@ impl Past {
         t: Moment,
     ) -> Result<Vec<(Privilege, Holder)>, AllocError>
         ensures ascending { IfOk result (λ grants. IsStrictlySortedBy held_cmp grants.items) }
-        ensures each { IfOk result (λ grants. (p : Privilege) (h : Holder) → has_grant grants.items p h ≡ was_granted self.now object p h t) }
+        ensures each { IfOk result (λ grants. (p : Privilege) (h : Holder)
+            → has_grant grants.items p h ≡ was_granted self.now object p h t) }
     {
         self.grants.held(object, t)
     }
@@ -267,7 +289,8 @@ impl Past {
     /// The assignments to an owner at a moment, by id, with the values that stood then in the order
     /// in which they were added. Costs what was ever assigned to the owner.
     pub fn assigns_at(&self, owner: Object, t: Moment) -> Result<Vec<AssignRow>, AllocError>
-        ensures { IfOk result (λ rows. rows.items ≡ filter (λ (row : AssignRow). same_object row.owner owner) (assigns_at self.now t)) }
+        ensures { IfOk result (λ rows. rows.items
+            ≡ filter (λ (row : AssignRow). same_object row.owner owner) (assigns_at self.now t)) }
     {
         self.assigns.on(owner, t)
     }
@@ -279,10 +302,12 @@ impl Past {
         let _ = &self.memberships;
     }
 
-    /// Where a test tells who was a member up to the last note, the intervals are what the test gives
-    /// moment by moment. It does nothing.
+    /// Where a test tells who was a member up to the last note, the intervals are what the test
+    /// gives moment by moment. It does nothing.
     pub fn law_spans(&self)
-        ensures { (test : ℕ → Bool) (now g s : ℕ) → NotedBy now self.now → ((t : ℕ) → t ≤ now → was_member self.now g s t ≡ test t) → member_spans self.now g s ≡ spans_until test now }
+        ensures { (test : ℕ → Bool) (now g s : ℕ) → NotedBy now self.now
+            → ((t : ℕ) → t ≤ now → was_member self.now g s t ≡ test t)
+            → member_spans self.now g s ≡ spans_until test now }
     {
         self.memberships.law_spans();
     }
@@ -290,17 +315,23 @@ impl Past {
     /// Where a test tells who held a privilege up to the last note, the intervals are what the test
     /// gives moment by moment. It does nothing.
     pub fn law_grant_spans(&self)
-        ensures { (test : ℕ → Bool) (now : ℕ) (o : Object) (p : Privilege) (h : Holder) → NotedBy now self.now → ((t : ℕ) → t ≤ now → was_granted self.now o p h t ≡ test t) → grant_spans self.now o p h ≡ spans_until test now }
+        ensures { (test : ℕ → Bool) (now : ℕ) (o : Object) (p : Privilege) (h : Holder)
+            → NotedBy now self.now → ((t : ℕ) → t ≤ now → was_granted self.now o p h t ≡ test t)
+            → grant_spans self.now o p h ≡ spans_until test now }
     {
         self.grants.law_spans();
     }
 
     /// From the last note on all stays as it was then. It does nothing.
     pub fn law_stays(&self)
-        ensures members { (at t g s : ℕ) → at ≤ t → NotedBy at self.now → was_member self.now g s t ≡ was_member self.now g s at }
-        ensures grants { (at t : ℕ) (o : Object) (p : Privilege) (h : Holder) → at ≤ t → NotedBy at self.now → was_granted self.now o p h t ≡ was_granted self.now o p h at }
-        ensures wheel { (at t : ℕ) → at ≤ t → NotedBy at self.now → wheel_at self.now t ≡ wheel_at self.now at }
-        ensures assigns { (at t : ℕ) → at ≤ t → NotedBy at self.now → assigns_at self.now t ≡ assigns_at self.now at }
+        ensures members { (at t g s : ℕ) → at ≤ t → NotedBy at self.now
+            → was_member self.now g s t ≡ was_member self.now g s at }
+        ensures grants { (at t : ℕ) (o : Object) (p : Privilege) (h : Holder) → at ≤ t
+            → NotedBy at self.now → was_granted self.now o p h t ≡ was_granted self.now o p h at }
+        ensures wheel { (at t : ℕ) → at ≤ t → NotedBy at self.now
+            → wheel_at self.now t ≡ wheel_at self.now at }
+        ensures assigns { (at t : ℕ) → at ≤ t → NotedBy at self.now
+            → assigns_at self.now t ≡ assigns_at self.now at }
     {
         let _ = &self.memberships;
     }

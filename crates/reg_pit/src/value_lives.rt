@@ -1,5 +1,6 @@
 // When each value stood in its assignment.
-ghost use Rattle.std.specs.Prelude.{◌≡◌, ◌==◌, ◌&&◌, ◌++◌, ◌∷◌, [], ℕ, map, filter, not, nat_le, IfOk, if◌then◌else◌};
+ghost use Rattle.std.specs.Prelude.{◌≡◌, ◌==◌, ◌&&◌, ◌++◌, ◌∷◌, [], ℕ, map, filter, not, nat_le};
+ghost use Rattle.std.specs.Prelude.{IfOk, if◌then◌else◌};
 ghost use Rattle.std.specs.Option.{option_copied};
 ghost use Rattle.reg_terms.specs.Values.{without_first};
 ghost use Rattle.reg_terms.specs.declared.kinds.AttrValue.{AttrValue};
@@ -78,7 +79,8 @@ impl Row for Standing {
     }
 }
 
-/// Puts a life that ends at a moment in the place of the one of its number. An empty one isn't kept.
+/// Puts a life that ends at a moment in the place of the one of its number. An empty one isn't
+/// kept.
 fn close(values: &mut Table<ValueLife>, closed: ValueLife, at: Moment)
     ensures { values.new ≡ closed_in closed at values.old }
 {
@@ -133,7 +135,9 @@ impl ValueLives {
         value: AttrValue,
         at: Moment,
     ) -> Result<ValueLives, AllocError>
-        ensures added { IfOk result (λ after. (a t : ℕ) → values_at after a t ≡ (if (a == assign) && nat_le at t then values_at self a t ++ value ∷ [] else values_at self a t)) }
+        ensures added { IfOk result (λ after. (a t : ℕ)
+            → values_at after a t ≡ (if (a == assign) && nat_le at t
+            then values_at self a t ++ value ∷ [] else values_at self a t)) }
         ensures last { IfOk result (λ after. AreValuesBy at self → AreValuesBy at after) }
     {
         let ValueLives {
@@ -164,7 +168,8 @@ impl ValueLives {
         })
     }
 
-    /// The first value that is this one, of those that stand in an assignment. Looks at those alone.
+    /// The first value that is this one, of those that stand in an assignment. Looks at those
+    /// alone.
     fn first(&self, assign: AssignId, value: &AttrValue) -> Option<&ValueLife>
         ensures { option_copied result ≡ first_open assign value.now self.now }
     {
@@ -182,7 +187,10 @@ impl ValueLives {
     /// is one; nothing was noted later.
     pub(crate) fn remove_first(&mut self, assign: AssignId, value: AttrValue, at: Moment)
         requires { AreValuesBy at self.old }
-        ensures removed { (a t : ℕ) → values_at self.new a t ≡ (if (a == assign) && nat_le at t then without_first value (values_at self.old a t) else values_at self.old a t) }
+        ensures removed { (a t : ℕ)
+            → values_at self.new a t
+            ≡ (if (a == assign) && nat_le at t then without_first value (values_at self.old a t)
+            else values_at self.old a t) }
         ensures last { AreValuesBy at self.new }
     {
         let Some(life) = self.first(assign, &value) else {

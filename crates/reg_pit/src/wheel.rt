@@ -35,7 +35,8 @@ impl Wheel {
     /// From a moment on this is the wheel group; nothing was noted later.
     pub(crate) fn note(self, wheel: Option<GroupId>, at: Moment) -> Result<Wheel, AllocError>
         requires { AreNotedBy at self }
-        ensures noted { IfOk result (λ after. (t : ℕ) → noted_at after t ≡ (if nat_le at t then wheel else noted_at self t)) }
+        ensures noted { IfOk result (λ after. (t : ℕ)
+            → noted_at after t ≡ (if nat_le at t then wheel else noted_at self t)) }
         ensures last { IfOk result (λ after. AreNotedBy at after) }
     {
         let Wheel { mut notes } = self;

@@ -56,7 +56,11 @@ fn ask(
     requires few { size ≤ 500 }
     requires within { number < count size }
     requires refused { tally.now.refused ≤ number }
-    ensures asked { IfOk result (λ after. IsAt (asked seed size number (record { state = service.state; tally = tally.now })) after.0.state after.1) }
+    ensures asked { IfOk result
+        (λ after. IsAt (asked seed size number (record {
+          state = service.state;
+          tally = tally.now;
+        })) after.0.state after.1) }
     ensures refused { IfOk result (λ after. after.1.refused ≤ number + 1) }
 {
     let text = line(alloc, seed, size, number)?;

@@ -1,4 +1,5 @@
--- Grants: the privileges on an object and who holds them, as they are written on it and as inherits give them.
+-- Grants: the privileges on an object and who holds them, as they are written on it and as inherits
+-- give them.
 use Rattle.std.specs.Prelude.{◌&&◌, ◌++◌, List, Bool, map, filter}
 use Rattle.reg_base.specs.declared.privilege.Privilege.{Privilege}
 use Rattle.reg_terms.specs.declared.kinds.Object.{Object}

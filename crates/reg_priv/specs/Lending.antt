@@ -12,4 +12,5 @@ use Rattle.reg_priv.specs.May.{allows}
 
 -- an inherit has this scope, is for objects of this kind, and allows it
 abbrev pub lends : Live → Who → Privilege → Object → Scope → InheritRow → Bool
-lends L who p o s row = same_scope row.scope s && (is_of_kind row.kind o && allows L who p (given row))
+lends L who p o s row =
+    same_scope row.scope s && (is_of_kind row.kind o && allows L who p (given row))

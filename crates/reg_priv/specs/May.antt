@@ -1,5 +1,7 @@
--- What a caller may do: by a grant, direct or inherited, to the caller, to everyone or to a group that has the caller; and root may do everything.
-use Rattle.std.specs.Prelude.{ℕ, ◌==◌, ◌&&◌, ◌||◌, List, Bool, true, false, Option, Some, None, codes, filter, option_map}
+-- What a caller may do: by a grant, direct or inherited, to the caller, to everyone or to a group
+-- that has the caller; and root may do everything.
+use Rattle.std.specs.Prelude.{ℕ, ◌==◌, ◌&&◌, ◌||◌, List, Bool, true, false, Option, Some, None}
+use Rattle.std.specs.Prelude.{codes, filter, option_map}
 use Rattle.std.specs.List.{list_any}
 use Rattle.reg_base.specs.declared.entity.Entity.{Entity}
 use Rattle.reg_base.specs.declared.entity.Entity.TheVariants as entity
@@ -58,14 +60,18 @@ abbrev pub judged : Object → Lists → Object
 judged (object.Folder d) f = object.Folder d
 judged (object.Group g) f = object.Group g
 judged (object.Def a) f = object.Def a
-judged (object.Attr a) f = elim (attribute_row a f.attributes) [ None ↦ object.Attr a | Some row ↦ object.Def row.definition ]
+judged (object.Attr a) f =
+    elim (attribute_row a f.attributes)
+    [ None ↦ object.Attr a | Some row ↦ object.Def row.definition ]
 judged (object.Subject s) f = object.Subject s
 
 -- whether a caller has a privilege on an object: one of its kind, by root or by a grant
 abbrev pub may : Live → Lists → Who → Object → Privilege → Bool
-may L f who o p = is_of_kind (line_of p).on (judged o f) && (is_root L f who || granted L f who (judged o f) p)
+may L f who o p =
+    is_of_kind (line_of p).on (judged o f) && (is_root L f who || granted L f who (judged o f) p)
 
--- whether a caller sees an object: all folders and subjects, a group with VIEW, a definition and its attributes with attrView
+-- whether a caller sees an object: all folders and subjects, a group with VIEW, a definition and
+-- its attributes with attrView
 abbrev pub visible : Live → Lists → Who → Object → Bool
 visible L f who (object.Folder d) = true
 visible L f who (object.Group g) = may L f who (object.Group g) View

@@ -2,7 +2,12 @@
 use Rattle.std.specs.Prelude.{◌||◌, ℕ, zero, suc, List, Bool, false, Option, None, Some}
 use Rattle.std.specs.List.{list_any}
 use Rattle.reg_terms.specs.declared.event.Event.{Event}
-use Rattle.reg_terms.specs.declared.event.Event.TheVariants.{FolderMade, FolderMoved, FolderGone, GroupMade, GroupMoved, GroupGone, GrantAdded, GrantRemoved, InheritAdded, InheritRemoved, DefinitionMade, DefinitionGone, AttributeMade, AttributeGone}
+use Rattle.reg_terms.specs.declared.event.Event.TheVariants.{FolderMade, FolderMoved, FolderGone}
+use Rattle.reg_terms.specs.declared.event.Event.TheVariants.{GroupMade, GroupMoved, GroupGone}
+use Rattle.reg_terms.specs.declared.event.Event.TheVariants.{GrantAdded, GrantRemoved, InheritAdded}
+use Rattle.reg_terms.specs.declared.event.Event.TheVariants.{InheritRemoved, DefinitionMade}
+use Rattle.reg_terms.specs.declared.event.Event.TheVariants.{DefinitionGone, AttributeMade}
+use Rattle.reg_terms.specs.declared.event.Event.TheVariants.{AttributeGone}
 use Rattle.reg_terms.specs.declared.kinds.Object.{Object}
 use Rattle.reg_terms.specs.declared.kinds.Object.TheVariants.{Folder, Group, Def, Attr}
 use Rattle.reg_terms.specs.declared.kinds.Scope.TheVariants.{Sub}
@@ -12,7 +17,9 @@ use Rattle.reg_facts.specs.Naming.{Placed, lies_in}
 use Rattle.reg_names.specs.Scopes.{in_scope}
 use Rattle.reg_priv.specs.Grants.{reaches}
 
--- whether an event, at the facts before it, may change the grants on an object: what is made, moved or goes, what gets or loses a grant, what an inherit that is added or removed reaches, and all below a folder that is moved
+-- whether an event, at the facts before it, may change the grants on an object: what is made, moved
+-- or goes, what gets or loses a grant, what an inherit that is added or removed reaches, and all
+-- below a folder that is moved
 abbrev pub touched : Event → Lists → Object → Bool
 touched (FolderMade row) f o = same_object (Folder row.id) o
 touched (FolderMoved id to) f o = same_object (Folder id) o || in_scope id Sub o f
@@ -34,7 +41,8 @@ touched _ f o = false
 abbrev pub is_listed : Object → List Object → Bool
 is_listed o objects = list_any (λ (other : Object). same_object other o) objects
 
--- whether a place is below a folder by so many levels at most: in it by one, in a folder in it by two
+-- whether a place is below a folder by so many levels at most: in it by one, in a folder in it by
+-- two
 abbrev pub place_below : ℕ → ℕ → Option Placed → Lists → Bool
 place_below zero d place f = false
 place_below (suc n) d None f = false

@@ -19,7 +19,8 @@ pub const MOST_LEVELS: usize = 1000;
 
 /// The folder in which an object stands.
 pub fn home_folder(facts: &Facts, object: &Object) -> Option<FolderId>
-    ensures { result ≡ option_map (λ (p : Placed). p.folder) (place_of object.now (placed facts.now)) }
+    ensures { result ≡ option_map (λ (p : Placed). p.folder)
+        (place_of object.now (placed facts.now)) }
 {
     match facts.place_of(object) {
         Some(place) => Some(place.folder),
@@ -46,7 +47,8 @@ fn any_beside<K: Kept>(
     object: &Object,
     home: FolderId,
 ) -> bool
-    ensures { result ≡ list_any (λ (row : InheritRow). (row.folder == home) && lends (K.held kept.now) who.now wanted object.now One row) facts.now.inherits }
+    ensures { result ≡ list_any (λ (row : InheritRow). (row.folder == home)
+        && lends (K.held kept.now) who.now wanted object.now One row) facts.now.inherits }
 {
     let rows = facts.inherits_of(home);
     any_given(kept, who, wanted, object, &Scope::One, rows)
@@ -61,7 +63,8 @@ fn any_here<K: Kept>(
     object: &Object,
     folder: FolderId,
 ) -> bool
-    ensures { result ≡ list_any (λ (row : InheritRow). (row.folder == folder) && lends (K.held kept.now) who.now wanted object.now Sub row) facts.now.inherits }
+    ensures { result ≡ list_any (λ (row : InheritRow). (row.folder == folder)
+        && lends (K.held kept.now) who.now wanted object.now Sub row) facts.now.inherits }
 {
     let rows = facts.inherits_of(folder);
     any_given(kept, who, wanted, object, &Scope::Sub, rows)
@@ -76,7 +79,9 @@ fn any_above<K: Kept>(
     object: &Object,
     home: FolderId,
 ) -> bool
-    ensures { result ≡ list_any (λ (row : InheritRow). lies_in most_levels home row.folder facts.now.folders && lends (K.held kept.now) who.now wanted object.now Sub row) facts.now.inherits }
+    ensures { result ≡ list_any
+        (λ (row : InheritRow). lies_in most_levels home row.folder facts.now.folders
+        && lends (K.held kept.now) who.now wanted object.now Sub row) facts.now.inherits }
 {
     let mut at = home;
     for _level in 0..MOST_LEVELS {
@@ -100,7 +105,8 @@ pub fn any_inherited<K: Kept>(
     wanted: Privilege,
     object: &Object,
 ) -> bool
-    ensures { result ≡ list_any (λ (row : InheritRow). reaches object.now facts.now row && allows (K.held kept.now) who.now wanted (given row)) facts.now.inherits }
+    ensures { result ≡ list_any (λ (row : InheritRow). reaches object.now facts.now row
+        && allows (K.held kept.now) who.now wanted (given row)) facts.now.inherits }
 {
     let Some(home) = home_folder(facts, object) else {
         return false;

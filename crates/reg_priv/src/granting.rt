@@ -29,7 +29,8 @@ pub fn any_written<K: Kept>(
     rows: GroupRows<'_, GrantRow>,
 ) -> bool
     requires { length rows < 2 ^ 63 }
-    ensures { result ≡ list_any (λ (row : GrantRow). allows (K.held kept.now) who.now wanted (written row)) rows.entry }
+    ensures { result ≡ list_any
+        (λ (row : GrantRow). allows (K.held kept.now) who.now wanted (written row)) rows.entry }
 {
     for row in rows {
         if allows(kept, who, wanted, row.privilege, &row.holder) {
@@ -49,7 +50,8 @@ pub fn any_given<K: Kept>(
     rows: GroupRows<'_, InheritRow>,
 ) -> bool
     requires { length rows < 2 ^ 63 }
-    ensures { result ≡ list_any (lends (K.held kept.now) who.now wanted object.now scope.now) rows.entry }
+    ensures { result ≡ list_any
+        (lends (K.held kept.now) who.now wanted object.now scope.now) rows.entry }
 {
     for row in rows {
         if row.scope.is(scope)

@@ -18,7 +18,9 @@ use std::alloc::{AllocError, Global};
 
 /// Puts these grants.
 fn put_written(found: &mut Gathered, rows: GroupRows<'_, GrantRow>) -> Result<(), AllocError>
-    ensures { OnOk result ((g : Grant) → is_among g found.new ≡ (is_among g found.old || list_any (λ (row : GrantRow). same_grant g (written row)) rows.entry)) }
+    ensures { OnOk result ((g : Grant)
+        → is_among g found.new ≡ (is_among g found.old
+        || list_any (λ (row : GrantRow). same_grant g (written row)) rows.entry)) }
 {
     for row in rows {
         found.put(row.privilege, &row.holder)?;
@@ -33,7 +35,9 @@ fn put_given(
     scope: &Scope,
     rows: GroupRows<'_, InheritRow>,
 ) -> Result<(), AllocError>
-    ensures { OnOk result ((g : Grant) → is_among g found.new ≡ (is_among g found.old || list_any (brings object.now scope.now g) rows.entry)) }
+    ensures { OnOk result ((g : Grant)
+        → is_among g found.new ≡ (is_among g found.old
+        || list_any (brings object.now scope.now g) rows.entry)) }
 {
     for row in rows {
         if row.scope.is(scope) && object.is_of(row.kind) {
@@ -50,7 +54,10 @@ fn put_beside(
     object: &Object,
     home: FolderId,
 ) -> Result<(), AllocError>
-    ensures { OnOk result ((g : Grant) → is_among g found.new ≡ (is_among g found.old || list_any (λ (row : InheritRow). (row.folder == home) && brings object.now One g row) facts.now.inherits)) }
+    ensures { OnOk result ((g : Grant)
+        → is_among g found.new ≡ (is_among g found.old
+        || list_any (λ (row : InheritRow). (row.folder == home)
+        && brings object.now One g row) facts.now.inherits)) }
 {
     let rows = facts.inherits_of(home);
     put_given(found, object, &Scope::One, rows)?;
@@ -64,7 +71,10 @@ fn put_here(
     object: &Object,
     folder: FolderId,
 ) -> Result<(), AllocError>
-    ensures { OnOk result ((g : Grant) → is_among g found.new ≡ (is_among g found.old || list_any (λ (row : InheritRow). (row.folder == folder) && brings object.now Sub g row) facts.now.inherits)) }
+    ensures { OnOk result ((g : Grant)
+        → is_among g found.new ≡ (is_among g found.old
+        || list_any (λ (row : InheritRow). (row.folder == folder)
+        && brings object.now Sub g row) facts.now.inherits)) }
 {
     let rows = facts.inherits_of(folder);
     put_given(found, object, &Scope::Sub, rows)?;
@@ -78,7 +88,10 @@ fn put_above(
     object: &Object,
     home: FolderId,
 ) -> Result<(), AllocError>
-    ensures { OnOk result ((g : Grant) → is_among g found.new ≡ (is_among g found.old || list_any (λ (row : InheritRow). lies_in most_levels home row.folder facts.now.folders && brings object.now Sub g row) facts.now.inherits)) }
+    ensures { OnOk result ((g : Grant)
+        → is_among g found.new ≡ (is_among g found.old
+        || list_any (λ (row : InheritRow). lies_in most_levels home row.folder facts.now.folders
+        && brings object.now Sub g row) facts.now.inherits)) }
 {
     let mut at = home;
     for _level in 0..MOST_LEVELS {
@@ -94,7 +107,10 @@ fn put_above(
 
 /// Puts what the inherits give that reach the object.
 fn put_inherited(found: &mut Gathered, facts: &Facts, object: &Object) -> Result<(), AllocError>
-    ensures { OnOk result ((g : Grant) → is_among g found.new ≡ (is_among g found.old || list_any (λ (row : InheritRow). reaches object.now facts.now row && same_grant g (given row)) facts.now.inherits)) }
+    ensures { OnOk result ((g : Grant)
+        → is_among g found.new ≡ (is_among g found.old
+        || list_any (λ (row : InheritRow). reaches object.now facts.now row
+        && same_grant g (given row)) facts.now.inherits)) }
 {
     let Some(home) = home_folder(facts, object) else {
         return Ok(());

@@ -108,7 +108,8 @@ pub fn privileges_of<K: Kept>(
     who: &Who,
     object: &Object,
 ) -> Result<Privileges, AllocError>
-    ensures { IfOk result (λ list. list ≡ privileges_of (K.held kept.now) facts.now who.now object.now) }
+    ensures { IfOk result (λ list. list
+        ≡ privileges_of (K.held kept.now) facts.now who.now object.now) }
 {
     let mut list = Privileges::new(alloc);
     for privilege in all_privileges() {

@@ -23,14 +23,16 @@ use std::alloc::{AllocError, Global};
 /// An event that suits the facts leaves the grants, direct and inherited, of every object that it
 /// doesn't touch as they were. It does nothing.
 pub fn law_untouched(facts: &Facts)
-    ensures { (e : Event) (o : Object) → Suits e facts.now → touched e facts.now o ≡ false → grants o (happened e facts.now) ≡ grants o facts.now }
+    ensures { (e : Event) (o : Object) → Suits e facts.now → touched e facts.now o ≡ false
+        → grants o (happened e facts.now) ≡ grants o facts.now }
 {
     facts.law_sound();
 }
 
 /// One object.
 fn only(alloc: Global, object: Object) -> Result<Vec<Object>, AllocError>
-    ensures { IfOk result (λ objects. (o : Object) → same_object object o ≡ true → is_listed o objects.items ≡ true) }
+    ensures { IfOk result (λ objects. (o : Object) → same_object object o ≡ true
+        → is_listed o objects.items ≡ true) }
 {
     let mut objects = Vec::new(alloc);
     objects.push(object)?;
@@ -44,8 +46,11 @@ fn put_named(
     extensions: &Texts,
     found: &mut Vec<Object>,
 ) -> Result<(), AllocError>
-    ensures kept { OnOk result ((o : Object) → is_listed o found.old.items ≡ true → is_listed o found.new.items ≡ true) }
-    ensures named { OnOk result ((e : List ℕ) (o : Object) → list_any (λ t. bytes_eq t e) extensions.now ≡ true → child folder e facts.now ≡ Some o → is_listed o found.new.items ≡ true) }
+    ensures kept { OnOk result ((o : Object) → is_listed o found.old.items ≡ true
+        → is_listed o found.new.items ≡ true) }
+    ensures named { OnOk result ((e : List ℕ) (o : Object)
+        → list_any (λ t. bytes_eq t e) extensions.now ≡ true → child folder e facts.now ≡ Some o
+        → is_listed o found.new.items ≡ true) }
 {
     let mut pieces = extensions.pieces();
     while let Some(extension) = pieces.next() {
@@ -63,10 +68,18 @@ fn put_all_named(
     names: &ChildNames,
     found: &mut Vec<Object>,
 ) -> Result<(), AllocError>
-    ensures folders { OnOk result ((e : List ℕ) (o : Object) → list_any (λ t. bytes_eq t e) names.now.folders ≡ true → child folder e facts.now ≡ Some o → is_listed o found.new.items ≡ true) }
-    ensures groups { OnOk result ((e : List ℕ) (o : Object) → list_any (λ t. bytes_eq t e) names.now.groups ≡ true → child folder e facts.now ≡ Some o → is_listed o found.new.items ≡ true) }
-    ensures definitions { OnOk result ((e : List ℕ) (o : Object) → list_any (λ t. bytes_eq t e) names.now.definitions ≡ true → child folder e facts.now ≡ Some o → is_listed o found.new.items ≡ true) }
-    ensures attributes { OnOk result ((e : List ℕ) (o : Object) → list_any (λ t. bytes_eq t e) names.now.attributes ≡ true → child folder e facts.now ≡ Some o → is_listed o found.new.items ≡ true) }
+    ensures folders { OnOk result ((e : List ℕ) (o : Object)
+        → list_any (λ t. bytes_eq t e) names.now.folders ≡ true → child folder e facts.now ≡ Some o
+        → is_listed o found.new.items ≡ true) }
+    ensures groups { OnOk result ((e : List ℕ) (o : Object)
+        → list_any (λ t. bytes_eq t e) names.now.groups ≡ true → child folder e facts.now ≡ Some o
+        → is_listed o found.new.items ≡ true) }
+    ensures definitions { OnOk result ((e : List ℕ) (o : Object)
+        → list_any (λ t. bytes_eq t e) names.now.definitions ≡ true
+        → child folder e facts.now ≡ Some o → is_listed o found.new.items ≡ true) }
+    ensures attributes { OnOk result ((e : List ℕ) (o : Object)
+        → list_any (λ t. bytes_eq t e) names.now.attributes ≡ true
+        → child folder e facts.now ≡ Some o → is_listed o found.new.items ≡ true) }
 {
     put_named(facts, folder, &names.folders, found)?;
     put_named(facts, folder, &names.groups, found)?;
@@ -76,7 +89,8 @@ fn put_all_named(
 
 /// The objects that stand directly in a folder.
 fn objects_in(alloc: Global, facts: &Facts, folder: FolderId) -> Result<Vec<Object>, AllocError>
-    ensures { IfOk result (λ objects. (o : Object) → in_scope folder One o facts.now ≡ true → is_listed o objects.items ≡ true) }
+    ensures { IfOk result (λ objects. (o : Object) → in_scope folder One o facts.now ≡ true
+        → is_listed o objects.items ≡ true) }
 {
     facts.law_sound();
     law_by_bytes();
@@ -95,8 +109,11 @@ fn put_below(
     found: &mut Vec<Object>,
 ) -> Result<(), AllocError>
     requires { levels ≤ 1001 }
-    ensures kept { OnOk result ((o : Object) → is_listed o found.old.items ≡ true → is_listed o found.new.items ≡ true) }
-    ensures below { OnOk result ((o : Object) → place_below levels folder (place_of o (placed facts.now)) facts.now ≡ true → is_listed o found.new.items ≡ true) }
+    ensures kept { OnOk result ((o : Object) → is_listed o found.old.items ≡ true
+        → is_listed o found.new.items ≡ true) }
+    ensures below { OnOk result ((o : Object)
+        → place_below levels folder (place_of o (placed facts.now)) facts.now ≡ true
+        → is_listed o found.new.items ≡ true) }
 {
     if levels == 0 {
         return Ok(());
@@ -113,7 +130,8 @@ fn put_below(
 
 /// What stands below a folder.
 fn objects_below(alloc: Global, facts: &Facts, folder: FolderId) -> Result<Vec<Object>, AllocError>
-    ensures { IfOk result (λ objects. (o : Object) → in_scope folder Sub o facts.now ≡ true → is_listed o objects.items ≡ true) }
+    ensures { IfOk result (λ objects. (o : Object) → in_scope folder Sub o facts.now ≡ true
+        → is_listed o objects.items ≡ true) }
 {
     let mut found = Vec::new(alloc);
     put_below(alloc, facts, MOST_LEVELS + 1, folder, &mut found)?;
@@ -126,8 +144,10 @@ fn folder_and_below(
     facts: &Facts,
     folder: FolderId,
 ) -> Result<Vec<Object>, AllocError>
-    ensures folder { IfOk result (λ objects. (o : Object) → same_object (Object.Folder folder) o ≡ true → is_listed o objects.items ≡ true) }
-    ensures below { IfOk result (λ objects. (o : Object) → in_scope folder Sub o facts.now ≡ true → is_listed o objects.items ≡ true) }
+    ensures folder { IfOk result (λ objects. (o : Object)
+        → same_object (Object.Folder folder) o ≡ true → is_listed o objects.items ≡ true) }
+    ensures below { IfOk result (λ objects. (o : Object) → in_scope folder Sub o facts.now ≡ true
+        → is_listed o objects.items ≡ true) }
 {
     let mut objects = objects_below(alloc, facts, folder)?;
     objects.push(Object::Folder(folder))?;
@@ -136,7 +156,9 @@ fn folder_and_below(
 
 /// What stands in the scope of an inherit.
 fn in_its_scope(alloc: Global, facts: &Facts, row: &InheritRow) -> Result<Vec<Object>, AllocError>
-    ensures { IfOk result (λ objects. (o : Object) → in_scope row.now.folder row.now.scope o facts.now ≡ true → is_listed o objects.items ≡ true) }
+    ensures { IfOk result (λ objects. (o : Object)
+        → in_scope row.now.folder row.now.scope o facts.now ≡ true
+        → is_listed o objects.items ≡ true) }
 {
     match row.scope {
         Scope::One => objects_in(alloc, facts, row.folder),
@@ -146,7 +168,8 @@ fn in_its_scope(alloc: Global, facts: &Facts, row: &InheritRow) -> Result<Vec<Ob
 
 /// Those of a kind.
 fn of_kind(alloc: Global, objects: &[Object], kind: InheritKind) -> Result<Vec<Object>, AllocError>
-    ensures { IfOk result (λ kept. (o : Object) → is_of_kind kind o ≡ true → is_listed o objects.now ≡ true → is_listed o kept.items ≡ true) }
+    ensures { IfOk result (λ kept. (o : Object) → is_of_kind kind o ≡ true
+        → is_listed o objects.now ≡ true → is_listed o kept.items ≡ true) }
 {
     let mut kept = Vec::new(alloc);
     for object in objects {
@@ -159,7 +182,8 @@ fn of_kind(alloc: Global, objects: &[Object], kind: InheritKind) -> Result<Vec<O
 
 /// What an inherit reaches.
 fn reached_by(alloc: Global, facts: &Facts, row: &InheritRow) -> Result<Vec<Object>, AllocError>
-    ensures { IfOk result (λ objects. (o : Object) → reaches o facts.now row.now ≡ true → is_listed o objects.items ≡ true) }
+    ensures { IfOk result (λ objects. (o : Object) → reaches o facts.now row.now ≡ true
+        → is_listed o objects.items ≡ true) }
 {
     let objects = in_its_scope(alloc, facts, row)?;
     let kept = of_kind(alloc, &objects, row.kind)?;
@@ -174,7 +198,8 @@ pub fn touched_objects(
     facts: &Facts,
     event: &Event,
 ) -> Result<Vec<Object>, AllocError>
-    ensures { IfOk result (λ objects. (o : Object) → touched event.now facts.now o ≡ true → is_listed o objects.items ≡ true) }
+    ensures { IfOk result (λ objects. (o : Object) → touched event.now facts.now o ≡ true
+        → is_listed o objects.items ≡ true) }
 {
     match event {
         Event::FolderMade { row } => only(alloc, Object::Folder(row.id)),

@@ -1,5 +1,6 @@
 -- What one rule does for a person who stopped being a member of a group, and what that changes.
-use Rattle.std.specs.Prelude.{ℕ, ◌+◌, ◌*◌, ◌==◌, ◌&&◌, List, [], ◌∷◌, Option, Some, None, map, nat_lt, nat_le, if◌then◌else◌}
+use Rattle.std.specs.Prelude.{ℕ, ◌+◌, ◌*◌, ◌==◌, ◌&&◌, List, [], ◌∷◌, Option, Some, None, map}
+use Rattle.std.specs.Prelude.{nat_lt, nat_le, if◌then◌else◌}
 use Rattle.std.specs.List.{find}
 use Rattle.reg_base.specs.Calendar.{day_micros}
 use Rattle.reg_base.specs.declared.moment.TheConstants.{GREATEST_MOMENT}
@@ -20,7 +21,9 @@ use Rattle.reg_rules.specs.Live.{row_on}
 
 -- the moment so many days later: none past the greatest moment, and none for no days
 abbrev pub days_later : ℕ → ℕ → Option ℕ
-days_later at days = if nat_lt at (at + days * day_micros) && nat_le (at + days * day_micros) GREATEST_MOMENT then Some (at + days * day_micros) else None
+days_later at days =
+    if nat_lt at (at + days * day_micros) && nat_le (at + days * day_micros) GREATEST_MOMENT
+    then Some (at + days * day_micros) else None
 
 -- the row goes, if there is one
 abbrev pub removal : ℕ → ℕ → ℕ → Option MemberRow → Option Action
@@ -44,8 +47,10 @@ ending rule g s until (Some row) = end_at rule g s until row.until
 
 -- what a rule does at a moment for a person who lost a group, by its form
 abbrev pub action_of : ℕ → ℕ → RuleForm → ℕ → ℕ → Lists → Option Action
-action_of at rule (RemoveLost check owner) g s f = if check == g then removal rule owner s (row_on at owner s f) else None
-action_of at rule (EndLost check owner days) g s f = if check == g then ending rule owner s (days_later at days) (row_on at owner s f) else None
+action_of at rule (RemoveLost check owner) g s f =
+    if check == g then removal rule owner s (row_on at owner s f) else None
+action_of at rule (EndLost check owner days) g s f =
+    if check == g then ending rule owner s (days_later at days) (row_on at owner s f) else None
 action_of at rule (Veto owner condition) g s f = None
 action_of at rule (OnCreate folder scope privilege holder) g s f = None
 
@@ -71,7 +76,8 @@ beginning (Some row) = row.from
 -- the event that an action is: the row is gone, or has another end from the same beginning on
 abbrev pub event_of : Action → Lists → Event
 event_of (Removed rule g s) f = RowRemoved g (Person s)
-event_of (Ended rule g s until) f = RowRedated g (Person s) (beginning (find (is_row g (Person s)) f.rows)) (Some until)
+event_of (Ended rule g s until) f =
+    RowRedated g (Person s) (beginning (find (is_row g (Person s)) f.rows)) (Some until)
 
 -- and the events that some actions are, one after another
 abbrev pub events_of : List Action → Lists → List Event

@@ -27,10 +27,11 @@ pub record Gathered : Type 0 where
 abbrev pub gathered : List Action → Turned → ℕ → Gathered
 gathered actions turned steps = record { actions = actions; turned = turned; steps = steps }
 
--- actions lead from facts to others: they are gathered in their order, whom they turn is remembered, and they take at most
--- the steps of their own changes
+-- actions lead from facts to others: they are gathered in their order, whom they turn is
+-- remembered, and they take at most the steps of their own changes
 pub record Outcome (actions : List Action) (now next : Now) (old new : Gathered) : Type 0 where
   pub stands : next ≡ after actions now
   pub listed : new.actions ≡ old.actions ++ actions
-  pub told : (M : Live) → Remembers M (live_now now) old.turned → Remembers M (live_now next) new.turned
+  pub told : (M : Live) → Remembers M (live_now now) old.turned
+      → Remembers M (live_now next) new.turned
   pub cost : new.steps ≤ old.steps + most_steps_of (changes_by actions) (live_now now)

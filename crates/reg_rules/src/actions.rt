@@ -71,7 +71,8 @@ fn ending(
     days: u32,
     person: SubjectId,
 ) -> Option<Action>
-    ensures { result ≡ ending rule owner person (days_later at days) (row_on at owner person facts.now) }
+    ensures { result ≡ ending rule owner person (days_later at days)
+        (row_on at owner person facts.now) }
 {
     let row = row_on(facts, at, owner, person)?;
     if row.until.is_some() {
@@ -86,7 +87,8 @@ fn ending(
     })
 }
 
-/// What a rule does at a moment for a person who stopped being a member of a group. Takes no memory.
+/// What a rule does at a moment for a person who stopped being a member of a group. Takes no
+/// memory.
 pub(crate) fn action_of(
     facts: &Facts,
     at: Moment,

@@ -28,13 +28,15 @@ pub trait Carrier: Drop {
     fn facts(&self) -> &Facts
         ensures { result.now ≡ (stands self.now).facts };
 
-    /// The memberships that changes turned since they are remembered, by group and person: those that
-    /// began, and those that ended.
+    /// The memberships that changes turned since they are remembered, by group and person: those
+    /// that began, and those that ended.
     fn turned_since(&self, turned: &Turned) -> Result<Vec<(GroupId, SubjectId, bool)>, AllocError>
-        ensures { IfOk result (λ list. (M : Live) → Remembers M (live_now (stands self.now)) turned.now → list.items ≡ turns M (live_now (stands self.now))) };
+        ensures { IfOk result (λ list. (M : Live)
+            → Remembers M (live_now (stands self.now)) turned.now
+            → list.items ≡ turns M (live_now (stands self.now))) };
 
-    /// A person's immediate membership, which is on, goes, and whom that turns is remembered. It takes
-    /// at most the steps of that change. Out of memory all is given up.
+    /// A person's immediate membership, which is on, goes, and whom that turns is remembered. It
+    /// takes at most the steps of that change. Out of memory all is given up.
     fn without_row<L: Ledger>(
         self,
         alloc: Global,
@@ -44,9 +46,17 @@ pub trait Carrier: Drop {
         steps: &mut Steps<L>,
     ) -> Result<Self, AllocError>
         requires { IsOn (stands self) group person }
-        ensures happened { IfOk result (λ next. stands next ≡ record { clock = (stands self).clock; facts = happened (RowRemoved group (Person person)) (stands self).facts }) }
-        ensures told { IfOk result (λ next. (M : Live) → Remembers M (live_now (stands self)) turned.old → Remembers M (live_now (stands next)) turned.new) }
-        ensures cost { OnOk result (steps.new ≤ steps.old + most_steps_of (RowOff group (Person person) ∷ []) (live_now (stands self))) };
+        ensures happened { IfOk result (λ next. stands next
+            ≡ record {
+              clock = (stands self).clock;
+              facts = happened (RowRemoved group (Person person)) (stands self).facts;
+            }) }
+        ensures told { IfOk result (λ next. (M : Live)
+            → Remembers M (live_now (stands self)) turned.old
+            → Remembers M (live_now (stands next)) turned.new) }
+        ensures cost { OnOk result (steps.new
+            ≤ steps.old + most_steps_of (RowOff group (Person person)
+            ∷ []) (live_now (stands self))) };
 
     /// A person's immediate membership, which is on since `from`, ends at a later moment. Nobody is
     /// turned by that, and it takes no steps. Out of memory all is given up.
@@ -62,7 +72,14 @@ pub trait Carrier: Drop {
     ) -> Result<Self, AllocError>
         requires on { IsOnSince (stands self) group person from }
         requires later { (stands self).clock < until }
-        ensures happened { IfOk result (λ next. stands next ≡ record { clock = (stands self).clock; facts = happened (RowRedated group (Person person) from (Some until)) (stands self).facts }) }
-        ensures told { IfOk result (λ next. (M : Live) → Remembers M (live_now (stands self)) turned.old → Remembers M (live_now (stands next)) turned.new) }
+        ensures happened { IfOk result (λ next. stands next
+            ≡ record {
+              clock = (stands self).clock;
+              facts = happened (RowRedated group (Person person) from (Some until))
+                  (stands self).facts;
+            }) }
+        ensures told { IfOk result (λ next. (M : Live)
+            → Remembers M (live_now (stands self)) turned.old
+            → Remembers M (live_now (stands next)) turned.new) }
         ensures cost { OnOk result (steps.new ≤ steps.old) };
 }

@@ -1,5 +1,5 @@
-//! What rules do after a step: who stopped being a member of a group loses another membership, or has
-//! it ended, round after round; and who may not be added to a group.
+//! What rules do after a step: who stopped being a member of a group loses another membership, or
+//! has it ended, round after round; and who may not be added to a group.
 #![tactic(auto)]
 
 mod actions;

@@ -9,7 +9,8 @@ ghost use Rattle.reg_effect.specs.Turned.{Remembers};
 ghost use Rattle.reg_rules.specs.Actions.{changes_by};
 ghost use Rattle.reg_rules.specs.Live.{live, live_now, IsOn, IsOnSince};
 ghost use Rattle.reg_rules.specs.Outcome.{after, gathered, CanAct, Outcome};
-ghost use Rattle.reg_rules.specs.Settling.{acting, rule_actions, round_actions, settling, settle, gains, losses};
+ghost use Rattle.reg_rules.specs.Settling.{acting, rule_actions, round_actions, settling, settle};
+ghost use Rattle.reg_rules.specs.Settling.{gains, losses};
 
 use crate::actions::action_of;
 use crate::{Action, Carrier, Standing};
@@ -48,9 +49,13 @@ fn carry<C: Carrier, L: Ledger>(
     steps: &mut Steps<L>,
 ) -> Result<C, AllocError>
     requires { CanAct (C.stands carrier) action.now }
-    ensures stands { IfOk result (λ next. C.stands next ≡ after (action.now ∷ []) (C.stands carrier)) }
-    ensures told { IfOk result (λ next. (M : Live) → Remembers M (live_now (C.stands carrier)) turned.old → Remembers M (live_now (C.stands next)) turned.new) }
-    ensures cost { OnOk result (steps.new ≤ steps.old + most_steps_of (changes_by (action.now ∷ [])) (live_now (C.stands carrier))) }
+    ensures stands { IfOk result (λ next. C.stands next
+        ≡ after (action.now ∷ []) (C.stands carrier)) }
+    ensures told { IfOk result (λ next. (M : Live)
+        → Remembers M (live_now (C.stands carrier)) turned.old
+        → Remembers M (live_now (C.stands next)) turned.new) }
+    ensures cost { OnOk result (steps.new
+        ≤ steps.old + most_steps_of (changes_by (action.now ∷ [])) (live_now (C.stands carrier))) }
 {
     match action {
         Action::Removed { group, subject, .. } => {
@@ -88,7 +93,10 @@ fn act<C: Carrier, L: Ledger>(
     turned: &mut Turned,
     steps: &mut Steps<L>,
 ) -> Result<C, AllocError>
-    ensures { IfOk result (λ next. Outcome (acting (C.stands carrier).clock rule.now group person (C.stands carrier).facts) (C.stands carrier) (C.stands next) (gathered actions.old.items turned.old steps.old) (gathered actions.new.items turned.new steps.new)) }
+    ensures { IfOk result (λ next.
+        Outcome (acting (C.stands carrier).clock rule.now group person (C.stands carrier).facts)
+        (C.stands carrier) (C.stands next) (gathered actions.old.items turned.old steps.old)
+        (gathered actions.new.items turned.new steps.new)) }
 {
     match action_of(
         carrier.facts(),
@@ -118,7 +126,11 @@ fn act_all<C: Carrier, L: Ledger>(
     turned: &mut Turned,
     steps: &mut Steps<L>,
 ) -> Result<C, AllocError>
-    ensures { IfOk result (λ next. Outcome (rule_actions (C.stands carrier).clock rules.now group person (C.stands carrier).facts) (C.stands carrier) (C.stands next) (gathered actions.old.items turned.old steps.old) (gathered actions.new.items turned.new steps.new)) }
+    ensures { IfOk result (λ next.
+        Outcome (rule_actions (C.stands carrier).clock rules.now group person
+        (C.stands carrier).facts) (C.stands carrier) (C.stands next)
+        (gathered actions.old.items turned.old steps.old)
+        (gathered actions.new.items turned.new steps.new)) }
 {
     let mut carrier = carrier;
     for rule in rules {
@@ -139,8 +151,8 @@ fn rules_checking(alloc: Global, facts: &Facts, group: GroupId) -> Result<Vec<Ru
     Ok(rules)
 }
 
-/// What rules do, by id, for a person who stopped being a member of a group. Only the rules that watch
-/// this group are looked at.
+/// What rules do, by id, for a person who stopped being a member of a group. Only the rules that
+/// watch this group are looked at.
 fn act_for<C: Carrier, L: Ledger>(
     alloc: Global,
     carrier: C,
@@ -149,7 +161,11 @@ fn act_for<C: Carrier, L: Ledger>(
     turned: &mut Turned,
     steps: &mut Steps<L>,
 ) -> Result<C, AllocError>
-    ensures { IfOk result (λ next. Outcome (rule_actions (C.stands carrier).clock (C.stands carrier).facts.rules pair.0 pair.1 (C.stands carrier).facts) (C.stands carrier) (C.stands next) (gathered actions.old.items turned.old steps.old) (gathered actions.new.items turned.new steps.new)) }
+    ensures { IfOk result (λ next.
+        Outcome (rule_actions (C.stands carrier).clock (C.stands carrier).facts.rules pair.0 pair.1
+        (C.stands carrier).facts) (C.stands carrier) (C.stands next)
+        (gathered actions.old.items turned.old steps.old)
+        (gathered actions.new.items turned.new steps.new)) }
 {
     let (group, person) = pair;
     let rules = rules_checking(alloc, carrier.facts(), group)?;
@@ -167,7 +183,11 @@ fn act_round<C: Carrier, L: Ledger>(
     turned: &mut Turned,
     steps: &mut Steps<L>,
 ) -> Result<C, AllocError>
-    ensures { IfOk result (λ next. Outcome (round_actions (C.stands carrier).clock (C.stands carrier).facts.rules pairs.now (C.stands carrier).facts) (C.stands carrier) (C.stands next) (gathered actions.old.items turned.old steps.old) (gathered actions.new.items turned.new steps.new)) }
+    ensures { IfOk result (λ next.
+        Outcome (round_actions (C.stands carrier).clock (C.stands carrier).facts.rules pairs.now
+        (C.stands carrier).facts) (C.stands carrier) (C.stands next)
+        (gathered actions.old.items turned.old steps.old)
+        (gathered actions.new.items turned.new steps.new)) }
 {
     let mut carrier = carrier;
     for pair in pairs {
@@ -202,8 +222,13 @@ fn next_round<C: Carrier, L: Ledger>(
     turned: &mut Turned,
     steps: &mut Steps<L>,
 ) -> Result<(C, Pairs), AllocError>
-    ensures round { IfOk result (λ next. Outcome (round_actions (C.stands carrier).clock (C.stands carrier).facts.rules pairs.now (C.stands carrier).facts) (C.stands carrier) (C.stands next.0) (gathered actions.old.items turned.old steps.old) (gathered actions.new.items turned.new steps.new)) }
-    ensures ended { IfOk result (λ next. next.1 ≡ ended (live_now (C.stands carrier)) (live_now (C.stands next.0))) }
+    ensures round { IfOk result
+        (λ next. Outcome (round_actions (C.stands carrier).clock
+        (C.stands carrier).facts.rules pairs.now (C.stands carrier).facts) (C.stands carrier)
+        (C.stands next.0) (gathered actions.old.items turned.old steps.old)
+        (gathered actions.new.items turned.new steps.new)) }
+    ensures ended { IfOk result (λ next. next.1
+        ≡ ended (live_now (C.stands carrier)) (live_now (C.stands next.0))) }
 {
     let mut in_round = Turned::new(alloc);
     let carrier = act_round(alloc, carrier, pairs, actions, &mut in_round, steps)?;
@@ -215,9 +240,10 @@ fn next_round<C: Carrier, L: Ledger>(
 }
 
 /// What follows where these memberships (group, person) ended: the rules by id whose group it is
-/// act for each pair in turn, and where they end further memberships, for those in turn, until a round
-/// ends none. Gives what stands then, and what rules did, in order; whom that turned is remembered. It
-/// takes at most the steps of the changes that the rules make. Out of memory all is given up.
+/// act for each pair in turn, and where they end further memberships, for those in turn, until a
+/// round ends none. Gives what stands then, and what rules did, in order; whom that turned is
+/// remembered. It takes at most the steps of the changes that the rules make. Out of memory all is
+/// given up.
 pub fn settle_in<C: Carrier, L: Ledger>(
     alloc: Global,
     carrier: C,
@@ -225,10 +251,20 @@ pub fn settle_in<C: Carrier, L: Ledger>(
     turned: &mut Turned,
     steps: &mut Steps<L>,
 ) -> Result<(C, Vec<Action>), AllocError>
-    ensures actions { IfOk result (λ last. last.1.items ≡ settling ended (C.stands carrier).clock (C.stands carrier).facts) }
-    ensures stands { IfOk result (λ last. C.stands last.0 ≡ record { clock = (C.stands carrier).clock; facts = settle ended (C.stands carrier).clock (C.stands carrier).facts }) }
-    ensures told { IfOk result (λ last. (M : Live) → Remembers M (live_now (C.stands carrier)) turned.old → Remembers M (live_now (C.stands last.0)) turned.new) }
-    ensures cost { OnOk result (steps.new ≤ steps.old + most_steps_of (changes_by (settling ended (C.stands carrier).clock (C.stands carrier).facts)) (live_now (C.stands carrier))) }
+    ensures actions { IfOk result (λ last. last.1.items
+        ≡ settling ended (C.stands carrier).clock (C.stands carrier).facts) }
+    ensures stands { IfOk result (λ last. C.stands last.0
+        ≡ record {
+          clock = (C.stands carrier).clock;
+          facts = settle ended (C.stands carrier).clock (C.stands carrier).facts;
+        }) }
+    ensures told { IfOk result (λ last. (M : Live)
+        → Remembers M (live_now (C.stands carrier)) turned.old
+        → Remembers M (live_now (C.stands last.0)) turned.new) }
+    ensures cost { OnOk result (steps.new
+        ≤ steps.old + most_steps_of
+        (changes_by (settling ended (C.stands carrier).clock (C.stands carrier).facts))
+        (live_now (C.stands carrier))) }
 {
     let mut carrier = carrier;
     let mut pairs = ended;
@@ -252,8 +288,8 @@ fn listed(alloc: Global, pairs: &[(GroupId, SubjectId)]) -> Result<Pairs, AllocE
     Ok(list)
 }
 
-/// What follows at a moment where these memberships (group, person) ended, as `settle_in`, over facts
-/// and the memberships at that moment.
+/// What follows at a moment where these memberships (group, person) ended, as `settle_in`, over
+/// facts and the memberships at that moment.
 pub fn settle<K: Kept, L: Ledger>(
     alloc: Global,
     facts: Facts,
@@ -267,8 +303,10 @@ pub fn settle<K: Kept, L: Ledger>(
     ensures actions { IfOk result (λ last. last.actions.items ≡ settling ended.items at facts) }
     ensures facts { IfOk result (λ last. last.facts ≡ settle ended.items at facts) }
     ensures kept { IfOk result (λ last. K.held last.kept ≡ live at last.facts) }
-    ensures told { IfOk result (λ last. (M : Live) → Remembers M (K.held kept) turned.old → Remembers M (K.held last.kept) turned.new) }
-    ensures cost { OnOk result (steps.new ≤ steps.old + most_steps_of (changes_by (settling ended.items at facts)) (K.held kept)) }
+    ensures told { IfOk result (λ last. (M : Live) → Remembers M (K.held kept) turned.old
+        → Remembers M (K.held last.kept) turned.new) }
+    ensures cost { OnOk result (steps.new
+        ≤ steps.old + most_steps_of (changes_by (settling ended.items at facts)) (K.held kept)) }
 {
     let ended = listed(alloc, &ended)?;
     let standing = Standing::new(at, facts, kept);

@@ -20,8 +20,8 @@ fn vetoes<K: Kept>(kept: &K, form: &RuleForm, group: GroupId, subject: SubjectId
 }
 
 /// The rule of the least id that forbids to add a person to a group, since the person isn't an
-/// effective member of the rule's condition. None exactly where no rule does. It takes no memory, and
-/// is a look into the memberships for each veto on the group; other rules aren't looked at.
+/// effective member of the rule's condition. None exactly where no rule does. It takes no memory,
+/// and is a look into the memberships for each veto on the group; other rules aren't looked at.
 pub fn veto<K: Kept>(facts: &Facts, kept: &K, group: GroupId, subject: SubjectId) -> Option<RuleId>
     ensures { result ≡ first_veto (K.held kept.now) group subject facts.now.rules }
 {

@@ -1,5 +1,6 @@
 -- What a crash leaves of the disk: at any moment of a run, and after it.
-use Rattle.std.specs.Prelude.{◌≡◌, ◌⊎◌, ◌≤◌, ◌+◌, ℕ, List, [], ◌∷◌, ◌++◌, length, take, Option, Result, Ok, Err, IfSome, true}
+use Rattle.std.specs.Prelude.{◌≡◌, ◌⊎◌, ◌≤◌, ◌+◌, ℕ, List, [], ◌∷◌, ◌++◌, length, take, Option}
+use Rattle.std.specs.Prelude.{Result, Ok, Err, IfSome, true}
 use Rattle.reg_terms.specs.declared.command.Stamped.{Stamped}
 use Rattle.reg_machine.specs.History.{State, start}
 use Rattle.reg_outside.specs.declared.disk.Disk.{Ghosts}
@@ -15,29 +16,40 @@ OpensTo held r = IfSome held (λ file. opens file ≡ r)
 abbrev pub AsBefore : (List ℕ → Type 0) → List ℕ → Type 0
 AsBefore was file = (c : List ℕ) × was c × (payloads_in file ≡ payloads_in c)
 
--- the file opens to a history followed by at least so many of the commands that were accepted after it
+-- the file opens to a history followed by at least so many of the commands that were accepted after
+-- it
 abbrev pub OpensWith : List Stamped → List Stamped → ℕ → List ℕ → Type 0
-OpensWith before accepted least file = (n : ℕ) × (least ≤ n) × (n ≤ length accepted) × (opens file ≡ Ok (at_last (before ++ take n accepted)))
+OpensWith before accepted least file =
+    (n : ℕ) × (least ≤ n) × (n ≤ length accepted)
+    × (opens file ≡ Ok (at_last (before ++ take n accepted)))
 
 -- the other is this history, or lacks its last command, or has one command more
 abbrev pub IsNear : List Stamped → List Stamped → Type 0
-IsNear history other = (other ≡ history) ⊎ (((last : Stamped) × (history ≡ other ++ last ∷ [])) ⊎ ((one : Stamped) × (other ≡ history ++ one ∷ [])))
+IsNear history other =
+    (other ≡ history) ⊎ (((last : Stamped) × (history ≡ other ++ last ∷ []))
+    ⊎ ((one : Stamped) × (other ≡ history ++ one ∷ [])))
 
--- A disk is sound for a history: its bytes open to it, and each image to it, to it without its last command or with one
--- command more.
-pub record IsSound (held : Option (List ℕ)) (images : List ℕ → Type 0) (history : List Stamped) : Type 0 where
+-- A disk is sound for a history: its bytes open to it, and each image to it, to it without its last
+-- command or with one command more.
+pub record IsSound (held : Option (List ℕ)) (images : List ℕ → Type 0)
+    (history : List Stamped) : Type 0 where
   pub bytes : IfSome held (λ file. opens file ≡ Ok (at_last history))
-  pub near : (c : List ℕ) → images c → (other : List Stamped) × IsNear history other × (opens c ≡ Ok (at_last other))
+  pub near : (c : List ℕ) → images c
+      → (other : List Stamped) × IsNear history other × (opens c ≡ Ok (at_last other))
 
--- a run ended at its input's end, or where that or the listener failed or there was too much input: at status 0, 5, 8 or 9
+-- a run ended at its input's end, or where that or the listener failed or there was too much input:
+-- at status 0, 5, 8 or 9
 abbrev pub IsWhole : ℕ → Type 0
 IsWhole status = (status ≡ 0) ⊎ ((status ≡ 5) ⊎ ((status ≡ 8) ⊎ (status ≡ 9)))
 
--- What a run leaves that began at a history, accepted these commands after it, and answered all of them but perhaps the
--- last. Its disk held these bytes and might leave these images before, and does those now.
-pub record Survives (before accepted : List Stamped) (answered status : ℕ) (held : Option (List ℕ)) (was : List ℕ → Type 0) (left : Option (List ℕ)) (images since : List ℕ → Type 0) : Type 0 where
+-- What a run leaves that began at a history, accepted these commands after it, and answered all of
+-- them but perhaps the last. Its disk held these bytes and might leave these images before, and
+-- does those now.
+pub record Survives (before accepted : List Stamped) (answered status : ℕ) (held : Option (List ℕ))
+    (was : List ℕ → Type 0) (left : Option (List ℕ)) (images since : List ℕ → Type 0) : Type 0 where
   pub few : (answered ≤ length accepted) × (length accepted ≤ answered + 1)
-  -- at any moment since the start a crash leaves what it might have left before, or a front of the accepted commands
+  -- at any moment since the start a crash leaves what it might have left before, or a front of the
+  -- accepted commands
   pub always : (c : List ℕ) → since c → AsBefore was c ⊎ OpensWith before accepted 0 c
   -- now it leaves all that were answered
   pub now : (c : List ℕ) → images c → OpensWith before accepted answered c
@@ -48,22 +60,30 @@ pub record Survives (before accepted : List Stamped) (answered status : ℕ) (he
   -- and so do the bytes
   pub whole : IsWhole status → IfSome left (λ file. opens file ≡ Ok (at_last (before ++ accepted)))
   -- a sound disk stays sound
-  pub sound : IsSound held was before → (n : ℕ) × (answered ≤ n) × (n ≤ length accepted) × IsSound left images (before ++ take n accepted)
+  pub sound : IsSound held was before
+      → (n : ℕ) × (answered ≤ n) × (n ≤ length accepted)
+      × IsSound left images (before ++ take n accepted)
 
--- Of a disk whose file opens to this history: each image since the start is one from before, and where the disk was sound
--- for the history, it is sound for it again.
-pub record StaysAt (history : List Stamped) (held : Option (List ℕ)) (was : List ℕ → Type 0) (left : Option (List ℕ)) (images since : List ℕ → Type 0) : Type 0 where
+-- Of a disk whose file opens to this history: each image since the start is one from before, and
+-- where the disk was sound for the history, it is sound for it again.
+pub record StaysAt (history : List Stamped) (held : Option (List ℕ)) (was : List ℕ → Type 0)
+    (left : Option (List ℕ)) (images since : List ℕ → Type 0) : Type 0 where
   pub always : (c : List ℕ) → since c → was c
   pub sound : IsSound held was history → IsSound left images history
 
--- Each image since the start is one from before, or opens to the empty history, or is damaged. At status 0 each image
--- now opens to the empty history. At every status `StaysAt` holds of the history that the file opened to, where it did.
-abbrev pub Begins : ℕ → (held : Option (List ℕ)) (was : List ℕ → Type 0) (left : Option (List ℕ)) (images since : List ℕ → Type 0) → Type 0
-Begins status held was left images since = ((c : List ℕ) → since c → was c ⊎ ((opens c ≡ Ok start) ⊎ ((at : ℕ) × (opens c ≡ Err at))))
+-- Each image since the start is one from before, or opens to the empty history, or is damaged. At
+-- status 0 each image now opens to the empty history. At every status `StaysAt` holds of the
+-- history that the file opened to, where it did.
+abbrev pub Begins : ℕ → (held : Option (List ℕ)) (was : List ℕ → Type 0) (left : Option (List ℕ))
+    (images since : List ℕ → Type 0) → Type 0
+Begins status held was left images since =
+    ((c : List ℕ) → since c → was c ⊎ ((opens c ≡ Ok start) ⊎ ((at : ℕ) × (opens c ≡ Err at))))
     × (status ≡ 0 → (c : List ℕ) → images c → opens c ≡ Ok start)
-    × IfSome held (λ file. (from : State) → opens file ≡ Ok from → StaysAt from.history held was left images since)
+    × IfSome held (λ file. (from : State) → opens file ≡ Ok from
+    → StaysAt from.history held was left images since)
 
--- what a run sees of a disk: its bytes and images before and after, and the images at all moments since
+-- what a run sees of a disk: its bytes and images before and after, and the images at all moments
+-- since
 pub record Seen : Type 1 where
   pub held : Option (List ℕ)
   pub was : List ℕ → Type 0
@@ -73,15 +93,24 @@ pub record Seen : Type 1 where
 
 -- the same of this disk, from an earlier state to a later one
 abbrev pub seen : {D : Type 0} → Ghosts D → D → D → Seen
-seen g old new = record { held = g.contents old; was = g.may_leave old; left = g.contents new; images = g.may_leave new; since = g.left_since new (g.moment old) }
+seen g old new = record {
+  held = g.contents old;
+  was = g.may_leave old;
+  left = g.contents new;
+  images = g.may_leave new;
+  since = g.left_since new (g.moment old);
+}
 
 -- the bytes are those from before, and each image since the start is one from before
 abbrev pub IsUntouched : Seen → Type 0
 IsUntouched d = (d.left ≡ d.held) × ((c : List ℕ) → d.since c → d.was c)
 
--- what a run leaves of a disk that opened to a history, with these commands accepted and so many of them answered
+-- what a run leaves of a disk that opened to a history, with these commands accepted and so many of
+-- them answered
 abbrev pub DiskSurvives : Seen → List Stamped → List Stamped → (answered status : ℕ) → Type 0
-DiskSurvives d before accepted answered status = IfSome d.held (λ file. Survives before accepted answered status d.held d.was d.left d.images d.since)
+DiskSurvives d before accepted answered status =
+    IfSome d.held (λ file. Survives before accepted answered status d.held d.was d.left d.images
+    d.since)
 
 -- what beginning a journal leaves of a disk; over a file that is taken nothing is written
 pub record DiskBegins (d : Seen) (status : ℕ) : Type 0 where

@@ -1,5 +1,6 @@
 -- How a run ends: each end, its cause, and what was done.
-use Rattle.std.specs.Prelude.{◌≡◌, ◌⊎◌, ◌<◌, ◌≤◌, ◌^◌, ◌+◌, ◌++◌, ℕ, List, [], Bool, true, false, Option, Some, None, Result, Ok, Err, length, take, option_map, IfSome}
+use Rattle.std.specs.Prelude.{◌≡◌, ◌⊎◌, ◌<◌, ◌≤◌, ◌^◌, ◌+◌, ◌++◌, ℕ, List, [], Bool, true, false}
+use Rattle.std.specs.Prelude.{Option, Some, None, Result, Ok, Err, length, take, option_map, IfSome}
 use Rattle.std.specs.Io.KnownBytes.{append_known, IsAtEnd}
 use Rattle.reg_outside.specs.Faults.{Rose}
 use Rattle.reg_outside.specs.Streams.{first_moment, WritesFront}
@@ -26,7 +27,8 @@ use Rattle.reg_session.specs.declared.stop.Stop.TheVariants as stop
 use Rattle.reg_run.specs.Crash.{Seen, seen, OpensTo, IsUntouched, DiskSurvives, DiskBegins}
 use Rattle.reg_run.specs.Status.{check_line, status_of}
 use Rattle.reg_run.specs.Serving.{DidServe}
-use Rattle.reg_run.specs.World.{World, Out, IsFlushed, LookedOnce, SameClock, SameInput, SameNet, SameOutput, output}
+use Rattle.reg_run.specs.World.{World, Out, IsFlushed, LookedOnce, SameClock, SameInput, SameNet}
+use Rattle.reg_run.specs.World.{SameOutput, output}
 use Rattle.reg_played.specs.Played.{summary, summary_text}
 use Rattle.reg_run.specs.Once.{AsksOnce, IsTakenWhole, Printed, end_of_reply, load_of}
 use Rattle.reg_run.specs.Questions.{asked_by}
@@ -49,8 +51,8 @@ OpenCaused the_end.TooMuch held before after = ⊥
 OpenCaused the_end.Exists held before after = ⊥
 OpenCaused the_end.Refused held before after = ⊥
 
--- The journal wasn't opened: nothing was read but the disk, nothing was written, the clock not looked at, and the listener
--- not asked.
+-- The journal wasn't opened: nothing was read but the disk, nothing was written, the clock not
+-- looked at, and the listener not asked.
 pub record NotOpened (d : Seen) (end : End) (before after : World) : Type 0 where
   pub cause : OpenCaused end before.held before.faults after.faults
   pub input : SameInput before after
@@ -61,11 +63,14 @@ pub record NotOpened (d : Seen) (end : End) (before after : World) : Type 0 wher
 
 -- what a run did over a journal: it wasn't opened; or it was, to a state from which this was done
 abbrev pub OverJournal : Seen → (State → Type 0) → End → World → World → Type 0
-OverJournal d Did end before after = NotOpened d end before after ⊎ ((from : State) × OpensTo before.held (Ok from) × Did from)
+OverJournal d Did end before after =
+    NotOpened d end before after ⊎ ((from : State) × OpensTo before.held (Ok from) × Did from)
 
--- how beginning a journal ends: it was begun over a file that isn't taken; or the file is taken; or the disk failed
+-- how beginning a journal ends: it was begun over a file that isn't taken; or the file is taken; or
+-- the disk failed
 abbrev pub InitEnds : End → Option (List ℕ) → ℕ → Option (List ℕ) → ℕ → Type 0
-InitEnds the_end.Done held before new after = (new ≡ option_map (λ file. journal_bytes []) held) × IfSome held (λ file. is_taken file ≡ false)
+InitEnds the_end.Done held before new after =
+    (new ≡ option_map (λ file. journal_bytes []) held) × IfSome held (λ file. is_taken file ≡ false)
 InitEnds the_end.Usage held before new after = ⊥
 InitEnds the_end.Memory held before new after = ⊥
 InitEnds the_end.Disk held before new after = Rose before after
@@ -90,9 +95,10 @@ pub record DidInit (d : Seen) (end : End) (before after : World) : Type 0 where
 abbrev pub begins_at : World → State → Point
 begins_at before from = record { written = before.written; moments = before.moments; state = from }
 
--- All lines of the bytes that were taken were answered, and the replies flushed; the input has ended, and the file opens to
--- the last history.
-pub record AppliedAll (from : State) (taken : List ℕ) (before after : World) (accepted : List Stamped) : Type 0 where
+-- All lines of the bytes that were taken were answered, and the replies flushed; the input has
+-- ended, and the file opens to the last history.
+pub record AppliedAll (from : State) (taken : List ℕ) (before after : World)
+    (accepted : List Stamped) : Type 0 where
   pub to : Point
   pub all : Accepted (begins_at before from) (lines taken) to accepted
   pub written : after.written ≡ to.written
@@ -103,19 +109,31 @@ pub record AppliedAll (from : State) (taken : List ℕ) (before after : World) (
   pub opens : OpensTo after.held (Ok (at_last to.state.history))
 
 -- How `apply` ends, over the bytes that it took: with its cause, and what was answered and kept.
-abbrev pub ApplyEnds : End → State → List ℕ → World → World → (accepted : List Stamped) → (answered : List Stamped) → Type 0
-ApplyEnds the_end.Done from taken before after accepted answered = AppliedAll from taken before after accepted
+abbrev pub ApplyEnds : End → State → List ℕ → World → World → (accepted : List Stamped)
+    → (answered : List Stamped) → Type 0
+ApplyEnds the_end.Done from taken before after accepted answered =
+    AppliedAll from taken before after accepted
 ApplyEnds the_end.Usage from taken before after accepted answered = ⊥
-ApplyEnds the_end.Memory from taken before after accepted answered = EndsInput (begins_at before from) taken after.left after.written after.flushed answered (from.history ++ accepted) stop.Memory
+ApplyEnds the_end.Memory from taken before after accepted answered =
+    EndsInput (begins_at before from) taken after.left after.written after.flushed answered
+    (from.history ++ accepted) stop.Memory
 ApplyEnds the_end.Disk from taken before after accepted answered =
-    Rose before.faults after.faults × EndsInput (begins_at before from) taken after.left after.written after.flushed answered (from.history ++ accepted) stop.Disk
+    Rose before.faults after.faults
+    × EndsInput (begins_at before from) taken after.left after.written after.flushed answered
+    (from.history ++ accepted) stop.Disk
 ApplyEnds the_end.Input from taken before after accepted answered =
-    Rose before.reads after.reads × EndsInput (begins_at before from) taken after.left after.written after.flushed answered (from.history ++ accepted) stop.Input
+    Rose before.reads after.reads
+    × EndsInput (begins_at before from) taken after.left after.written after.flushed answered
+    (from.history ++ accepted) stop.Input
 ApplyEnds the_end.Output from taken before after accepted answered =
-    Rose before.writes after.writes × EndsInput (begins_at before from) taken after.left after.written after.flushed answered (from.history ++ accepted) stop.Output
+    Rose before.writes after.writes
+    × EndsInput (begins_at before from) taken after.left after.written after.flushed answered
+    (from.history ++ accepted) stop.Output
 ApplyEnds (the_end.Damaged at) from taken before after accepted answered = ⊥
 ApplyEnds the_end.Listener from taken before after accepted answered = ⊥
-ApplyEnds the_end.TooMuch from taken before after accepted answered = EndsInput (begins_at before from) taken after.left after.written after.flushed answered (from.history ++ accepted) stop.TooMuch
+ApplyEnds the_end.TooMuch from taken before after accepted answered =
+    EndsInput (begins_at before from) taken after.left after.written after.flushed answered
+    (from.history ++ accepted) stop.TooMuch
 ApplyEnds the_end.Exists from taken before after accepted answered = ⊥
 ApplyEnds the_end.Refused from taken before after accepted answered = ⊥
 
@@ -125,15 +143,20 @@ pub record NoFault (before after : World) : Type 0 where
   pub output : Rose before.writes after.writes → ⊥
   pub disk : Rose before.faults after.faults → ⊥
 
--- Status 9, exactly: where as many bytes were taken as a run takes at the most, and so before the end of the input was found.
--- Without a fault and want of memory it comes wherever so many were taken, and so wherever the input has so many.
+-- Status 9, exactly: where as many bytes were taken as a run takes at the most, and so before the
+-- end of the input was found. Without a fault and want of memory it comes wherever so many were
+-- taken, and so wherever the input has so many.
 pub record TooMuchExactly (end : End) (taken : List ℕ) (before after : World) : Type 0 where
   pub only : end ≡ the_end.TooMuch → length taken ≡ 2 ^ 32
-  pub where_taken : NoFault before after → length taken ≡ 2 ^ 32 → (end ≡ the_end.TooMuch) ⊎ (end ≡ the_end.Memory)
-  pub where_given : NoFault before after → IfSome before.left (λ bytes. 2 ^ 32 ≤ length bytes → (end ≡ the_end.TooMuch) ⊎ (end ≡ the_end.Memory))
+  pub where_taken : NoFault before after → length taken ≡ 2 ^ 32
+      → (end ≡ the_end.TooMuch) ⊎ (end ≡ the_end.Memory)
+  pub where_given : NoFault before after
+      → IfSome before.left (λ bytes. 2 ^ 32 ≤ length bytes
+      → (end ≡ the_end.TooMuch) ⊎ (end ≡ the_end.Memory))
 
--- `apply` from the state that the file opened to: the bytes that were taken, cut at each LF, the commands that were accepted
--- and how many of them were answered, how it ended, and what it leaves of the disk.
+-- `apply` from the state that the file opened to: the bytes that were taken, cut at each LF, the
+-- commands that were accepted and how many of them were answered, how it ended, and what it leaves
+-- of the disk.
 pub record DidApply (d : Seen) (end : End) (before after : World) (from : State) : Type 0 where
   pub taken : List ℕ
   pub input : Takes before.left taken after.left
@@ -146,7 +169,8 @@ pub record DidApply (d : Seen) (end : End) (before after : World) (from : State)
   pub net : SameNet before after
   pub disk : DiskSurvives d from.history accepted answered (status_of end)
 
--- `check` from the state that the file opened to: it printed how many commands there are, and only read the disk
+-- `check` from the state that the file opened to: it printed how many commands there are, and only
+-- read the disk
 pub record DidCheck (d : Seen) (end : End) (before after : World) (from : State) : Type 0 where
   pub printed : Printed the_end.Done (check_line from) end (output before) (output after)
   pub input : SameInput before after
@@ -167,7 +191,9 @@ is_refused reply.KeepFault = false
 -- the one reply to a reading, at the next moment, was written
 abbrev pub Replied : Result Request Refusal → Bool → State → World → World → Type 0
 Replied reading refused from before after = IfSome before.moments (λ moments.
-    (after.written ≡ append_known before.written (line_of (turn from (first_moment moments) reading).0)) × (is_refused (turn from (first_moment moments) reading).0 ≡ refused))
+    (after.written ≡ append_known before.written
+    (line_of (turn from (first_moment moments) reading).0))
+    × (is_refused (turn from (first_moment moments) reading).0 ≡ refused))
 
 -- why a journal doesn't open, as a run's end
 abbrev pub end_of_open : OpenFault → End
@@ -183,38 +209,51 @@ end_of_stop stop.Input = the_end.Input
 end_of_stop stop.Output = the_end.Output
 end_of_stop stop.TooMuch = the_end.TooMuch
 
--- The reply to a reading at the clock's next moment was printed, or that there was no memory for it, and the end is its.
-pub record Asked (s : State) (moments : Option (List ℕ)) (reading : Result Request Refusal) (end : End) (old new : Out) : Type 0 where
+-- The reply to a reading at the clock's next moment was printed, or that there was no memory for
+-- it, and the end is its.
+pub record Asked (s : State) (moments : Option (List ℕ)) (reading : Result Request Refusal)
+    (end : End) (old new : Out) : Type 0 where
   pub told : Reply
   pub at : ℕ
   pub moment : IfSome moments (λ ms. at ≡ first_moment ms)
   pub turn : (told ≡ (turn s at reading).0) ⊎ (told ≡ reply.NoMemory)
   pub printed : Printed (end_of_reply told) (line_of told) end old new
 
--- a front of the one reply to a reading, at the next moment, stands on the output, or one of that there was no memory
+-- a front of the one reply to a reading, at the next moment, stands on the output, or one of that
+-- there was no memory
 abbrev pub RepliedFront : Result Request Refusal → State → World → World → Type 0
 RepliedFront reading from before after =
-    IfSome before.moments (λ moments. WritesFront before.written after.written (line_of (turn from (first_moment moments) reading).0))
+    IfSome before.moments (λ moments.
+    WritesFront before.written after.written (line_of (turn from (first_moment moments) reading).0))
     ⊎ WritesFront before.written after.written (line_of reply.NoMemory)
 
--- How a question ends: its reply, that of the turn from the state that the file opened to, was printed, with status 0 where it
--- isn't refused; or that there was no memory, or nothing, since there was none; or the output failed, and a front of the
--- reply stands there. The disk doesn't fail once the journal is open.
+-- How a question ends: its reply, that of the turn from the state that the file opened to, was
+-- printed, with status 0 where it isn't refused; or that there was no memory, or nothing, since
+-- there was none; or the output failed, and a front of the reply stands there. The disk doesn't
+-- fail once the journal is open.
 abbrev pub AskEnds : Result Request Refusal → End → State → World → World → Type 0
-AskEnds reading the_end.Done from before after = Replied reading false from before after × IsFlushed after
+AskEnds reading the_end.Done from before after =
+    Replied reading false from before after × IsFlushed after
 AskEnds reading the_end.Usage from before after = ⊥
-AskEnds reading the_end.Memory from before after = ((after.written ≡ append_known before.written (line_of reply.NoMemory)) × IsFlushed after) ⊎ SameOutput before after
+AskEnds reading the_end.Memory from before after =
+    ((after.written ≡ append_known before.written (line_of reply.NoMemory)) × IsFlushed after)
+    ⊎ SameOutput before after
 AskEnds reading the_end.Disk from before after = ⊥
 AskEnds reading the_end.Input from before after = ⊥
-AskEnds reading the_end.Output from before after = Rose before.writes after.writes × RepliedFront reading from before after × (after.flushed ≡ before.flushed)
+AskEnds reading the_end.Output from before after =
+    Rose before.writes after.writes × RepliedFront reading from before after
+    × (after.flushed ≡ before.flushed)
 AskEnds reading (the_end.Damaged at) from before after = ⊥
 AskEnds reading the_end.Listener from before after = ⊥
 AskEnds reading the_end.TooMuch from before after = ⊥
 AskEnds reading the_end.Exists from before after = ⊥
-AskEnds reading the_end.Refused from before after = Replied reading true from before after × IsFlushed after
+AskEnds reading the_end.Refused from before after =
+    Replied reading true from before after × IsFlushed after
 
--- what is read was asked from the state that the file opened to; the clock was looked at once, and the disk only read
-pub record DidAsk (d : Seen) (reading : Result Request Refusal) (end : End) (before after : World) (from : State) : Type 0 where
+-- what is read was asked from the state that the file opened to; the clock was looked at once, and
+-- the disk only read
+pub record DidAsk (d : Seen) (reading : Result Request Refusal) (end : End) (before after : World)
+    (from : State) : Type 0 where
   pub ends : AskEnds reading end from before after
   pub input : SameInput before after
   pub clock : LookedOnce before after
@@ -225,32 +264,40 @@ pub record DidAsk (d : Seen) (reading : Result Request Refusal) (end : End) (bef
 -- The input wasn't taken whole: it failed, and nothing was asked or written.
 abbrev pub LoadBroke : End → State → World → World → (answered kept : List Stamped) → Type 0
 LoadBroke end from before after answered kept =
-    (end ≡ the_end.Input) × Rose before.reads after.reads × SameOutput before after × SameClock before after × (answered ≡ from.history) × (kept ≡ from.history)
+    (end ≡ the_end.Input) × Rose before.reads after.reads × SameOutput before after
+    × SameClock before after × (answered ≡ from.history) × (kept ≡ from.history)
 
--- It was taken, to its end or to one byte more than a table may have, and the load of what was taken was asked: at the clock's
--- next moment, by GrouperSystem. Its reply was printed, or there was no memory to, or the output failed. Where the keeper
--- failed, so did the disk.
-abbrev pub LoadAsked : End → State → (job taken : List ℕ) → World → World → (answered kept : List Stamped) → Type 0
+-- It was taken, to its end or to one byte more than a table may have, and the load of what was
+-- taken was asked: at the clock's next moment, by GrouperSystem. Its reply was printed, or there
+-- was no memory to, or the output failed. Where the keeper failed, so did the disk.
+abbrev pub LoadAsked : End → State → (job taken : List ℕ) → World → World
+    → (answered kept : List Stamped) → Type 0
 LoadAsked end from job taken before after answered kept =
-    IsTakenWhole taken after.left × LookedOnce before after × AsksOnce from before.moments (load_of job taken) end answered kept (output before) (output after) × (end ≡ the_end.Disk → Rose before.faults after.faults)
+    IsTakenWhole taken after.left × LookedOnce before after
+    × AsksOnce from before.moments (load_of job taken) end answered kept (output before)
+    (output after) × (end ≡ the_end.Disk → Rose before.faults after.faults)
 
--- `load` from the state that the file opened to: the bytes that were taken, the commands that were accepted and how many of
--- them were answered, how it ended, and what it leaves of the disk.
-pub record DidLoad (d : Seen) (job : List ℕ) (end : End) (before after : World) (from : State) : Type 0 where
+-- `load` from the state that the file opened to: the bytes that were taken, the commands that were
+-- accepted and how many of them were answered, how it ended, and what it leaves of the disk.
+pub record DidLoad (d : Seen) (job : List ℕ) (end : End) (before after : World)
+    (from : State) : Type 0 where
   pub taken : List ℕ
   pub input : Takes before.left taken after.left
   pub few : length taken ≤ max_line + 1
   pub accepted : List Stamped
   pub answered : ℕ
-  pub ends : LoadBroke end from before after (from.history ++ take answered accepted) (from.history ++ accepted)
-      ⊎ LoadAsked end from job taken before after (from.history ++ take answered accepted) (from.history ++ accepted)
+  pub ends : LoadBroke end from before after (from.history ++ take answered accepted) (from.history
+      ++ accepted)
+      ⊎ LoadAsked end from job taken before after (from.history
+      ++ take answered accepted) (from.history ++ accepted)
   pub net : SameNet before after
   pub disk : DiskSurvives d from.history accepted answered (status_of end)
 
--- `sample`: the summary of the seed and the size was printed, and nothing else was looked at; or there was no memory, and
--- nothing was written
+-- `sample`: the summary of the seed and the size was printed, and nothing else was looked at; or
+-- there was no memory, and nothing was written
 pub record DidSample (d : Seen) (seed size : ℕ) (end : End) (before after : World) : Type 0 where
-  pub printed : Printed the_end.Done (summary_text (summary seed size)) end (output before) (output after)
+  pub printed : Printed the_end.Done (summary_text (summary seed size)) end (output before)
+      (output after)
   pub input : SameInput before after
   pub clock : SameClock before after
   pub net : SameNet before after
@@ -261,21 +308,29 @@ pub record DidSample (d : Seen) (seed size : ℕ) (end : End) (before after : Wo
 abbrev pub Did : Seen → Task → End → World → World → Type 0
 Did d task.Init end before after = DidInit d end before after
 Did d task.Apply end before after = OverJournal d (DidApply d end before after) end before after
-Did d (task.Serve port connections) end before after = OverJournal d (DidServe d port connections end before after) end before after
+Did d (task.Serve port connections) end before after =
+    OverJournal d (DidServe d port connections end before after) end before after
 Did d task.Check end before after = OverJournal d (DidCheck d end before after) end before after
-Did d (task.Ask question) end before after = OverJournal d (DidAsk d (asked_by question) end before after) end before after
-Did d (task.Load job) end before after = OverJournal d (DidLoad d job end before after) end before after
+Did d (task.Ask question) end before after =
+    OverJournal d (DidAsk d (asked_by question) end before after) end before after
+Did d (task.Load job) end before after =
+    OverJournal d (DidLoad d job end before after) end before after
 Did d (task.Sample seed size) end before after = DidSample d seed size end before after
 
 -- nothing was done
 abbrev pub IsIdle : {D : Type 0} → World → World → D → D → Type 0
 IsIdle before after old new = (after ≡ before) × (new ≡ old)
 
--- what a run of these words did; words that ask for nothing leave all as it was, and so do words for which there was no memory
+-- what a run of these words did; words that ask for nothing leave all as it was, and so do words
+-- for which there was no memory
 abbrev pub RunDid : {D : Type 0} → Ghosts D → Option Task → End → World → World → D → D → Type 0
-RunDid g None end before after old new = ((end ≡ the_end.Usage) ⊎ (end ≡ the_end.Memory)) × IsIdle before after old new
-RunDid g (Some asked) end before after old new = Did (seen g old new) asked end before after ⊎ ((end ≡ the_end.Memory) × IsIdle before after old new)
+RunDid g None end before after old new =
+    ((end ≡ the_end.Usage) ⊎ (end ≡ the_end.Memory)) × IsIdle before after old new
+RunDid g (Some asked) end before after old new =
+    Did (seen g old new) asked end before after
+    ⊎ ((end ≡ the_end.Memory) × IsIdle before after old new)
 
--- status 2 comes only where the words ask for nothing; and there it comes, unless there was no memory to read them
+-- status 2 comes only where the words ask for nothing; and there it comes, unless there was no
+-- memory to read them
 abbrev pub IsUsage : Option Task → ℕ → Type 0
 IsUsage asked status = (status ≡ 2 → asked ≡ None) × (asked ≡ None → (status ≡ 2) ⊎ (status ≡ 3))

@@ -1,5 +1,6 @@
 -- One request of a run, and its reply.
-use Rattle.std.specs.Prelude.{◌≡◌, ◌⊎◌, ◌≤◌, ◌+◌, ℕ, List, Bool, true, false, Option, Result, Ok, Err, codes, length, nat_lt, option_map, if◌then◌else◌, IfSome}
+use Rattle.std.specs.Prelude.{◌≡◌, ◌⊎◌, ◌≤◌, ◌+◌, ℕ, List, Bool, true, false, Option, Result, Ok}
+use Rattle.std.specs.Prelude.{Err, codes, length, nat_lt, option_map, if◌then◌else◌, IfSome}
 use Rattle.std.specs.Io.KnownBytes.{append_known, IsAtEnd}
 use Rattle.reg_outside.specs.Faults.{Rose}
 use Rattle.reg_outside.specs.Streams.{first_moment, later_moments, WritesFront}
@@ -24,12 +25,15 @@ use Rattle.reg_run.specs.World.{Out}
 use Rattle.reg_run.specs.declared.status.End.{End}
 use Rattle.reg_run.specs.declared.status.End.TheVariants as the_end
 
--- How printing these bytes ends: they were written and flushed, and the end is this one; or the output failed, a front of them
--- stands there and isn't flushed; or there was no memory, and nothing was written.
+-- How printing these bytes ends: they were written and flushed, and the end is this one; or the
+-- output failed, a front of them stands there and isn't flushed; or there was no memory, and
+-- nothing was written.
 abbrev pub Printed : End → List ℕ → End → Out → Out → Type 0
 Printed good bytes end old new =
-    ((end ≡ good) × (new.written ≡ append_known old.written bytes) × (new.flushed ≡ option_map length new.written))
-    ⊎ (((end ≡ the_end.Output) × Rose old.writes new.writes × WritesFront old.written new.written bytes × (new.flushed ≡ old.flushed))
+    ((end ≡ good) × (new.written ≡ append_known old.written bytes)
+    × (new.flushed ≡ option_map length new.written))
+    ⊎ (((end ≡ the_end.Output) × Rose old.writes new.writes
+    × WritesFront old.written new.written bytes × (new.flushed ≡ old.flushed))
     ⊎ ((end ≡ the_end.Memory) × (new ≡ old)))
 
 -- the end of a run that printed this one reply
@@ -41,16 +45,22 @@ end_of_reply (reply.Refused r) = the_end.Refused
 end_of_reply reply.NoMemory = the_end.Memory
 end_of_reply reply.KeepFault = the_end.Disk
 
--- What follows a reading at a moment, by its reply: the history that was answered, and the one that may be kept. The registry
--- went on; or there was no memory to go on; or the keeper failed, and the command may be kept or not.
-abbrev pub TurnsOnce : State → ℕ → Result Request Refusal → Reply → (answered kept : List Stamped) → Type 0
+-- What follows a reading at a moment, by its reply: the history that was answered, and the one that
+-- may be kept. The registry went on; or there was no memory to go on; or the keeper failed, and the
+-- command may be kept or not.
+abbrev pub TurnsOnce : State → ℕ → Result Request Refusal → Reply → (answered kept : List Stamped)
+    → Type 0
 TurnsOnce s at reading told answered kept =
-    ((last : State) × Turns s at reading told last × (answered ≡ last.history) × (kept ≡ last.history))
+    ((last : State) × Turns s at reading told last × (answered ≡ last.history)
+    × (kept ≡ last.history))
     ⊎ (((told ≡ reply.NoMemory) × (answered ≡ s.history) × (kept ≡ s.history))
-    ⊎ ((told ≡ reply.KeepFault) × (answered ≡ s.history) × ((kept ≡ s.history) ⊎ (kept ≡ (turn s at reading).1.history))))
+    ⊎ ((told ≡ reply.KeepFault) × (answered ≡ s.history)
+    × ((kept ≡ s.history) ⊎ (kept ≡ (turn s at reading).1.history))))
 
--- What is read was asked at the clock's next moment, and its reply printed, or there was no memory to, or the output failed.
-pub record AsksOnce (s : State) (moments : Option (List ℕ)) (reading : Result Request Refusal) (end : End) (answered kept : List Stamped) (old new : Out) : Type 0 where
+-- What is read was asked at the clock's next moment, and its reply printed, or there was no memory
+-- to, or the output failed.
+pub record AsksOnce (s : State) (moments : Option (List ℕ)) (reading : Result Request Refusal)
+    (end : End) (answered kept : List Stamped) (old new : Out) : Type 0 where
   pub at : ℕ
   pub moment : IfSome moments (λ ms. at ≡ first_moment ms)
   pub told : Reply
@@ -88,15 +98,19 @@ pub record TakesTable (left now : Option (List ℕ)) (kept : PendingLine) : Type
   pub few : length taken ≤ max_line + 1
   pub whole : IsTakenWhole taken now
 
--- A service ran a job over an input. The input failed, and nothing was asked; or it was taken whole, and the load of what was
--- taken was asked. Where it ended for the disk, the keeper failed.
-pub record LoadsOnce {K : Type 0} (g : Ghosts K) (from : State) (old : K) (job : List ℕ) (left now moments later : Option (List ℕ)) (out after : Out) (reads more_reads : ℕ) (end : End) (keeper : K) : Type 0 where
+-- A service ran a job over an input. The input failed, and nothing was asked; or it was taken
+-- whole, and the load of what was taken was asked. Where it ended for the disk, the keeper failed.
+pub record LoadsOnce {K : Type 0} (g : Ghosts K) (from : State) (old : K) (job : List ℕ)
+    (left now moments later : Option (List ℕ)) (out after : Out) (reads more_reads : ℕ) (end : End)
+    (keeper : K) : Type 0 where
   pub taken : List ℕ
   pub input : Takes left taken now
   pub few : length taken ≤ max_line + 1
   pub halted : Halted g from.history old keeper
-  pub ends : ((end ≡ the_end.Input) × Rose reads more_reads × (after ≡ out) × (later ≡ moments) × (halted.answered ≡ from.history) × (halted.after ≡ from.history))
-      ⊎ (IsTakenWhole taken now × (later ≡ option_map later_moments moments) × AsksOnce from moments (load_of job taken) end halted.answered halted.after out after)
+  pub ends : ((end ≡ the_end.Input) × Rose reads more_reads × (after ≡ out) × (later ≡ moments)
+      × (halted.answered ≡ from.history) × (halted.after ≡ from.history))
+      ⊎ (IsTakenWhole taken now × (later ≡ option_map later_moments moments)
+      × AsksOnce from moments (load_of job taken) end halted.answered halted.after out after)
   pub disk : end ≡ the_end.Disk → Rose (g.keep_faults old) (g.keep_faults keeper)
 
 -- some of it was taken

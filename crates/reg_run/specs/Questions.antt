@@ -1,5 +1,6 @@
 -- What a question in words asks.
-use Rattle.std.specs.Prelude.{◌≡◌, ℕ, List, Option, Some, None, Result, Ok, Err, codes, option_map, ok_or}
+use Rattle.std.specs.Prelude.{◌≡◌, ℕ, List, Option, Some, None, Result, Ok, Err, codes, option_map}
+use Rattle.std.specs.Prelude.{ok_or}
 use Rattle.reg_base.specs.Names.{name_of}
 use Rattle.reg_base.specs.MomentText.{moment_of}
 use Rattle.reg_terms.specs.declared.query.Query.{Query}

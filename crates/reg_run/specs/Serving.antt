@@ -13,18 +13,21 @@ use Rattle.reg_run.specs.World.{World, SameInput, SameOutput}
 use Rattle.reg_run.specs.declared.status.End.{End}
 use Rattle.reg_run.specs.declared.status.End.TheVariants as the_end
 
--- Connections of this port were served, as many as were asked for or all that were to come, and these commands accepted; the
--- file opens to the last history.
-pub record ServedAll (from : State) (port limit : ℕ) (before after : World) (accepted : List Stamped) : Type 0 where
+-- Connections of this port were served, as many as were asked for or all that were to come, and
+-- these commands accepted; the file opens to the last history.
+pub record ServedAll (from : State) (port limit : ℕ) (before after : World)
+    (accepted : List Stamped) : Type 0 where
   pub last : State
   pub listens : after.net.port ≡ Some port
-  pub served : ServesVisits limit from before.moments before.net.connections after.net.connections last after.moments
+  pub served : ServesVisits limit from before.moments before.net.connections after.net.connections
+      last after.moments
   pub grown : last.history ≡ from.history ++ accepted
   pub opens : OpensTo after.held (Ok (at_last last.history))
 
--- Serving ceased for this cause, before the first connection or after some of this port: up to the first history all was
--- answered, and what may be kept is the second.
-pub record ServedSome (from : State) (port limit : ℕ) (before after : World) (answered kept : List Stamped) (why : Ceased) : Type 0 where
+-- Serving ceased for this cause, before the first connection or after some of this port: up to the
+-- first history all was answered, and what may be kept is the second.
+pub record ServedSome (from : State) (port limit : ℕ) (before after : World)
+    (answered kept : List Stamped) (why : Ceased) : Type 0 where
   pub visits : List Visit
   pub listens : (visits ≡ []) ⊎ (after.net.port ≡ Some port)
   pub told : Visits before.net.connections after.net.connections visits
@@ -32,27 +35,35 @@ pub record ServedSome (from : State) (port limit : ℕ) (before after : World) (
   pub ends : CeasesAt from before.moments visits after.moments answered kept why
 
 -- how `serve` ends: with its cause, and which connections were served
-abbrev pub ServeEnds : End → State → (port limit : ℕ) → World → World → (accepted answered : List Stamped) → Type 0
-ServeEnds the_end.Done from port limit before after accepted answered = ServedAll from port limit before after accepted
+abbrev pub ServeEnds : End → State → (port limit : ℕ) → World → World
+    → (accepted answered : List Stamped) → Type 0
+ServeEnds the_end.Done from port limit before after accepted answered =
+    ServedAll from port limit before after accepted
 ServeEnds the_end.Usage from port limit before after accepted answered = ⊥
-ServeEnds the_end.Memory from port limit before after accepted answered = ServedSome from port limit before after answered (from.history ++ accepted) ceased.Memory
+ServeEnds the_end.Memory from port limit before after accepted answered =
+    ServedSome from port limit before after answered (from.history ++ accepted) ceased.Memory
 ServeEnds the_end.Disk from port limit before after accepted answered =
-    Rose before.faults after.faults × ServedSome from port limit before after answered (from.history ++ accepted) ceased.Disk
+    Rose before.faults after.faults
+    × ServedSome from port limit before after answered (from.history ++ accepted) ceased.Disk
 ServeEnds the_end.Input from port limit before after accepted answered = ⊥
 ServeEnds the_end.Output from port limit before after accepted answered = ⊥
 ServeEnds (the_end.Damaged at) from port limit before after accepted answered = ⊥
 ServeEnds the_end.Listener from port limit before after accepted answered =
-    Rose before.net.net_faults after.net.net_faults × ServedSome from port limit before after answered (from.history ++ accepted) ceased.Listener
+    Rose before.net.net_faults after.net.net_faults
+    × ServedSome from port limit before after answered (from.history ++ accepted) ceased.Listener
 ServeEnds the_end.TooMuch from port limit before after accepted answered = ⊥
 ServeEnds the_end.Exists from port limit before after accepted answered = ⊥
 ServeEnds the_end.Refused from port limit before after accepted answered = ⊥
 
--- `serve` from the state that the file opened to: the commands that were accepted and how many of them were answered, how it
--- ended, and what it leaves of the disk. Nothing is read or written but the connections.
-pub record DidServe (d : Seen) (port limit : ℕ) (end : End) (before after : World) (from : State) : Type 0 where
+-- `serve` from the state that the file opened to: the commands that were accepted and how many of
+-- them were answered, how it ended, and what it leaves of the disk. Nothing is read or written but
+-- the connections.
+pub record DidServe (d : Seen) (port limit : ℕ) (end : End) (before after : World)
+    (from : State) : Type 0 where
   pub accepted : List Stamped
   pub answered : ℕ
-  pub ends : ServeEnds end from port limit before after accepted (from.history ++ take answered accepted)
+  pub ends : ServeEnds end from port limit before after accepted (from.history
+      ++ take answered accepted)
   pub input : SameInput before after
   pub output : SameOutput before after
   pub disk : DiskSurvives d from.history accepted answered (status_of end)

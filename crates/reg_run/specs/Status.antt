@@ -39,12 +39,19 @@ note_of the_end.Refused = []
 
 -- the note was written; or the sink failed, and some front of it was; or there was no memory for it
 abbrev pub NotesOnce : End → Option (List ℕ) → ℕ → Option (List ℕ) → ℕ → Type 0
-NotesOnce end old before new after = (new ≡ append_known old (note_of end)) ⊎ ((Rose before after × WritesFront old new (note_of end)) ⊎ (new ≡ old))
+NotesOnce end old before new after =
+    (new ≡ append_known old (note_of end))
+    ⊎ ((Rose before after × WritesFront old new (note_of end)) ⊎ (new ≡ old))
 
 -- the exit statuses that a run has
 abbrev pub IsStatus : ℕ → Type 0
-IsStatus n = (n ≡ 0) ⊎ (n ≡ 2) ⊎ (n ≡ 3) ⊎ (n ≡ 4) ⊎ (n ≡ 5) ⊎ (n ≡ 6) ⊎ (n ≡ 7) ⊎ (n ≡ 8) ⊎ (n ≡ 9) ⊎ (n ≡ 10) ⊎ (n ≡ 11)
+IsStatus n =
+    (n ≡ 0) ⊎ (n ≡ 2) ⊎ (n ≡ 3) ⊎ (n ≡ 4) ⊎ (n ≡ 5) ⊎ (n ≡ 6) ⊎ (n ≡ 7) ⊎ (n ≡ 8) ⊎ (n ≡ 9)
+    ⊎ (n ≡ 10) ⊎ (n ≡ 11)
 
--- what `check` prints: how many commands there are, and the last one's moment, or moment 0, at which the journal opens
+-- what `check` prints: how many commands there are, and the last one's moment, or moment 0, at
+-- which the journal opens
 abbrev pub check_line : State → List ℕ
-check_line s = codes "commands " ++ decimal (length s.history) ++ codes " moment " ++ text_of s.clock ++ 10 ∷ []
+check_line s =
+    codes "commands " ++ decimal (length s.history) ++ codes " moment " ++ text_of s.clock ++ 10
+    ∷ []

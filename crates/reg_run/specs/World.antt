@@ -8,7 +8,8 @@ use Rattle.reg_outside.specs.declared.clock.Clock as clock
 use Rattle.reg_outside.specs.declared.listener.Listener as listener
 use Rattle.reg_outside.specs.Connections.{Connections}
 
--- what a run sees of a listener: its port, its connections where they are told, and the count of faults
+-- what a run sees of a listener: its port, its connections where they are told, and the count of
+-- faults
 pub record Net : Type 0 where
   pub port : Option ℕ
   pub connections : Option Connections
@@ -16,10 +17,14 @@ pub record Net : Type 0 where
 
 -- the same of this listener
 abbrev pub net_of : {L Conn : Type 0} → listener.Ghosts L Conn → L → Net
-net_of l net = record { port = l.listens net; connections = l.connections net; net_faults = l.listener_faults net }
+net_of l net = record {
+  port = l.listens net;
+  connections = l.connections net;
+  net_faults = l.listener_faults net;
+}
 
--- bytes left and written, how many were flushed, moments and the disk's bytes, where they are told, the counts of faults,
--- and the listener
+-- bytes left and written, how many were flushed, moments and the disk's bytes, where they are told,
+-- the counts of faults, and the listener
 pub record World : Type 0 where
   pub left : Option (List ℕ)
   pub reads : ℕ
@@ -32,7 +37,8 @@ pub record World : Type 0 where
   pub net : Net
 
 -- the world of these objects
-abbrev pub world : {S K D C : Type 0} → source.Ghosts S → sink.Ghosts K → disk.Ghosts D → clock.Ghosts C → S → K → D → C → Net → World
+abbrev pub world : {S K D C : Type 0} → source.Ghosts S → sink.Ghosts K → disk.Ghosts D
+    → clock.Ghosts C → S → K → D → C → Net → World
 world s k d c input out held time net = record {
   left = s.left input;
   reads = s.read_faults input;
@@ -51,7 +57,8 @@ holding d w held = record w { held = d.contents held; faults = d.faults held }
 
 -- with this output
 abbrev pub printing : {K : Type 0} → sink.Ghosts K → World → K → World
-printing k w out = record w { written = k.written out; flushed = k.flushed out; writes = k.write_faults out }
+printing k w out =
+    record w { written = k.written out; flushed = k.flushed out; writes = k.write_faults out }
 
 -- with this clock
 abbrev pub at_clock : {C : Type 0} → clock.Ghosts C → World → C → World
@@ -61,7 +68,8 @@ at_clock c w time = record w { moments = c.moments time }
 abbrev pub at_net : {L Conn : Type 0} → listener.Ghosts L Conn → World → L → World
 at_net l w net = record w { net = net_of l net }
 
--- what a run sees of an output: the bytes that were written, how many of them were flushed, and the count of faults
+-- what a run sees of an output: the bytes that were written, how many of them were flushed, and the
+-- count of faults
 pub record Out : Type 0 where
   pub written : Option (List ℕ)
   pub flushed : Option ℕ
@@ -69,7 +77,11 @@ pub record Out : Type 0 where
 
 -- the same of this output
 abbrev pub out_of : {K : Type 0} → sink.Ghosts K → K → Out
-out_of k out = record { written = k.written out; flushed = k.flushed out; writes = k.write_faults out }
+out_of k out = record {
+  written = k.written out;
+  flushed = k.flushed out;
+  writes = k.write_faults out;
+}
 
 -- and of the output of a world
 abbrev pub output : World → Out
@@ -85,7 +97,9 @@ SameNet before after = after.net ≡ before.net
 
 -- nothing was written
 abbrev pub SameOutput : World → World → Type 0
-SameOutput before after = (after.written ≡ before.written) × (after.flushed ≡ before.flushed) × (after.writes ≡ before.writes)
+SameOutput before after =
+    (after.written ≡ before.written) × (after.flushed ≡ before.flushed)
+    × (after.writes ≡ before.writes)
 
 -- the clock was looked at once
 abbrev pub LookedOnce : World → World → Type 0

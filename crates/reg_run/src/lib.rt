@@ -1,5 +1,5 @@
-//! The program over its outside: what the words ask for, done over a disk's journal, an input, an output, a clock and a
-//! listener, and the exit status and the note that say how it ended.
+//! The program over its outside: what the words ask for, done over a disk's journal, an input, an
+//! output, a clock and a listener, and the exit status and the note that say how it ended.
 #![tactic(auto)]
 
 mod load;

@@ -1,5 +1,6 @@
 // A job, run over the input as its table.
-ghost use Rattle.std.specs.Prelude.{◌≡◌, ◌≤◌, ◌<◌, ◌+◌, ℕ, List, Result, Err, length, take, codes, option_map, IfOk, OnErr};
+ghost use Rattle.std.specs.Prelude.{◌≡◌, ◌≤◌, ◌<◌, ◌+◌, ℕ, List, Result, Err, length, take, codes};
+ghost use Rattle.std.specs.Prelude.{option_map, IfOk, OnErr};
 ghost use Rattle.std.specs.Io.KnownBytes.{IsAtEnd, prepend_known};
 ghost use Rattle.reg_outside.specs.Faults.{Rose};
 ghost use Rattle.reg_outside.specs.Streams.{later_moments};
@@ -10,7 +11,8 @@ ghost use Rattle.reg_service.specs.Kept.{Halted};
 ghost use Rattle.reg_session.specs.Pending.{AsksFormed, Holds, ReadsAs};
 ghost use Rattle.reg_run.specs.Crash.{seen};
 ghost use Rattle.reg_run.specs.Ends.{Did};
-ghost use Rattle.reg_run.specs.Once.{AsksOnce, LoadsOnce, TakesSome, TakesTable, load_of, load_request};
+ghost use Rattle.reg_run.specs.Once.{AsksOnce, LoadsOnce, TakesSome, TakesTable, load_of};
+ghost use Rattle.reg_run.specs.Once.{load_request};
 ghost use Rattle.reg_run.specs.World.{Net, out_of, world};
 
 use crate::perform::{open, print_reply};
@@ -36,7 +38,8 @@ fn read_some<S: Source>(input: &mut S, buf: &mut [u8], taken: usize) -> Result<u
     requires some { taken < MOST }
     ensures within { IfOk result (λ n. taken + n ≤ MOST) }
     ensures filled { IfOk result (λ n. n ≤ length buf.new) }
-    ensures bytes { IfOk result (λ n. S.left input.old ≡ prepend_known (take n buf.new) (S.left input.new)) }
+    ensures bytes { IfOk result (λ n. S.left input.old
+        ≡ prepend_known (take n buf.new) (S.left input.new)) }
     ensures end { IfOk result (λ n. n ≡ 0 → IsAtEnd (S.left input.new)) }
     ensures count { S.read_faults input.old ≤ S.read_faults input.new }
     ensures failed { OnErr result (Rose (S.read_faults input.old) (S.read_faults input.new)) }
@@ -74,7 +77,8 @@ fn take_table<S: Source>(alloc: Global, input: &mut S) -> Result<PendingLine, Fa
 
 /// The refusal of a table of too many bytes.
 fn too_long() -> LineReading
-    ensures reads { (job table : List ℕ) → max_line < length table → ReadsAs result (load_of job table) }
+    ensures reads { (job table : List ℕ) → max_line < length table
+        → ReadsAs result (load_of job table) }
     ensures form { AsksFormed result }
 {
     LineReading::Refused(Refusal::TooLong {
@@ -125,7 +129,8 @@ fn load_of_bytes(alloc: Global, job: &Text, table: &[u8]) -> LineReading
 
 /// The same of what was taken.
 fn load_of(alloc: Global, job: &Text, taken: &PendingLine) -> LineReading
-    ensures reads { (table : List ℕ) → Holds taken.now table → ReadsAs result (load_of job.now table) }
+    ensures reads { (table : List ℕ) → Holds taken.now table
+        → ReadsAs result (load_of job.now table) }
     ensures form { AsksFormed result }
 {
     match taken {
@@ -144,9 +149,12 @@ fn ask_once<J: Keeper, K: Sink, C: Clock>(
     clock: &mut C,
 ) -> (End, J)
     requires { AsksFormed reading }
-    ensures asked { (told : Result Request Refusal) → ReadsAs reading told → (h : Halted ⟦<J as Keeper>⟧ service.state.history service.keeper result.1)
-        × AsksOnce service.state (C.moments clock.old) told result.0 h.answered h.after (out_of ⟦<K as Sink>⟧ out.old) (out_of ⟦<K as Sink>⟧ out.new) }
-    ensures disk { result.0 ≡ End.Disk → Rose (J.keep_faults service.keeper) (J.keep_faults result.1) }
+    ensures asked { (told : Result Request Refusal) → ReadsAs reading told
+        → (h : Halted ⟦<J as Keeper>⟧ service.state.history service.keeper result.1)
+        × AsksOnce service.state (C.moments clock.old) told result.0 h.answered h.after
+        (out_of ⟦<K as Sink>⟧ out.old) (out_of ⟦<K as Sink>⟧ out.new) }
+    ensures disk { result.0 ≡ End.Disk
+        → Rose (J.keep_faults service.keeper) (J.keep_faults result.1) }
     ensures clock { C.moments clock.new ≡ option_map later_moments (C.moments clock.old) }
 {
     let at = clock.now();
@@ -169,7 +177,10 @@ fn load<S: Source, J: Keeper, K: Sink, C: Clock>(
     out: &mut K,
     clock: &mut C,
 ) -> (End, J)
-    ensures { LoadsOnce ⟦<J as Keeper>⟧ service.state service.keeper job.now (S.left input.old) (S.left input.new) (C.moments clock.old) (C.moments clock.new) (out_of ⟦<K as Sink>⟧ out.old) (out_of ⟦<K as Sink>⟧ out.new) (S.read_faults input.old) (S.read_faults input.new) result.0 result.1 }
+    ensures { LoadsOnce ⟦<J as Keeper>⟧ service.state service.keeper job.now (S.left input.old)
+        (S.left input.new) (C.moments clock.old) (C.moments clock.new)
+        (out_of ⟦<K as Sink>⟧ out.old) (out_of ⟦<K as Sink>⟧ out.new) (S.read_faults input.old)
+        (S.read_faults input.new) result.0 result.1 }
 {
     service.stays();
     match take_table(alloc, input) {
@@ -192,8 +203,10 @@ pub(crate) fn load_over<S: Source, K: Sink, D: Disk, C: Clock>(
     clock: &mut C,
 ) -> (End, D)
     ensures did { (net : Net) → Did (seen ⟦<D as Disk>⟧ disk result.1) (Task.Load job.now) result.0
-        (world ⟦<S as Source>⟧ ⟦<K as Sink>⟧ ⟦<D as Disk>⟧ ⟦<C as Clock>⟧ input.old out.old disk clock.old net)
-        (world ⟦<S as Source>⟧ ⟦<K as Sink>⟧ ⟦<D as Disk>⟧ ⟦<C as Clock>⟧ input.new out.new result.1 clock.new net) }
+        (world ⟦<S as Source>⟧ ⟦<K as Sink>⟧ ⟦<D as Disk>⟧ ⟦<C as Clock>⟧ input.old out.old disk
+        clock.old net)
+        (world ⟦<S as Source>⟧ ⟦<K as Sink>⟧ ⟦<D as Disk>⟧ ⟦<C as Clock>⟧ input.new out.new result.1
+        clock.new net) }
     ensures object { D.name result.1 ≡ D.name disk }
     ensures later { D.faults disk ≤ D.faults result.1 }
 {

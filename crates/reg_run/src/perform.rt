@@ -1,5 +1,6 @@
 // The tasks, each over a disk that it gives back.
-ghost use Rattle.std.specs.Prelude.{◌≡◌, ◌≤◌, List, ℕ, Option, Ok, Err, length, option_map, IfOk, IfErr, IfSome, OnErr, OnOk};
+ghost use Rattle.std.specs.Prelude.{◌≡◌, ◌≤◌, List, ℕ, Option, Ok, Err, length, option_map, IfOk};
+ghost use Rattle.std.specs.Prelude.{IfErr, IfSome, OnErr, OnOk};
 ghost use Rattle.std.specs.Io.KnownBytes.{append_known};
 ghost use Rattle.reg_outside.specs.Disk.{Changes, Same};
 ghost use Rattle.reg_outside.specs.Faults.{Rose, HasCause};
@@ -12,7 +13,8 @@ ghost use Rattle.reg_run.specs.Ends.{Did, DidInit, OpenCaused, Asked, end_of_sto
 ghost use Rattle.reg_run.specs.Once.{Printed, end_of_reply};
 ghost use Rattle.reg_run.specs.Questions.{asked_by};
 ghost use Rattle.reg_run.specs.Status.{check_line};
-ghost use Rattle.reg_run.specs.World.{Net, World, world, holding, printing, at_clock, net_of, out_of};
+ghost use Rattle.reg_run.specs.World.{Net, World, world, holding, printing, at_clock, net_of};
+ghost use Rattle.reg_run.specs.World.{out_of};
 
 use crate::load::load_over;
 use crate::question::asked_by;
@@ -55,12 +57,15 @@ fn end_of_stop(stop: Stop) -> End
 pub(crate) fn open<D: Disk>(alloc: Global, disk: D) -> Result<Service<Journal<D>>, (End, D)>
     ensures opens { IfOk result (λ s. IfSome (D.contents disk) (λ file. opens file ≡ Ok s.state)) }
     ensures same { IfOk result (λ s. D.contents (disk_of s.keeper) ≡ D.contents disk) }
-    ensures crash { IfOk result (λ s. Changes D.moment D.may_leave D.left_since Same disk (disk_of s.keeper)) }
+    ensures crash { IfOk result
+        (λ s. Changes D.moment D.may_leave D.left_since Same disk (disk_of s.keeper)) }
     ensures object { IfOk result (λ s. D.name (disk_of s.keeper) ≡ D.name disk) }
     ensures later { IfOk result (λ s. D.faults disk ≤ D.faults (disk_of s.keeper)) }
-    ensures cause { IfErr result (λ e. OpenCaused e.0 (D.contents disk) (D.faults disk) (D.faults e.1)) }
+    ensures cause { IfErr result
+        (λ e. OpenCaused e.0 (D.contents disk) (D.faults disk) (D.faults e.1)) }
     ensures same_err { IfErr result (λ e. D.contents e.1 ≡ D.contents disk) }
-    ensures crash_err { IfErr result (λ e. Changes D.moment D.may_leave D.left_since Same disk e.1) }
+    ensures crash_err { IfErr result
+        (λ e. Changes D.moment D.may_leave D.left_since Same disk e.1) }
     ensures object_err { IfErr result (λ e. D.name e.1 ≡ D.name disk) }
     ensures later_err { IfErr result (λ e. D.faults disk ≤ D.faults e.1) }
 {
@@ -76,8 +81,10 @@ pub(crate) fn open<D: Disk>(alloc: Global, disk: D) -> Result<Service<Journal<D>
 /// The disk under a service. It opens to the service's history.
 pub(crate) fn close<D: Disk>(service: Service<Journal<D>>) -> D
     ensures disk { result ≡ disk_of service.keeper }
-    ensures opens { IfSome (D.contents result) (λ file. opens file ≡ Ok (at_last service.state.history)) }
-    ensures images { (c : List ℕ) → D.may_leave result c → opens c ≡ Ok (at_last service.state.history) }
+    ensures opens { IfSome (D.contents result) (λ file. opens file
+        ≡ Ok (at_last service.state.history)) }
+    ensures images { (c : List ℕ) → D.may_leave result c
+        → opens c ≡ Ok (at_last service.state.history) }
     ensures again { FrontsReopen service.state.history }
 {
     service.into_keeper().into_disk()
@@ -85,7 +92,9 @@ pub(crate) fn close<D: Disk>(service: Service<Journal<D>>) -> D
 
 /// Begins a journal.
 fn init<D: Disk>(disk: D) -> (End, D)
-    ensures did { (w : World) → DidInit (seen ⟦<D as Disk>⟧ disk result.1) result.0 (holding ⟦<D as Disk>⟧ w disk) (holding ⟦<D as Disk>⟧ w result.1) }
+    ensures did { (w : World)
+        → DidInit (seen ⟦<D as Disk>⟧ disk result.1) result.0 (holding ⟦<D as Disk>⟧ w disk)
+        (holding ⟦<D as Disk>⟧ w result.1) }
     ensures object { D.name result.1 ≡ D.name disk }
     ensures later { D.faults disk ≤ D.faults result.1 }
 {
@@ -105,8 +114,10 @@ fn apply_over<S: Source, K: Sink, D: Disk, C: Clock>(
     clock: &mut C,
 ) -> (End, D)
     ensures did { (net : Net) → Did (seen ⟦<D as Disk>⟧ disk result.1) Task.Apply result.0
-        (world ⟦<S as Source>⟧ ⟦<K as Sink>⟧ ⟦<D as Disk>⟧ ⟦<C as Clock>⟧ input.old out.old disk clock.old net)
-        (world ⟦<S as Source>⟧ ⟦<K as Sink>⟧ ⟦<D as Disk>⟧ ⟦<C as Clock>⟧ input.new out.new result.1 clock.new net) }
+        (world ⟦<S as Source>⟧ ⟦<K as Sink>⟧ ⟦<D as Disk>⟧ ⟦<C as Clock>⟧ input.old out.old disk
+        clock.old net)
+        (world ⟦<S as Source>⟧ ⟦<K as Sink>⟧ ⟦<D as Disk>⟧ ⟦<C as Clock>⟧ input.new out.new result.1
+        clock.new net) }
     ensures object { D.name result.1 ≡ D.name disk }
     ensures later { D.faults disk ≤ D.faults result.1 }
 {
@@ -142,7 +153,8 @@ fn check_line(alloc: Global, machine: &Machine<Incremental>) -> Result<Vec<u8>, 
 }
 
 fn print_check<K: Sink>(alloc: Global, machine: &Machine<Incremental>, out: &mut K) -> End
-    ensures { Printed End.Done (check_line machine.now) result (out_of ⟦<K as Sink>⟧ out.old) (out_of ⟦<K as Sink>⟧ out.new) }
+    ensures { Printed End.Done (check_line machine.now) result (out_of ⟦<K as Sink>⟧ out.old)
+        (out_of ⟦<K as Sink>⟧ out.new) }
 {
     match check_line(alloc, machine) {
         Err(AllocError) => End::Memory,
@@ -156,7 +168,8 @@ fn print_check<K: Sink>(alloc: Global, machine: &Machine<Incremental>, out: &mut
 /// Opens the journal on a disk, and says how many commands it has, and the last one's moment.
 fn check_over<K: Sink, D: Disk>(alloc: Global, out: &mut K, disk: D) -> (End, D)
     ensures did { (w : World) → Did (seen ⟦<D as Disk>⟧ disk result.1) Task.Check result.0
-        (holding ⟦<D as Disk>⟧ (printing ⟦<K as Sink>⟧ w out.old) disk) (holding ⟦<D as Disk>⟧ (printing ⟦<K as Sink>⟧ w out.new) result.1) }
+        (holding ⟦<D as Disk>⟧ (printing ⟦<K as Sink>⟧ w out.old) disk)
+        (holding ⟦<D as Disk>⟧ (printing ⟦<K as Sink>⟧ w out.new) result.1) }
     ensures object { D.name result.1 ≡ D.name disk }
     ensures later { D.faults disk ≤ D.faults result.1 }
 {
@@ -182,7 +195,8 @@ fn end_of_reply(reply: &Reply) -> End
 }
 
 pub(crate) fn print_reply<K: Sink>(alloc: Global, reply: &Reply, out: &mut K) -> End
-    ensures { Printed (end_of_reply reply.now) (line_of reply.now) result (out_of ⟦<K as Sink>⟧ out.old) (out_of ⟦<K as Sink>⟧ out.new) }
+    ensures { Printed (end_of_reply reply.now) (line_of reply.now) result
+        (out_of ⟦<K as Sink>⟧ out.old) (out_of ⟦<K as Sink>⟧ out.new) }
 {
     match reply_line(alloc, reply) {
         Err(AllocError) => End::Memory,
@@ -201,7 +215,8 @@ fn ask<J: Keeper, K: Sink, C: Clock>(
     out: &mut K,
     clock: &mut C,
 ) -> (End, J)
-    ensures asked { Asked service.state (C.moments clock.old) (asked_by question.now) result.0 (out_of ⟦<K as Sink>⟧ out.old) (out_of ⟦<K as Sink>⟧ out.new) }
+    ensures asked { Asked service.state (C.moments clock.old) (asked_by question.now) result.0
+        (out_of ⟦<K as Sink>⟧ out.old) (out_of ⟦<K as Sink>⟧ out.new) }
     ensures same { result.1 ≡ service.keeper }
     ensures clock { C.moments clock.new ≡ option_map later_moments (C.moments clock.old) }
 {
@@ -222,9 +237,12 @@ fn ask_over<K: Sink, D: Disk, C: Clock>(
     disk: D,
     clock: &mut C,
 ) -> (End, D)
-    ensures did { (w : World) → Did (seen ⟦<D as Disk>⟧ disk result.1) (Task.Ask question.now) result.0
-        (holding ⟦<D as Disk>⟧ (printing ⟦<K as Sink>⟧ (at_clock ⟦<C as Clock>⟧ w clock.old) out.old) disk)
-        (holding ⟦<D as Disk>⟧ (printing ⟦<K as Sink>⟧ (at_clock ⟦<C as Clock>⟧ w clock.new) out.new) result.1) }
+    ensures did { (w : World)
+        → Did (seen ⟦<D as Disk>⟧ disk result.1) (Task.Ask question.now) result.0
+        (holding ⟦<D as Disk>⟧ (printing ⟦<K as Sink>⟧
+        (at_clock ⟦<C as Clock>⟧ w clock.old) out.old) disk)
+        (holding ⟦<D as Disk>⟧ (printing ⟦<K as Sink>⟧
+        (at_clock ⟦<C as Clock>⟧ w clock.new) out.new) result.1) }
     ensures object { D.name result.1 ≡ D.name disk }
     ensures later { D.faults disk ≤ D.faults result.1 }
 {
@@ -250,8 +268,10 @@ pub fn perform<S: Source, K: Sink, D: Disk, C: Clock, L: Listener>(
     net: &mut L,
 ) -> (End, D)
     ensures did { Did (seen ⟦<D as Disk>⟧ disk result.1) task.now result.0
-        (world ⟦<S as Source>⟧ ⟦<K as Sink>⟧ ⟦<D as Disk>⟧ ⟦<C as Clock>⟧ input.old out.old disk clock.old (net_of ⟦<L as Listener>⟧ net.old))
-        (world ⟦<S as Source>⟧ ⟦<K as Sink>⟧ ⟦<D as Disk>⟧ ⟦<C as Clock>⟧ input.new out.new result.1 clock.new (net_of ⟦<L as Listener>⟧ net.new)) }
+        (world ⟦<S as Source>⟧ ⟦<K as Sink>⟧ ⟦<D as Disk>⟧ ⟦<C as Clock>⟧ input.old out.old disk
+        clock.old (net_of ⟦<L as Listener>⟧ net.old))
+        (world ⟦<S as Source>⟧ ⟦<K as Sink>⟧ ⟦<D as Disk>⟧ ⟦<C as Clock>⟧ input.new out.new result.1
+        clock.new (net_of ⟦<L as Listener>⟧ net.new)) }
     ensures object { D.name result.1 ≡ D.name disk }
     ensures later { D.faults disk ≤ D.faults result.1 }
 {

@@ -23,8 +23,10 @@ fn follow<S: Source, K: Sink, D: Disk, C: Clock, L: Listener>(
     net: &mut L,
 ) -> End
     ensures did { RunDid ⟦<D as Disk>⟧ (task_of (map string_bytes words.now)) result
-        (world ⟦<S as Source>⟧ ⟦<K as Sink>⟧ ⟦<D as Disk>⟧ ⟦<C as Clock>⟧ input.old out.old disk.old clock.old (net_of ⟦<L as Listener>⟧ net.old))
-        (world ⟦<S as Source>⟧ ⟦<K as Sink>⟧ ⟦<D as Disk>⟧ ⟦<C as Clock>⟧ input.new out.new disk.new clock.new (net_of ⟦<L as Listener>⟧ net.new)) disk.old disk.new }
+        (world ⟦<S as Source>⟧ ⟦<K as Sink>⟧ ⟦<D as Disk>⟧ ⟦<C as Clock>⟧ input.old out.old disk.old
+        clock.old (net_of ⟦<L as Listener>⟧ net.old))
+        (world ⟦<S as Source>⟧ ⟦<K as Sink>⟧ ⟦<D as Disk>⟧ ⟦<C as Clock>⟧ input.new out.new disk.new
+        clock.new (net_of ⟦<L as Listener>⟧ net.new)) disk.old disk.new }
     ensures later { D.faults disk.old ≤ D.faults disk.new }
 {
     match task_of(alloc, words) {
@@ -53,11 +55,16 @@ pub fn run<S: Source, K: Sink, N: Sink, D: Disk, C: Clock, L: Listener>(
     clock: &mut C,
     net: &mut L,
 ) -> u8
-    // One end tells the status, its cause, what was done and what is left of the disk, and the note.
+    // One end tells the status, its cause, what was done and what is left of the disk, and the
+    // note.
     ensures ends { (end : End) × (result ≡ status_of end)
-        × RunDid ⟦<D as Disk>⟧ (task_of (map string_bytes words.now)) end (world ⟦<S as Source>⟧ ⟦<K as Sink>⟧ ⟦<D as Disk>⟧ ⟦<C as Clock>⟧ input.old out.old disk.old clock.old (net_of ⟦<L as Listener>⟧ net.old))
-        (world ⟦<S as Source>⟧ ⟦<K as Sink>⟧ ⟦<D as Disk>⟧ ⟦<C as Clock>⟧ input.new out.new disk.new clock.new (net_of ⟦<L as Listener>⟧ net.new)) disk.old disk.new
-        × NotesOnce end (N.written notes.old) (N.write_faults notes.old) (N.written notes.new) (N.write_faults notes.new) }
+        × RunDid ⟦<D as Disk>⟧ (task_of (map string_bytes words.now)) end
+        (world ⟦<S as Source>⟧ ⟦<K as Sink>⟧ ⟦<D as Disk>⟧ ⟦<C as Clock>⟧ input.old out.old disk.old
+        clock.old (net_of ⟦<L as Listener>⟧ net.old))
+        (world ⟦<S as Source>⟧ ⟦<K as Sink>⟧ ⟦<D as Disk>⟧ ⟦<C as Clock>⟧ input.new out.new disk.new
+        clock.new (net_of ⟦<L as Listener>⟧ net.new)) disk.old disk.new
+        × NotesOnce end (N.written notes.old) (N.write_faults notes.old) (N.written notes.new)
+        (N.write_faults notes.new) }
     ensures statuses { IsStatus result }
     ensures usage { IsUsage (task_of (map string_bytes words.now)) result }
     ensures later { D.faults disk.old ≤ D.faults disk.new }

@@ -20,7 +20,8 @@ pub enum NotAsked {
     Refused(Refusal),
 }
 
-ghost use Rattle.reg_run.specs.Questions.{Gives, IsRefusal, asked_by, by_system, group_in, history_of, members_of, moment_in, query_of};
+ghost use Rattle.reg_run.specs.Questions.{Gives, IsRefusal, asked_by, by_system, group_in};
+ghost use Rattle.reg_run.specs.Questions.{history_of, members_of, moment_in, query_of};
 
 /// The refusal of a text that is no name.
 fn bad_name(alloc: Global) -> NotAsked

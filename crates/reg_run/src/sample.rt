@@ -21,7 +21,8 @@ fn sample_text(alloc: Global, seed: u64, size: Size) -> Result<Vec<u8>, AllocErr
 
 /// Prints the summary of a sample.
 pub(crate) fn print_sample<K: Sink>(alloc: Global, seed: u64, size: Size, out: &mut K) -> End
-    ensures { Printed End.Done (summary_text (summary seed size)) result (out_of ⟦<K as Sink>⟧ out.old) (out_of ⟦<K as Sink>⟧ out.new) }
+    ensures { Printed End.Done (summary_text (summary seed size)) result
+        (out_of ⟦<K as Sink>⟧ out.old) (out_of ⟦<K as Sink>⟧ out.new) }
 {
     match sample_text(alloc, seed, size) {
         Err(AllocError) => End::Memory,

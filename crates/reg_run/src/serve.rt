@@ -37,12 +37,20 @@ fn serve_port<J: Keeper, C: Clock, L: Listener>(
     net: &mut L,
 ) -> Result<Service<J>, (Ceased, J)>
     ensures port { OnOk result (L.listens net.new ≡ Some port) }
-    ensures served { IfOk result (λ to. ServesVisits connections service.state (C.moments clock.old) (L.connections net.old) (L.connections net.new) to.state (C.moments clock.new)) }
-    ensures kept { IfOk result (λ to. KeptOn ⟦<J as Keeper>⟧ service.state.history service.keeper to.state.history to.keeper) }
-    ensures ceased { IfErr result (λ e. (c : CeasesServing ⟦<J as Keeper>⟧ connections service.state service.keeper (C.moments clock.old) (L.connections net.old) (L.connections net.new) (C.moments clock.new) e.0 e.1)
+    ensures served { IfOk result
+        (λ to. ServesVisits connections service.state (C.moments clock.old) (L.connections net.old)
+        (L.connections net.new) to.state (C.moments clock.new)) }
+    ensures kept { IfOk result
+        (λ to. KeptOn ⟦<J as Keeper>⟧ service.state.history service.keeper to.state.history
+        to.keeper) }
+    ensures ceased { IfErr result
+        (λ e. (c : CeasesServing ⟦<J as Keeper>⟧ connections service.state service.keeper (C.moments
+        clock.old) (L.connections net.old) (L.connections net.new) (C.moments clock.new) e.0 e.1)
         × ((c.visits ≡ []) ⊎ (L.listens net.new ≡ Some port))) }
-    ensures listener { IfErr result (λ e. e.0 ≡ Ceased.Listener → Rose (L.listener_faults net.old) (L.listener_faults net.new)) }
-    ensures disk { IfErr result (λ e. e.0 ≡ Ceased.Disk → Rose (J.keep_faults service.keeper) (J.keep_faults e.1)) }
+    ensures listener { IfErr result (λ e. e.0 ≡ Ceased.Listener
+        → Rose (L.listener_faults net.old) (L.listener_faults net.new)) }
+    ensures disk { IfErr result (λ e. e.0 ≡ Ceased.Disk
+        → Rose (J.keep_faults service.keeper) (J.keep_faults e.1)) }
 {
     service.stays();
     match net.listen(port) {
@@ -60,9 +68,12 @@ pub(crate) fn serve_over<D: Disk, C: Clock, L: Listener>(
     clock: &mut C,
     net: &mut L,
 ) -> (End, D)
-    ensures did { (w : World) → Did (seen ⟦<D as Disk>⟧ disk result.1) (Task.Serve port connections) result.0
-        (holding ⟦<D as Disk>⟧ (at_net ⟦<L as Listener>⟧ (at_clock ⟦<C as Clock>⟧ w clock.old) net.old) disk)
-        (holding ⟦<D as Disk>⟧ (at_net ⟦<L as Listener>⟧ (at_clock ⟦<C as Clock>⟧ w clock.new) net.new) result.1) }
+    ensures did { (w : World)
+        → Did (seen ⟦<D as Disk>⟧ disk result.1) (Task.Serve port connections) result.0
+        (holding ⟦<D as Disk>⟧ (at_net ⟦<L as Listener>⟧
+        (at_clock ⟦<C as Clock>⟧ w clock.old) net.old) disk)
+        (holding ⟦<D as Disk>⟧ (at_net ⟦<L as Listener>⟧
+        (at_clock ⟦<C as Clock>⟧ w clock.new) net.new) result.1) }
     ensures object { D.name result.1 ≡ D.name disk }
     ensures later { D.faults disk ≤ D.faults result.1 }
 {

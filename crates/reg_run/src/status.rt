@@ -70,7 +70,8 @@ fn note_of(alloc: Global, end: End) -> Result<String, AllocError>
 /// Writes the note of a run that ended so. Where the sink fails, some front of it is written;
 /// where there is no memory for it, none.
 pub fn write_note<N: Sink>(alloc: Global, notes: &mut N, end: End)
-    ensures { NotesOnce end (N.written notes.old) (N.write_faults notes.old) (N.written notes.new) (N.write_faults notes.new) }
+    ensures { NotesOnce end (N.written notes.old) (N.write_faults notes.old) (N.written notes.new)
+        (N.write_faults notes.new) }
 {
     match note_of(alloc, end) {
         Ok(note) => {

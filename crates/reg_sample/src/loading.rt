@@ -1,6 +1,8 @@
 // The job, its loads, and what stands over what they make.
 ghost use Rattle.std.specs.Prelude.{◌≡◌, ◌≤◌, ◌<◌, ◌*◌, ◌+◌, ◌-◌, ◌++◌, IfOk, OnOk};
-ghost use Rattle.reg_sample.specs.Lines.{composite_line, factored_line, factors_line, inherit_line, job_line, load_line, loading_line, member_line, record_text, rule_line, table};
+ghost use Rattle.reg_sample.specs.Lines.{composite_line, factored_line, factors_line, inherit_line};
+ghost use Rattle.reg_sample.specs.Lines.{job_line, load_line, loading_line, member_line};
+ghost use Rattle.reg_sample.specs.Lines.{record_text, rule_line, table};
 
 use crate::texts::{by_system, composite, ended, loaded, person, with};
 use std::alloc::{AllocError, Global};

@@ -1,6 +1,7 @@
 // Persons, folders and groups.
 ghost use Rattle.std.specs.Prelude.{◌≡◌, ◌≤◌, ◌<◌, ◌*◌, ◌+◌, IfOk};
-ghost use Rattle.reg_sample.specs.Lines.{folder_line, group_line, load_folder_line, making_line, nested_line, not_tenth, subject_line};
+ghost use Rattle.reg_sample.specs.Lines.{folder_line, group_line, load_folder_line, making_line};
+ghost use Rattle.reg_sample.specs.Lines.{nested_line, not_tenth, subject_line};
 
 use crate::texts::{by_system, ended, group, person, with};
 use std::alloc::{AllocError, Global};

@@ -1,6 +1,7 @@
 // Lines, field by field.
 ghost use Rattle.std.specs.Prelude.{◌≡◌, ◌<◌, ◌≤◌, IfOk, string_bytes};
-ghost use Rattle.reg_sample.specs.Lines.{begun, by_system, composite, ended, group, loaded, person, with};
+ghost use Rattle.reg_sample.specs.Lines.{begun, by_system, composite, ended, group, loaded, person};
+ghost use Rattle.reg_sample.specs.Lines.{with};
 
 use std::alloc::{AllocError, Global};
 

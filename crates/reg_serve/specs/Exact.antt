@@ -1,4 +1,5 @@
--- The replies where memory is never wanting: one function of the state, the moments to come and the messages.
+-- The replies where memory is never wanting: one function of the state, the moments to come and the
+-- messages.
 use Rattle.std.specs.Prelude.{ℕ, List, [], ◌∷◌, map}
 use Rattle.reg_outside.specs.Streams.{first_moment, later_moments}
 use Rattle.reg_terms.specs.declared.reply.Reply.{Reply}
@@ -26,9 +27,12 @@ coming_after coming (reads reading) = later_moments coming
 abbrev pub replies : State → List ℕ → List Call → List Reply
 replies s coming [] = []
 replies s coming (call ∷ calls) =
-    (replied s coming (question_of call)).0 ∷ replies (replied s coming (question_of call)).1 (coming_after coming (question_of call)) calls
+    (replied s coming (question_of call)).0
+    ∷ replies (replied s coming (question_of call)).1 (coming_after coming (question_of call)) calls
 
 -- and the last state
 abbrev pub last_state : State → List ℕ → List Call → State
 last_state s coming [] = s
-last_state s coming (call ∷ calls) = last_state (replied s coming (question_of call)).1 (coming_after coming (question_of call)) calls
+last_state s coming (call ∷ calls) =
+    last_state (replied s coming (question_of call)).1
+    (coming_after coming (question_of call)) calls

@@ -1,5 +1,6 @@
 -- Connections, one after another.
-use Rattle.std.specs.Prelude.{◌≡◌, ◌⊎◌, ◌≤◌, ◌+◌, ◌++◌, ◌∷◌, ℕ, List, [], map, length, Option, Some, None, option_map, IfSome}
+use Rattle.std.specs.Prelude.{◌≡◌, ◌⊎◌, ◌≤◌, ◌+◌, ◌++◌, ◌∷◌, ℕ, List, [], map, length, Option, Some}
+use Rattle.std.specs.Prelude.{None, option_map, IfSome}
 use Rattle.reg_outside.specs.Connections.{Connections, Seen, gives_back}
 use Rattle.reg_outside.specs.Faults.{Rose}
 use Rattle.reg_terms.specs.declared.command.Stamped.{Stamped}
@@ -22,7 +23,8 @@ pub record Visit : Type 0 where
   pub came : Seen
   pub back : Seen
 
--- These connections came from the front of those still to come, were accepted, and given back in order.
+-- These connections came from the front of those still to come, were accepted, and given back in
+-- order.
 pub record Visited (old new : Connections) (visits : List Visit) : Type 0 where
   pub coming : old.coming ≡ map (λ (v : Visit). v.came) visits ++ new.coming
   pub accepted : new.accepted ≡ old.accepted + length visits
@@ -35,21 +37,30 @@ Visits None (Some new) visits = ⊥
 Visits (Some old) None visits = ⊥
 Visits (Some old) (Some new) visits = Visited old new visits
 
--- One visit was a session with this end, which left the registry so. Where a call of the connection failed, a count of it
--- rose.
-pub record IsVisit (s : State) (moments : Option (List ℕ)) (v : Visit) (e : Ended) (to : Outcome) (later : Option (List ℕ)) : Type 0 where
-  pub session : Session (record { written = v.came.written; moments = moments; state = s }) v.came.left v.back.left v.back.written later e to
-  pub failed : e ≡ ended.Failed → Rose v.came.read_faults v.back.read_faults ⊎ Rose v.came.write_faults v.back.write_faults
+-- One visit was a session with this end, which left the registry so. Where a call of the connection
+-- failed, a count of it rose.
+pub record IsVisit (s : State) (moments : Option (List ℕ)) (v : Visit) (e : Ended) (to : Outcome)
+    (later : Option (List ℕ)) : Type 0 where
+  pub session : Session (record {
+    written = v.came.written;
+    moments = moments;
+    state = s;
+  }) v.came.left v.back.left v.back.written later e to
+  pub failed : e ≡ ended.Failed
+      → Rose v.came.read_faults v.back.read_faults ⊎ Rose v.came.write_faults v.back.write_faults
 
--- These visits were sessions, one after another, after each of which the service went on: from this state and these moments
--- to come to those.
+-- These visits were sessions, one after another, after each of which the service went on: from this
+-- state and these moments to come to those.
 abbrev pub Sessions : State → Option (List ℕ) → List Visit → State → Option (List ℕ) → Type 0
 Sessions s moments [] last later = (last ≡ s) × (later ≡ moments)
 Sessions s moments (v ∷ visits) last later =
-    (e : Ended) × (mid : State) × (between : Option (List ℕ)) × IsVisit s moments v e (goes mid) between × Sessions mid between visits last later
+    (e : Ended) × (mid : State) × (between : Option (List ℕ))
+    × IsVisit s moments v e (goes mid) between × Sessions mid between visits last later
 
--- At most so many connections were served, which led to that state: as many, or all that were to come.
-pub record ServesVisits (limit : ℕ) (s : State) (moments : Option (List ℕ)) (old new : Option Connections) (last : State) (later : Option (List ℕ)) : Type 0 where
+-- At most so many connections were served, which led to that state: as many, or all that were to
+-- come.
+pub record ServesVisits (limit : ℕ) (s : State) (moments : Option (List ℕ))
+    (old new : Option Connections) (last : State) (later : Option (List ℕ)) : Type 0 where
   pub visits : List Visit
   pub told : Visits old new visits
   pub few : length visits ≤ limit
@@ -57,11 +68,16 @@ pub record ServesVisits (limit : ℕ) (s : State) (moments : Option (List ℕ)) 
   pub sessions : Sessions s moments visits last later
 
 -- all visits were sessions after which the service went on, and all that was answered is kept
-abbrev pub AllServed : State → Option (List ℕ) → List Visit → Option (List ℕ) → (answered after : List Stamped) → Type 0
-AllServed s moments visits later answered after = (last : State) × Sessions s moments visits last later × (answered ≡ last.history) × (after ≡ last.history)
+abbrev pub AllServed : State → Option (List ℕ) → List Visit → Option (List ℕ)
+    → (answered after : List Stamped) → Type 0
+AllServed s moments visits later answered after =
+    (last : State) × Sessions s moments visits last later × (answered ≡ last.history)
+    × (after ≡ last.history)
 
--- All but the last were, and at the last the service stopped for this cause: so far all was answered, and this may be kept.
-pub record StopsAtLast (s : State) (moments : Option (List ℕ)) (visits : List Visit) (later : Option (List ℕ)) (answered after : List Stamped) (why : Cause) : Type 0 where
+-- All but the last were, and at the last the service stopped for this cause: so far all was
+-- answered, and this may be kept.
+pub record StopsAtLast (s : State) (moments : Option (List ℕ)) (visits : List Visit)
+    (later : Option (List ℕ)) (answered after : List Stamped) (why : Cause) : Type 0 where
   pub earlier : List Visit
   pub visit : Visit
   pub cut : visits ≡ earlier ++ visit ∷ []
@@ -71,16 +87,22 @@ pub record StopsAtLast (s : State) (moments : Option (List ℕ)) (visits : List 
   pub last : IsVisit mid between visit ended.Stopped (stops why after) later
   pub done : answered ≡ last.session.last.state.history
 
--- Why no more were served. A call of the listener failed, between two connections or after the last; or there was no memory
--- before the first; or the service stopped at the last.
-abbrev pub CeasesAt : State → Option (List ℕ) → List Visit → Option (List ℕ) → (answered after : List Stamped) → Ceased → Type 0
-CeasesAt s moments visits later answered after ceased.Listener = AllServed s moments visits later answered after
+-- Why no more were served. A call of the listener failed, between two connections or after the
+-- last; or there was no memory before the first; or the service stopped at the last.
+abbrev pub CeasesAt : State → Option (List ℕ) → List Visit → Option (List ℕ)
+    → (answered after : List Stamped) → Ceased → Type 0
+CeasesAt s moments visits later answered after ceased.Listener =
+    AllServed s moments visits later answered after
 CeasesAt s moments visits later answered after ceased.Memory =
-    ((visits ≡ []) × AllServed s moments visits later answered after) ⊎ StopsAtLast s moments visits later answered after cause.Memory
-CeasesAt s moments visits later answered after ceased.Disk = StopsAtLast s moments visits later answered after cause.Disk
+    ((visits ≡ []) × AllServed s moments visits later answered after)
+    ⊎ StopsAtLast s moments visits later answered after cause.Memory
+CeasesAt s moments visits later answered after ceased.Disk =
+    StopsAtLast s moments visits later answered after cause.Disk
 
 -- serving ceased before all was served: the connections given back, and what the keeper has
-pub record CeasesServing {K : Type 0} (g : Ghosts K) (limit : ℕ) (s : State) (old_keeper : K) (moments : Option (List ℕ)) (old new : Option Connections) (later : Option (List ℕ)) (why : Ceased) (keeper : K) : Type 0 where
+pub record CeasesServing {K : Type 0} (g : Ghosts K) (limit : ℕ) (s : State) (old_keeper : K)
+    (moments : Option (List ℕ)) (old new : Option Connections) (later : Option (List ℕ))
+    (why : Ceased) (keeper : K) : Type 0 where
   pub visits : List Visit
   pub told : Visits old new visits
   pub few : length visits ≤ limit
@@ -93,14 +115,17 @@ ceased_of cause.Memory = ceased.Memory
 ceased_of cause.Disk = ceased.Disk
 
 -- so many connections were served, which led to that state
-pub record ServedSo (count : ℕ) (s : State) (moments : Option (List ℕ)) (old new : Option Connections) (last : State) (later : Option (List ℕ)) : Type 0 where
+pub record ServedSo (count : ℕ) (s : State) (moments : Option (List ℕ))
+    (old new : Option Connections) (last : State) (later : Option (List ℕ)) : Type 0 where
   pub visits : List Visit
   pub told : Visits old new visits
   pub counted : length visits ≡ count
   pub sessions : Sessions s moments visits last later
 
 -- an accepted connection was served and given back, and this is left of the service
-pub record GivesBack {K : Type 0} (g : Ghosts K) (s : State) (keeper : K) (moments : Option (List ℕ)) (came : Seen) (old new : Option Connections) (later : Option (List ℕ)) (n : Next K) : Type 0 where
+pub record GivesBack {K : Type 0} (g : Ghosts K) (s : State) (keeper : K)
+    (moments : Option (List ℕ)) (came : Seen) (old new : Option Connections)
+    (later : Option (List ℕ)) (n : Next K) : Type 0 where
   pub back : Seen
   pub told : new ≡ option_map (gives_back back) old
   pub end : Ended
@@ -108,14 +133,21 @@ pub record GivesBack {K : Type 0} (g : Ghosts K) (s : State) (keeper : K) (momen
   pub is : IsVisit s moments (record { came = came; back = back }) end to later
   pub leaves : IsLeft g s.history keeper is.session.last.state.history to n
 
--- why no more were served, from one connection to the next: the same, but for want of memory before the first
-abbrev pub BreaksAt : State → Option (List ℕ) → List Visit → Option (List ℕ) → (answered after : List Stamped) → Ceased → Type 0
-BreaksAt s moments visits later answered after ceased.Listener = AllServed s moments visits later answered after
-BreaksAt s moments visits later answered after ceased.Memory = StopsAtLast s moments visits later answered after cause.Memory
-BreaksAt s moments visits later answered after ceased.Disk = StopsAtLast s moments visits later answered after cause.Disk
+-- why no more were served, from one connection to the next: the same, but for want of memory before
+-- the first
+abbrev pub BreaksAt : State → Option (List ℕ) → List Visit → Option (List ℕ)
+    → (answered after : List Stamped) → Ceased → Type 0
+BreaksAt s moments visits later answered after ceased.Listener =
+    AllServed s moments visits later answered after
+BreaksAt s moments visits later answered after ceased.Memory =
+    StopsAtLast s moments visits later answered after cause.Memory
+BreaksAt s moments visits later answered after ceased.Disk =
+    StopsAtLast s moments visits later answered after cause.Disk
 
 -- serving ceased at one connection, or before it
-pub record CeasesNext {K : Type 0} (g : Ghosts K) (s : State) (old_keeper : K) (moments : Option (List ℕ)) (old new : Option Connections) (later : Option (List ℕ)) (why : Ceased) (keeper : K) : Type 0 where
+pub record CeasesNext {K : Type 0} (g : Ghosts K) (s : State) (old_keeper : K)
+    (moments : Option (List ℕ)) (old new : Option Connections) (later : Option (List ℕ))
+    (why : Ceased) (keeper : K) : Type 0 where
   pub visits : List Visit
   pub told : Visits old new visits
   pub few : length visits ≤ 1

@@ -1,5 +1,6 @@
 // A connection from its first byte to its last.
-ghost use Rattle.std.specs.Prelude.{◌≡◌, ◌≤◌, ◌<◌, ◌^◌, ◌+◌, ◌⊎◌, ℕ, List, [], take, Option, None, length, IfOk, IfErr, OnErr};
+ghost use Rattle.std.specs.Prelude.{◌≡◌, ◌≤◌, ◌<◌, ◌^◌, ◌+◌, ◌⊎◌, ℕ, List, [], take, Option, None};
+ghost use Rattle.std.specs.Prelude.{length, IfOk, IfErr, OnErr};
 ghost use Rattle.std.specs.Io.KnownBytes.{IsAtEnd, prepend_known};
 ghost use Rattle.reg_outside.specs.Faults.{Rose};
 ghost use Rattle.reg_http.specs.Messages.{IsUnfinished};
@@ -29,7 +30,8 @@ fn read_some<C: Connection>(conn: &mut C, buf: &mut [u8], taken: u64) -> Result<
     requires some { taken < LIMIT }
     ensures within { IfOk result (λ n. taken + n ≤ LIMIT) }
     ensures filled { IfOk result (λ n. n ≤ length buf.new) }
-    ensures bytes { IfOk result (λ n. C.left conn.old ≡ prepend_known (take n buf.new) (C.left conn.new)) }
+    ensures bytes { IfOk result (λ n. C.left conn.old
+        ≡ prepend_known (take n buf.new) (C.left conn.new)) }
     ensures end { IfOk result (λ n. n ≡ 0 → IsAtEnd (C.left conn.new)) }
     ensures same { OnErr result (C.left conn.new ≡ C.left conn.old) }
     ensures failed { OnErr result (Rose (C.read_faults conn.old) (C.read_faults conn.new)) }
@@ -53,13 +55,20 @@ fn serve_piece<K: Keeper, C: Connection, T: Clock>(
 ) -> Result<Service<K>, (Ended, Next<K>)>
     requires { reader.old.fault ≡ None }
     ensures served { IfOk result (λ after.
-        Serves (point ⟦<C as Sink>⟧ ⟦<T as Clock>⟧ conn.old clock.old service.state) (fed reader.old piece.now) (point ⟦<C as Sink>⟧ ⟦<T as Clock>⟧ conn.new clock.new after.state) reader.new) }
+        Serves (point ⟦<C as Sink>⟧ ⟦<T as Clock>⟧ conn.old clock.old service.state)
+        (fed reader.old piece.now)
+        (point ⟦<C as Sink>⟧ ⟦<T as Clock>⟧ conn.new clock.new after.state) reader.new) }
     ensures fault { IfOk result (λ after. reader.new.fault ≡ None) }
     ensures none { IfOk result (λ after. IsUnfinished reader.new.rest) }
-    ensures kept { IfOk result (λ after. KeptOn ⟦<K as Keeper>⟧ service.state.history service.keeper after.state.history after.keeper) }
+    ensures kept { IfOk result
+        (λ after. KeptOn ⟦<K as Keeper>⟧ service.state.history service.keeper after.state.history
+        after.keeper) }
     ensures ended { IfErr result (λ e.
-        EndsTurnsOf ⟦<K as Keeper>⟧ (point ⟦<C as Sink>⟧ ⟦<T as Clock>⟧ conn.old clock.old service.state) service.keeper (fed reader.old piece.now) (C.written conn.new) (T.moments clock.new) e) }
-    ensures failed { IfErr result (λ e. e.0 ≡ Ended.Failed → Rose (C.write_faults conn.old) (C.write_faults conn.new)) }
+        EndsTurnsOf ⟦<K as Keeper>⟧
+        (point ⟦<C as Sink>⟧ ⟦<T as Clock>⟧ conn.old clock.old service.state) service.keeper
+        (fed reader.old piece.now) (C.written conn.new) (T.moments clock.new) e) }
+    ensures failed { IfErr result (λ e. e.0 ≡ Ended.Failed
+        → Rose (C.write_faults conn.old) (C.write_faults conn.new)) }
     ensures left { C.left conn.new ≡ C.left conn.old }
     ensures reads { C.read_faults conn.old ≤ C.read_faults conn.new }
     ensures writes { C.write_faults conn.old ≤ C.write_faults conn.new }
@@ -90,16 +99,25 @@ fn serve_some<K: Keeper, C: Connection, T: Clock>(
     ensures more { IfOk result (λ after. 0 < after.1) }
     ensures within { IfOk result (λ after. taken + after.1 ≤ LIMIT) }
     ensures served { IfOk result (λ after. (left : Option (List ℕ)) (first : Point)
-        → HasServed left (C.left conn.old) first (point ⟦<C as Sink>⟧ ⟦<T as Clock>⟧ conn.old clock.old service.state) reader.old taken
-        → HasServed left (C.left conn.new) first (point ⟦<C as Sink>⟧ ⟦<T as Clock>⟧ conn.new clock.new after.0.state) reader.new (taken + after.1)) }
+        → HasServed left (C.left conn.old) first
+        (point ⟦<C as Sink>⟧ ⟦<T as Clock>⟧ conn.old clock.old service.state) reader.old taken
+        → HasServed left (C.left conn.new) first
+        (point ⟦<C as Sink>⟧ ⟦<T as Clock>⟧ conn.new clock.new after.0.state) reader.new (taken
+        + after.1)) }
     ensures fault { IfOk result (λ after. reader.new.fault ≡ None) }
     ensures none { IfOk result (λ after. IsUnfinished reader.new.rest) }
-    ensures kept { IfOk result (λ after. KeptOn ⟦<K as Keeper>⟧ service.state.history service.keeper after.0.state.history after.0.keeper) }
+    ensures kept { IfOk result
+        (λ after. KeptOn ⟦<K as Keeper>⟧ service.state.history service.keeper after.0.state.history
+        after.0.keeper) }
     ensures session { IfErr result (λ e. (left : Option (List ℕ)) (first : Point) (keeper : K)
-        → HasServed left (C.left conn.old) first (point ⟦<C as Sink>⟧ ⟦<T as Clock>⟧ conn.old clock.old service.state) reader.old taken
+        → HasServed left (C.left conn.old) first
+        (point ⟦<C as Sink>⟧ ⟦<T as Clock>⟧ conn.old clock.old service.state) reader.old taken
         → KeptOn ⟦<K as Keeper>⟧ first.state.history keeper service.state.history service.keeper
-        → SessionOf ⟦<K as Keeper>⟧ first keeper left (C.left conn.new) (C.written conn.new) (T.moments clock.new) e) }
-    ensures failed { IfErr result (λ e. e.0 ≡ Ended.Failed → Rose (C.read_faults conn.old) (C.read_faults conn.new) ⊎ Rose (C.write_faults conn.old) (C.write_faults conn.new)) }
+        → SessionOf ⟦<K as Keeper>⟧ first keeper left (C.left conn.new) (C.written conn.new)
+        (T.moments clock.new) e) }
+    ensures failed { IfErr result (λ e. e.0 ≡ Ended.Failed
+        → Rose (C.read_faults conn.old) (C.read_faults conn.new)
+        ⊎ Rose (C.write_faults conn.old) (C.write_faults conn.new)) }
     ensures reads { C.read_faults conn.old ≤ C.read_faults conn.new }
     ensures writes { C.write_faults conn.old ≤ C.write_faults conn.new }
 {
@@ -129,8 +147,12 @@ fn serve_bytes<K: Keeper, C: Connection, T: Clock>(
     clock: &mut T,
 ) -> (Ended, Next<K>)
     requires { reader.old ≡ start }
-    ensures session { SessionOf ⟦<K as Keeper>⟧ (point ⟦<C as Sink>⟧ ⟦<T as Clock>⟧ conn.old clock.old service.state) service.keeper (C.left conn.old) (C.left conn.new) (C.written conn.new) (T.moments clock.new) result }
-    ensures failed { result.0 ≡ Ended.Failed → Rose (C.read_faults conn.old) (C.read_faults conn.new) ⊎ Rose (C.write_faults conn.old) (C.write_faults conn.new) }
+    ensures session { SessionOf ⟦<K as Keeper>⟧
+        (point ⟦<C as Sink>⟧ ⟦<T as Clock>⟧ conn.old clock.old service.state) service.keeper
+        (C.left conn.old) (C.left conn.new) (C.written conn.new) (T.moments clock.new) result }
+    ensures failed { result.0 ≡ Ended.Failed
+        → Rose (C.read_faults conn.old) (C.read_faults conn.new)
+        ⊎ Rose (C.write_faults conn.old) (C.write_faults conn.new) }
 {
     turns_are_of_all_bytes();
     // nothing was read yet, so this answers nothing
@@ -160,8 +182,12 @@ pub(crate) fn serve_routed<K: Keeper, C: Connection, T: Clock>(
     conn: &mut C,
     clock: &mut T,
 ) -> (Ended, Next<K>)
-    ensures session { SessionOf ⟦<K as Keeper>⟧ (point ⟦<C as Sink>⟧ ⟦<T as Clock>⟧ conn.old clock.old service.state) service.keeper (C.left conn.old) (C.left conn.new) (C.written conn.new) (T.moments clock.new) result }
-    ensures failed { result.0 ≡ Ended.Failed → Rose (C.read_faults conn.old) (C.read_faults conn.new) ⊎ Rose (C.write_faults conn.old) (C.write_faults conn.new) }
+    ensures session { SessionOf ⟦<K as Keeper>⟧
+        (point ⟦<C as Sink>⟧ ⟦<T as Clock>⟧ conn.old clock.old service.state) service.keeper
+        (C.left conn.old) (C.left conn.new) (C.written conn.new) (T.moments clock.new) result }
+    ensures failed { result.0 ≡ Ended.Failed
+        → Rose (C.read_faults conn.old) (C.read_faults conn.new)
+        ⊎ Rose (C.write_faults conn.old) (C.write_faults conn.new) }
 {
     turns_are_of_all_bytes();
     service.stays();
@@ -173,16 +199,20 @@ pub(crate) fn serve_routed<K: Keeper, C: Connection, T: Clock>(
 
 /// Answers the messages of a connection, one after another, until it ends, a message closes it, or
 /// there is nothing more to be done with it: a head isn't taken, a call of the connection failed,
-/// 2^32 bytes were read, or there was no memory. Where the service stopped, its keeper is given back.
-/// The keeper has the commands that were accepted; where keeping one failed, that one or not.
+/// 2^32 bytes were read, or there was no memory. Where the service stopped, its keeper is given
+/// back. The keeper has the commands that were accepted; where keeping one failed, that one or not.
 pub fn serve_connection<K: Keeper, C: Connection, T: Clock>(
     alloc: Global,
     service: Service<K>,
     conn: &mut C,
     clock: &mut T,
 ) -> (Ended, Next<K>)
-    ensures session { SessionOf ⟦<K as Keeper>⟧ (point ⟦<C as Sink>⟧ ⟦<T as Clock>⟧ conn.old clock.old service.state) service.keeper (C.left conn.old) (C.left conn.new) (C.written conn.new) (T.moments clock.new) result }
-    ensures failed { result.0 ≡ Ended.Failed → Rose (C.read_faults conn.old) (C.read_faults conn.new) ⊎ Rose (C.write_faults conn.old) (C.write_faults conn.new) }
+    ensures session { SessionOf ⟦<K as Keeper>⟧
+        (point ⟦<C as Sink>⟧ ⟦<T as Clock>⟧ conn.old clock.old service.state) service.keeper
+        (C.left conn.old) (C.left conn.new) (C.written conn.new) (T.moments clock.new) result }
+    ensures failed { result.0 ≡ Ended.Failed
+        → Rose (C.read_faults conn.old) (C.read_faults conn.new)
+        ⊎ Rose (C.write_faults conn.old) (C.write_faults conn.new) }
 {
     turns_are_of_all_bytes();
     service.stays();

@@ -1,9 +1,11 @@
 // Connections, one after another.
-ghost use Rattle.std.specs.Prelude.{◌≡◌, ◌≤◌, [], Option, is_some, true, false, if◌then◌else◌, IfOk, IfErr, IfSome};
+ghost use Rattle.std.specs.Prelude.{◌≡◌, ◌≤◌, [], Option, is_some, true, false, if◌then◌else◌};
+ghost use Rattle.std.specs.Prelude.{IfOk, IfErr, IfSome};
 ghost use Rattle.reg_outside.specs.Connections.{HasOpen, seen};
 ghost use Rattle.reg_outside.specs.Faults.{HasCause, Rose};
 ghost use Rattle.reg_service.specs.Kept.{KeptOn};
-ghost use Rattle.reg_serve.specs.Visits.{CeasesNext, CeasesServing, GivesBack, ServedSo, ServesVisits, ceased_of};
+ghost use Rattle.reg_serve.specs.Visits.{CeasesNext, CeasesServing, GivesBack, ServedSo};
+ghost use Rattle.reg_serve.specs.Visits.{ServesVisits, ceased_of};
 
 use crate::connection::serve_routed;
 use crate::ended::Ceased;
@@ -33,7 +35,9 @@ fn serve_accepted<K: Keeper, L: Listener, T: Clock>(
     clock: &mut T,
 ) -> (Next<K>, Result<(), Failed>)
     requires { IfSome (L.connections net.old) HasOpen }
-    ensures back { GivesBack ⟦<K as Keeper>⟧ service.state service.keeper (T.moments clock.old) (seen ⟦<L::Conn as Source>⟧ ⟦<L::Conn as Sink>⟧ conn) (L.connections net.old) (L.connections net.new) (T.moments clock.new) result.0 }
+    ensures back { GivesBack ⟦<K as Keeper>⟧ service.state service.keeper (T.moments clock.old)
+        (seen ⟦<L::Conn as Source>⟧ ⟦<L::Conn as Sink>⟧ conn) (L.connections net.old)
+        (L.connections net.new) (T.moments clock.new) result.0 }
     ensures cause { HasCause (L.listener_faults net.old) (L.listener_faults net.new) result.1 }
     ensures port { L.listens net.new ≡ L.listens net.old }
 {
@@ -52,12 +56,21 @@ fn serve_next<K: Keeper, L: Listener, T: Clock>(
     clock: &mut T,
 ) -> Result<(Service<K>, bool), (Ceased, K)>
     requires { is_some (L.listens net.old) ≡ true }
-    ensures served { IfOk result (λ after. ServedSo (if after.1 then 1 else 0) service.state (T.moments clock.old) (L.connections net.old) (L.connections net.new) after.0.state (T.moments clock.new)) }
-    ensures none { IfOk result (λ after. after.1 ≡ false → IfSome (L.connections net.new) (λ told. told.coming ≡ [])) }
-    ensures kept { IfOk result (λ after. KeptOn ⟦<K as Keeper>⟧ service.state.history service.keeper after.0.state.history after.0.keeper) }
-    ensures ceased { IfErr result (λ e. CeasesNext ⟦<K as Keeper>⟧ service.state service.keeper (T.moments clock.old) (L.connections net.old) (L.connections net.new) (T.moments clock.new) e.0 e.1) }
-    ensures listener { IfErr result (λ e. e.0 ≡ Ceased.Listener → Rose (L.listener_faults net.old) (L.listener_faults net.new)) }
-    ensures disk { IfErr result (λ e. e.0 ≡ Ceased.Disk → Rose (K.keep_faults service.keeper) (K.keep_faults e.1)) }
+    ensures served { IfOk result (λ after. ServedSo (if after.1 then 1
+        else 0) service.state (T.moments clock.old) (L.connections net.old)
+        (L.connections net.new) after.0.state (T.moments clock.new)) }
+    ensures none { IfOk result (λ after. after.1 ≡ false
+        → IfSome (L.connections net.new) (λ told. told.coming ≡ [])) }
+    ensures kept { IfOk result
+        (λ after. KeptOn ⟦<K as Keeper>⟧ service.state.history service.keeper after.0.state.history
+        after.0.keeper) }
+    ensures ceased { IfErr result
+        (λ e. CeasesNext ⟦<K as Keeper>⟧ service.state service.keeper (T.moments clock.old)
+        (L.connections net.old) (L.connections net.new) (T.moments clock.new) e.0 e.1) }
+    ensures listener { IfErr result (λ e. e.0 ≡ Ceased.Listener
+        → Rose (L.listener_faults net.old) (L.listener_faults net.new)) }
+    ensures disk { IfErr result (λ e. e.0 ≡ Ceased.Disk
+        → Rose (K.keep_faults service.keeper) (K.keep_faults e.1)) }
     ensures port { L.listens net.new ≡ L.listens net.old }
     ensures count { L.listener_faults net.old ≤ L.listener_faults net.new }
 {
@@ -90,11 +103,19 @@ fn serve_all<K: Keeper, L: Listener, T: Clock>(
     limit: u64,
 ) -> Result<Service<K>, (Ceased, K)>
     requires { is_some (L.listens net.old) ≡ true }
-    ensures served { IfOk result (λ to. ServesVisits limit service.state (T.moments clock.old) (L.connections net.old) (L.connections net.new) to.state (T.moments clock.new)) }
-    ensures kept { IfOk result (λ to. KeptOn ⟦<K as Keeper>⟧ service.state.history service.keeper to.state.history to.keeper) }
-    ensures ceased { IfErr result (λ e. CeasesServing ⟦<K as Keeper>⟧ limit service.state service.keeper (T.moments clock.old) (L.connections net.old) (L.connections net.new) (T.moments clock.new) e.0 e.1) }
-    ensures listener { IfErr result (λ e. e.0 ≡ Ceased.Listener → Rose (L.listener_faults net.old) (L.listener_faults net.new)) }
-    ensures disk { IfErr result (λ e. e.0 ≡ Ceased.Disk → Rose (K.keep_faults service.keeper) (K.keep_faults e.1)) }
+    ensures served { IfOk result
+        (λ to. ServesVisits limit service.state (T.moments clock.old) (L.connections net.old)
+        (L.connections net.new) to.state (T.moments clock.new)) }
+    ensures kept { IfOk result
+        (λ to. KeptOn ⟦<K as Keeper>⟧ service.state.history service.keeper to.state.history
+        to.keeper) }
+    ensures ceased { IfErr result
+        (λ e. CeasesServing ⟦<K as Keeper>⟧ limit service.state service.keeper (T.moments clock.old)
+        (L.connections net.old) (L.connections net.new) (T.moments clock.new) e.0 e.1) }
+    ensures listener { IfErr result (λ e. e.0 ≡ Ceased.Listener
+        → Rose (L.listener_faults net.old) (L.listener_faults net.new)) }
+    ensures disk { IfErr result (λ e. e.0 ≡ Ceased.Disk
+        → Rose (K.keep_faults service.keeper) (K.keep_faults e.1)) }
     ensures port { L.listens net.new ≡ L.listens net.old }
     ensures count { L.listener_faults net.old ≤ L.listener_faults net.new }
 {
@@ -116,9 +137,9 @@ fn serve_all<K: Keeper, L: Listener, T: Clock>(
     Ok(service)
 }
 
-/// Serves connections one after another, at most so many, until none is to come, and gives each back
-/// however it ended. A connection that fails doesn't end it: that does a call of the listener that
-/// failed, and a service that stopped. Then the keeper is given back.
+/// Serves connections one after another, at most so many, until none is to come, and gives each
+/// back however it ended. A connection that fails doesn't end it: that does a call of the listener
+/// that failed, and a service that stopped. Then the keeper is given back.
 pub fn serve_connections<K: Keeper, L: Listener, T: Clock>(
     alloc: Global,
     service: Service<K>,
@@ -127,11 +148,19 @@ pub fn serve_connections<K: Keeper, L: Listener, T: Clock>(
     limit: u64,
 ) -> Result<Service<K>, (Ceased, K)>
     requires listening { is_some (L.listens net.old) ≡ true }
-    ensures served { IfOk result (λ to. ServesVisits limit service.state (T.moments clock.old) (L.connections net.old) (L.connections net.new) to.state (T.moments clock.new)) }
-    ensures kept { IfOk result (λ to. KeptOn ⟦<K as Keeper>⟧ service.state.history service.keeper to.state.history to.keeper) }
-    ensures ceased { IfErr result (λ e. CeasesServing ⟦<K as Keeper>⟧ limit service.state service.keeper (T.moments clock.old) (L.connections net.old) (L.connections net.new) (T.moments clock.new) e.0 e.1) }
-    ensures listener { IfErr result (λ e. e.0 ≡ Ceased.Listener → Rose (L.listener_faults net.old) (L.listener_faults net.new)) }
-    ensures disk { IfErr result (λ e. e.0 ≡ Ceased.Disk → Rose (K.keep_faults service.keeper) (K.keep_faults e.1)) }
+    ensures served { IfOk result
+        (λ to. ServesVisits limit service.state (T.moments clock.old) (L.connections net.old)
+        (L.connections net.new) to.state (T.moments clock.new)) }
+    ensures kept { IfOk result
+        (λ to. KeptOn ⟦<K as Keeper>⟧ service.state.history service.keeper to.state.history
+        to.keeper) }
+    ensures ceased { IfErr result
+        (λ e. CeasesServing ⟦<K as Keeper>⟧ limit service.state service.keeper (T.moments clock.old)
+        (L.connections net.old) (L.connections net.new) (T.moments clock.new) e.0 e.1) }
+    ensures listener { IfErr result (λ e. e.0 ≡ Ceased.Listener
+        → Rose (L.listener_faults net.old) (L.listener_faults net.new)) }
+    ensures disk { IfErr result (λ e. e.0 ≡ Ceased.Disk
+        → Rose (K.keep_faults service.keeper) (K.keep_faults e.1)) }
     ensures port { L.listens net.new ≡ L.listens net.old }
     ensures count { L.listener_faults net.old ≤ L.listener_faults net.new }
 {

@@ -20,7 +20,8 @@ fn is_accepted(reply: &Reply) -> bool
 }
 
 fn send_bytes<C: Connection>(conn: &mut C, bytes: &[u8]) -> Result<(), Ended>
-    ensures sent { IfOk result (λ done. C.written conn.new ≡ append_known (C.written conn.old) bytes.now) }
+    ensures sent { IfOk result (λ done. C.written conn.new
+        ≡ append_known (C.written conn.old) bytes.now) }
     ensures front { WritesFront (C.written conn.old) (C.written conn.new) bytes.now }
     ensures why { IfErr result (λ e. e ≡ Ended.Failed) }
     ensures failed { IfErr result (λ e. Rose (C.write_faults conn.old) (C.write_faults conn.new)) }
@@ -43,8 +44,10 @@ pub(crate) fn send_reply<C: Connection>(
     close: bool,
     reply: &Reply,
 ) -> Result<(), Ended>
-    ensures sends { SendsReply asked.now close reply.now (C.written conn.old) (C.written conn.new) result }
-    ensures failed { IfErr result (λ e. e ≡ Ended.Failed → Rose (C.write_faults conn.old) (C.write_faults conn.new)) }
+    ensures sends { SendsReply asked.now close reply.now (C.written conn.old)
+        (C.written conn.new) result }
+    ensures failed { IfErr result (λ e. e ≡ Ended.Failed
+        → Rose (C.write_faults conn.old) (C.write_faults conn.new)) }
     ensures left { C.left conn.new ≡ C.left conn.old }
     ensures reads { C.read_faults conn.old ≤ C.read_faults conn.new }
     ensures writes { C.write_faults conn.old ≤ C.write_faults conn.new }
@@ -67,8 +70,10 @@ pub(crate) fn send_fault<C: Connection>(
     reply: &Reply,
 ) -> Result<(), Ended>
     requires { is_accepted reply.now ≡ false }
-    ensures sent { IfOk result (λ done. SentFault reply.now (C.written conn.old) (C.written conn.new)) }
-    ensures front { IfErr result (λ e. SentFaultFront reply.now (C.written conn.old) (C.written conn.new)) }
+    ensures sent { IfOk result
+        (λ done. SentFault reply.now (C.written conn.old) (C.written conn.new)) }
+    ensures front { IfErr result
+        (λ e. SentFaultFront reply.now (C.written conn.old) (C.written conn.new)) }
     ensures why { IfErr result (λ e. e ≡ Ended.Failed) }
     ensures failed { IfErr result (λ e. Rose (C.write_faults conn.old) (C.write_faults conn.new)) }
     ensures left { C.left conn.new ≡ C.left conn.old }

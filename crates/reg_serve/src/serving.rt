@@ -1,5 +1,6 @@
 // One message after another.
-ghost use Rattle.std.specs.Prelude.{◌≡◌, ◌≤◌, ◌∷◌, [], List, ℕ, Option, None, true, false, unwrap_or, IfOk, IfErr};
+ghost use Rattle.std.specs.Prelude.{◌≡◌, ◌≤◌, ◌∷◌, [], List, ℕ, Option, None, true, false};
+ghost use Rattle.std.specs.Prelude.{unwrap_or, IfOk, IfErr};
 ghost use Rattle.reg_outside.specs.Faults.{Rose};
 ghost use Rattle.reg_calls.specs.Reading.{reading_of};
 ghost use Rattle.reg_session.specs.Answered.{point};
@@ -55,7 +56,8 @@ fn answer_routed<K: Keeper, T: Clock>(
     call: &Call,
     clock: &mut T,
 ) -> (Reply, Next<K>)
-    ensures { Answers ⟦<K as Keeper>⟧ service.keeper (T.moments clock.old) (T.moments clock.new) service.state (question_by (Asked.Routed route) call.now) result }
+    ensures { Answers ⟦<K as Keeper>⟧ service.keeper (T.moments clock.old)
+        (T.moments clock.new) service.state (question_by (Asked.Routed route) call.now) result }
 {
     let moment = clock.now();
     let reading = read(alloc, route, call);
@@ -71,7 +73,8 @@ fn answer<K: Keeper, T: Clock>(
     call: &Call,
     clock: &mut T,
 ) -> (Reply, Next<K>)
-    ensures { Answers ⟦<K as Keeper>⟧ service.keeper (T.moments clock.old) (T.moments clock.new) service.state (question_by asked call.now) result }
+    ensures { Answers ⟦<K as Keeper>⟧ service.keeper (T.moments clock.old)
+        (T.moments clock.new) service.state (question_by asked call.now) result }
 {
     service.stays();
     match asked {
@@ -91,8 +94,10 @@ fn finish_call<K: Keeper, C: Connection>(
     reply: Reply,
     service: Service<K>,
 ) -> Result<Service<K>, (Ended, Next<K>)>
-    ensures sends { Finishes asked.now call.now reply (C.written conn.old) (C.written conn.new) service result }
-    ensures failed { IfErr result (λ e. e.0 ≡ Ended.Failed → Rose (C.write_faults conn.old) (C.write_faults conn.new)) }
+    ensures sends { Finishes asked.now call.now reply (C.written conn.old)
+        (C.written conn.new) service result }
+    ensures failed { IfErr result (λ e. e.0 ≡ Ended.Failed
+        → Rose (C.write_faults conn.old) (C.write_faults conn.new)) }
     ensures left { C.left conn.new ≡ C.left conn.old }
     ensures reads { C.read_faults conn.old ≤ C.read_faults conn.new }
     ensures writes { C.write_faults conn.old ≤ C.write_faults conn.new }
@@ -133,11 +138,17 @@ pub(crate) fn serve_call<K: Keeper, C: Connection, T: Clock>(
 ) -> Result<Service<K>, (Ended, Next<K>)>
     ensures open { IfOk result (λ after. closes call.now ≡ false) }
     ensures served { IfOk result (λ after.
-        Answered (point ⟦<C as Sink>⟧ ⟦<T as Clock>⟧ conn.old clock.old service.state) (call.now ∷ []) (point ⟦<C as Sink>⟧ ⟦<T as Clock>⟧ conn.new clock.new after.state)) }
-    ensures kept { IfOk result (λ after. KeptOn ⟦<K as Keeper>⟧ service.state.history service.keeper after.state.history after.keeper) }
+        Answered (point ⟦<C as Sink>⟧ ⟦<T as Clock>⟧ conn.old clock.old service.state) (call.now
+        ∷ []) (point ⟦<C as Sink>⟧ ⟦<T as Clock>⟧ conn.new clock.new after.state)) }
+    ensures kept { IfOk result
+        (λ after. KeptOn ⟦<K as Keeper>⟧ service.state.history service.keeper after.state.history
+        after.keeper) }
     ensures ended { IfErr result (λ e.
-        TurnLeaves ⟦<K as Keeper>⟧ (point ⟦<C as Sink>⟧ ⟦<T as Clock>⟧ conn.old clock.old service.state) service.keeper (Turn.Call call.now) (C.written conn.new) (T.moments clock.new) e) }
-    ensures failed { IfErr result (λ e. e.0 ≡ Ended.Failed → Rose (C.write_faults conn.old) (C.write_faults conn.new)) }
+        TurnLeaves ⟦<K as Keeper>⟧
+        (point ⟦<C as Sink>⟧ ⟦<T as Clock>⟧ conn.old clock.old service.state) service.keeper
+        (Turn.Call call.now) (C.written conn.new) (T.moments clock.new) e) }
+    ensures failed { IfErr result (λ e. e.0 ≡ Ended.Failed
+        → Rose (C.write_faults conn.old) (C.write_faults conn.new)) }
     ensures left { C.left conn.new ≡ C.left conn.old }
     ensures reads { C.read_faults conn.old ≤ C.read_faults conn.new }
     ensures writes { C.write_faults conn.old ≤ C.write_faults conn.new }
@@ -161,8 +172,14 @@ fn refuse_head<K: Keeper, C: Connection>(
     conn: &mut C,
 ) -> (Ended, Next<K>)
     ensures ended { (moments : Option (List ℕ)) →
-        TurnLeaves ⟦<K as Keeper>⟧ (record { written = C.written conn.old; moments = moments; state = service.state }) service.keeper (Turn.Bad fault) (C.written conn.new) moments result }
-    ensures failed { result.0 ≡ Ended.Failed → Rose (C.write_faults conn.old) (C.write_faults conn.new) }
+        TurnLeaves ⟦<K as Keeper>⟧ (record {
+          written = C.written conn.old;
+          moments = moments;
+          state = service.state;
+        }) service.keeper (Turn.Bad fault)
+        (C.written conn.new) moments result }
+    ensures failed { result.0 ≡ Ended.Failed
+        → Rose (C.write_faults conn.old) (C.write_faults conn.new) }
     ensures left { C.left conn.new ≡ C.left conn.old }
     ensures reads { C.read_faults conn.old ≤ C.read_faults conn.new }
     ensures writes { C.write_faults conn.old ≤ C.write_faults conn.new }
@@ -187,11 +204,17 @@ fn take_turn<K: Keeper, C: Connection, T: Clock>(
     clock: &mut T,
 ) -> Result<(Service<K>, bool), (Ended, Next<K>)>
     ensures served { IfOk result (λ after.
-        TurnServed (point ⟦<C as Sink>⟧ ⟦<T as Clock>⟧ conn.old clock.old service.state) turn (point ⟦<C as Sink>⟧ ⟦<T as Clock>⟧ conn.new clock.new after.0.state) after.1) }
-    ensures kept { IfOk result (λ after. KeptOn ⟦<K as Keeper>⟧ service.state.history service.keeper after.0.state.history after.0.keeper) }
+        TurnServed (point ⟦<C as Sink>⟧ ⟦<T as Clock>⟧ conn.old clock.old service.state) turn
+        (point ⟦<C as Sink>⟧ ⟦<T as Clock>⟧ conn.new clock.new after.0.state) after.1) }
+    ensures kept { IfOk result
+        (λ after. KeptOn ⟦<K as Keeper>⟧ service.state.history service.keeper after.0.state.history
+        after.0.keeper) }
     ensures ended { IfErr result (λ e.
-        TurnLeaves ⟦<K as Keeper>⟧ (point ⟦<C as Sink>⟧ ⟦<T as Clock>⟧ conn.old clock.old service.state) service.keeper turn (C.written conn.new) (T.moments clock.new) e) }
-    ensures failed { IfErr result (λ e. e.0 ≡ Ended.Failed → Rose (C.write_faults conn.old) (C.write_faults conn.new)) }
+        TurnLeaves ⟦<K as Keeper>⟧
+        (point ⟦<C as Sink>⟧ ⟦<T as Clock>⟧ conn.old clock.old service.state) service.keeper turn
+        (C.written conn.new) (T.moments clock.new) e) }
+    ensures failed { IfErr result (λ e. e.0 ≡ Ended.Failed
+        → Rose (C.write_faults conn.old) (C.write_faults conn.new)) }
     ensures left { C.left conn.new ≡ C.left conn.old }
     ensures reads { C.read_faults conn.old ≤ C.read_faults conn.new }
     ensures writes { C.write_faults conn.old ≤ C.write_faults conn.new }
@@ -222,12 +245,18 @@ fn serve_turn<K: Keeper, C: Connection, T: Clock>(
 ) -> Result<(Service<K>, bool), (Ended, Next<K>)>
     requires { reader.old.fault ≡ None }
     ensures served { IfOk result (λ after.
-        Serves (point ⟦<C as Sink>⟧ ⟦<T as Clock>⟧ conn.old clock.old service.state) reader.old (point ⟦<C as Sink>⟧ ⟦<T as Clock>⟧ conn.new clock.new after.0.state) reader.new) }
+        Serves (point ⟦<C as Sink>⟧ ⟦<T as Clock>⟧ conn.old clock.old service.state) reader.old
+        (point ⟦<C as Sink>⟧ ⟦<T as Clock>⟧ conn.new clock.new after.0.state) reader.new) }
     ensures more { IfOk result (λ after. Remains reader.old after.1 reader.new) }
-    ensures kept { IfOk result (λ after. KeptOn ⟦<K as Keeper>⟧ service.state.history service.keeper after.0.state.history after.0.keeper) }
+    ensures kept { IfOk result
+        (λ after. KeptOn ⟦<K as Keeper>⟧ service.state.history service.keeper after.0.state.history
+        after.0.keeper) }
     ensures ended { IfErr result (λ e.
-        ReadLeaves ⟦<K as Keeper>⟧ (point ⟦<C as Sink>⟧ ⟦<T as Clock>⟧ conn.old clock.old service.state) service.keeper reader.old (C.written conn.new) (T.moments clock.new) e) }
-    ensures failed { IfErr result (λ e. e.0 ≡ Ended.Failed → Rose (C.write_faults conn.old) (C.write_faults conn.new)) }
+        ReadLeaves ⟦<K as Keeper>⟧
+        (point ⟦<C as Sink>⟧ ⟦<T as Clock>⟧ conn.old clock.old service.state) service.keeper
+        reader.old (C.written conn.new) (T.moments clock.new) e) }
+    ensures failed { IfErr result (λ e. e.0 ≡ Ended.Failed
+        → Rose (C.write_faults conn.old) (C.write_faults conn.new)) }
     ensures left { C.left conn.new ≡ C.left conn.old }
     ensures reads { C.read_faults conn.old ≤ C.read_faults conn.new }
     ensures writes { C.write_faults conn.old ≤ C.write_faults conn.new }
@@ -251,13 +280,19 @@ pub(crate) fn serve_turns<K: Keeper, C: Connection, T: Clock>(
 ) -> Result<Service<K>, (Ended, Next<K>)>
     requires { reader.old.fault ≡ None }
     ensures served { IfOk result (λ after.
-        Serves (point ⟦<C as Sink>⟧ ⟦<T as Clock>⟧ conn.old clock.old service.state) reader.old (point ⟦<C as Sink>⟧ ⟦<T as Clock>⟧ conn.new clock.new after.state) reader.new) }
+        Serves (point ⟦<C as Sink>⟧ ⟦<T as Clock>⟧ conn.old clock.old service.state) reader.old
+        (point ⟦<C as Sink>⟧ ⟦<T as Clock>⟧ conn.new clock.new after.state) reader.new) }
     ensures fault { IfOk result (λ after. reader.new.fault ≡ None) }
     ensures none { IfOk result (λ after. IsUnfinished reader.new.rest) }
-    ensures kept { IfOk result (λ after. KeptOn ⟦<K as Keeper>⟧ service.state.history service.keeper after.state.history after.keeper) }
+    ensures kept { IfOk result
+        (λ after. KeptOn ⟦<K as Keeper>⟧ service.state.history service.keeper after.state.history
+        after.keeper) }
     ensures ended { IfErr result (λ e.
-        EndsTurnsOf ⟦<K as Keeper>⟧ (point ⟦<C as Sink>⟧ ⟦<T as Clock>⟧ conn.old clock.old service.state) service.keeper reader.old (C.written conn.new) (T.moments clock.new) e) }
-    ensures failed { IfErr result (λ e. e.0 ≡ Ended.Failed → Rose (C.write_faults conn.old) (C.write_faults conn.new)) }
+        EndsTurnsOf ⟦<K as Keeper>⟧
+        (point ⟦<C as Sink>⟧ ⟦<T as Clock>⟧ conn.old clock.old service.state) service.keeper
+        reader.old (C.written conn.new) (T.moments clock.new) e) }
+    ensures failed { IfErr result (λ e. e.0 ≡ Ended.Failed
+        → Rose (C.write_faults conn.old) (C.write_faults conn.new)) }
     ensures left { C.left conn.new ≡ C.left conn.old }
     ensures reads { C.read_faults conn.old ≤ C.read_faults conn.new }
     ensures writes { C.write_faults conn.old ≤ C.write_faults conn.new }

@@ -1,5 +1,6 @@
 -- What a keeper has after requests, and what a stop meanwhile leaves of it.
-use Rattle.std.specs.Prelude.{◌≡◌, ◌⊎◌, ◌≤◌, ℕ, List, [], ◌∷◌, ◌++◌, Option, Result, Ok, IfSome, is_some, true, length, take}
+use Rattle.std.specs.Prelude.{◌≡◌, ◌⊎◌, ◌≤◌, ℕ, List, [], ◌∷◌, ◌++◌, Option, Result, Ok, IfSome}
+use Rattle.std.specs.Prelude.{is_some, true, length, take}
 use Rattle.reg_outside.specs.Disk.{Leaves}
 use Rattle.reg_outside.specs.Faults.{Rose}
 use Rattle.reg_terms.specs.declared.command.Stamped.{Stamped}
@@ -14,22 +15,27 @@ use Rattle.reg_service.specs.Opening.{payloads_of, FrontsReopen}
 
 -- the payloads of one of the histories from the first to the second, which goes on from it
 abbrev pub IsBetween : List Stamped → List Stamped → Result (List (List ℕ)) ℕ → Type 0
-IsBetween before after r = (n : ℕ) × (length before ≤ n) × (n ≤ length after) × (r ≡ Ok (payloads_of (take n after)))
+IsBetween before after r =
+    (n : ℕ) × (length before ≤ n) × (n ≤ length after) × (r ≡ Ok (payloads_of (take n after)))
 
--- From one moment to a later one the history went on, in the same keeper, and each stop meanwhile leaves a history
--- between the two.
-pub record KeptOn {K : Type 0} (g : Ghosts K) (before : List Stamped) (old : K) (after : List Stamped) (new : K) : Type 0 where
+-- From one moment to a later one the history went on, in the same keeper, and each stop meanwhile
+-- leaves a history between the two.
+pub record KeptOn {K : Type 0} (g : Ghosts K) (before : List Stamped) (old : K)
+    (after : List Stamped) (new : K) : Type 0 where
   pub more : List Stamped
   pub grown : after ≡ before ++ more
   pub object : g.keep_name new ≡ g.keep_name old
   pub later : g.keep_faults old ≤ g.keep_faults new
   pub told : IfSome (g.payloads old) (λ ps. is_some (g.payloads new) ≡ true)
-  pub crash : IfSome (g.payloads old) (λ ps. Leaves g.keep_moment g.stopped_since (IsBetween before after) old new)
+  pub crash : IfSome (g.payloads old)
+      (λ ps. Leaves g.keep_moment g.stopped_since (IsBetween before after) old new)
 
--- The keeper of a service that stopped. All up to the first history was answered, and each stop leaves a history from
--- that one to the second, of which each front opens again.
+-- The keeper of a service that stopped. All up to the first history was answered, and each stop
+-- leaves a history from that one to the second, of which each front opens again.
 abbrev pub Stopped : {K : Type 0} → Ghosts K → List Stamped → List Stamped → K → Type 0
-Stopped g answered after keeper = FrontsReopen after × ((r : Result (List (List ℕ)) ℕ) → g.stop_leaves keeper r → IsBetween answered after r)
+Stopped g answered after keeper =
+    FrontsReopen after × ((r : Result (List (List ℕ)) ℕ) → g.stop_leaves keeper r
+    → IsBetween answered after r)
 
 -- the history with one command more, or as it was
 abbrev pub IsOneMore : List Stamped → List Stamped → Type 0
@@ -46,14 +52,18 @@ Began cause.Memory before expected after = after ≡ before
 Began cause.Disk before expected after = (after ≡ before) ⊎ (after ≡ expected)
 
 -- What is kept after a request that would lead to this history.
-abbrev pub KeepsNext : {K : Type 0} (g : Ghosts K) → List Stamped → List Stamped → K → Next K → Type 0
+abbrev pub KeepsNext : {K : Type 0} (g : Ghosts K) → List Stamped → List Stamped → K → Next K
+    → Type 0
 KeepsNext g before expected old (next.Go s) = KeptOn g before old s.state.history s.keeper
 KeepsNext g before expected old (next.Stop why keeper) =
-    (after : List Stamped) × Began why before expected after × KeptOn g before old after keeper × IfSome (g.payloads old) (λ ps. Stopped g before after keeper) × RoseAt why (g.keep_faults old) (g.keep_faults keeper)
+    (after : List Stamped) × Began why before expected after × KeptOn g before old after keeper
+    × IfSome (g.payloads old) (λ ps. Stopped g before after keeper)
+    × RoseAt why (g.keep_faults old) (g.keep_faults keeper)
 
--- The keeper of a service that stopped on the way from this history on: the history that was answered, and the last,
--- with a command more whose append failed or without it.
-pub record Halted {K : Type 0} (g : Ghosts K) (before : List Stamped) (old keeper : K) : Type 0 where
+-- The keeper of a service that stopped on the way from this history on: the history that was
+-- answered, and the last, with a command more whose append failed or without it.
+pub record Halted {K : Type 0} (g : Ghosts K) (before : List Stamped)
+    (old keeper : K) : Type 0 where
   pub answered : List Stamped
   pub after : List Stamped
   pub first : length before ≤ length answered
@@ -71,12 +81,16 @@ abbrev pub LeavesKeeper : {K : Type 0} → K → Next K → Type 0
 LeavesKeeper old (next.Go s) = s.keeper ≡ old
 LeavesKeeper old (next.Stop why keeper) = (keeper ≡ old) × (why ≡ cause.Memory)
 
--- The service goes on with a history that has one command more, at this place, and this is the id of what it made; the
--- keeper's payloads are this history's, where they are told, and each stop leaves it.
+-- The service goes on with a history that has one command more, at this place, and this is the id
+-- of what it made; the keeper's payloads are this history's, where they are told, and each stop
+-- leaves it.
 abbrev pub IsAcknowledged : {K : Type 0} → Ghosts K → List Stamped → ℕ → Option ℕ → Next K → Type 0
 IsAcknowledged g before number id (next.Go s) =
-    (one : Stamped) × (s.state.history ≡ before ++ one ∷ []) × (number ≡ length (before ++ one ∷ [])) × (id ≡ made_id one.command (facts before one.at))
-    × IfSome (g.payloads s.keeper) (λ ps. ps ≡ payloads_of (before ++ one ∷ [])) × ((r : Result (List (List ℕ)) ℕ) → g.stop_leaves s.keeper r → r ≡ Ok (payloads_of (before ++ one ∷ [])))
+    (one : Stamped) × (s.state.history ≡ before ++ one ∷ [])
+    × (number ≡ length (before ++ one ∷ [])) × (id ≡ made_id one.command (facts before one.at))
+    × IfSome (g.payloads s.keeper) (λ ps. ps ≡ payloads_of (before ++ one ∷ []))
+    × ((r : Result (List (List ℕ)) ℕ) → g.stop_leaves s.keeper r
+    → r ≡ Ok (payloads_of (before ++ one ∷ [])))
 IsAcknowledged g before number id (next.Stop why keeper) = ⊥
 
 -- the same of a load's command, whatever the id of what it made

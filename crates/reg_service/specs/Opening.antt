@@ -1,5 +1,7 @@
--- What a journal opens to: the history of its payloads, where each reads back as a command that is accepted there.
-use Rattle.std.specs.Prelude.{◌≡◌, ℕ, ◌≤◌, List, [], ◌∷◌, Bool, false, Option, Some, None, Result, Ok, Err, map, nat_lt, if◌then◌else◌, IfSome, length, take}
+-- What a journal opens to: the history of its payloads, where each reads back as a command that is
+-- accepted there.
+use Rattle.std.specs.Prelude.{◌≡◌, ℕ, ◌≤◌, List, [], ◌∷◌, Bool, false, Option, Some, None, Result}
+use Rattle.std.specs.Prelude.{Ok, Err, map, nat_lt, if◌then◌else◌, IfSome, length, take}
 use Rattle.reg_terms.specs.declared.command.Stamped.{Stamped}
 use Rattle.reg_terms.specs.declared.refusal.Refusal.{Refusal}
 use Rattle.reg_machine.specs.History.{State, start, appended}
@@ -22,13 +24,16 @@ at_last history = record { history = history; clock = last_from 0 history }
 
 -- a command that isn't refused acts at its moment
 abbrev pub accepted : State → Stamped → Option Refusal → Option State
-accepted s stamped None = Some (appended (record { history = s.history; clock = stamped.at }) stamped.by stamped.command)
+accepted s stamped None =
+    Some (appended (record { history = s.history; clock = stamped.at }) stamped.by stamped.command)
 accepted s stamped (Some r) = None
 
 -- the state after a stamped command, unless its moment is less than the clock or it is refused
 abbrev pub after_stamped : State → Option Stamped → Option State
 after_stamped s None = None
-after_stamped s (Some stamped) = if nat_lt stamped.at s.clock then None else accepted s stamped (refusal s.history stamped.at stamped.by stamped.command)
+after_stamped s (Some stamped) =
+    if nat_lt stamped.at s.clock then None
+    else accepted s stamped (refusal s.history stamped.at stamped.by stamped.command)
 
 -- the state after a payload
 unfoldable pub after_payload : State → List ℕ → Option State
@@ -44,7 +49,8 @@ abbrev pub and_then : Result State ℕ → (State → Result State ℕ) → Resu
 and_then (Ok s) more = more s
 and_then (Err place) more = Err place
 
--- the state after these records, or the place of the first whose payload is no command's, falls in time, or is refused
+-- the state after these records, or the place of the first whose payload is no command's, falls in
+-- time, or is refused
 abbrev pub judged : State → List (ℕ × List ℕ) → Result State ℕ
 judged s [] = Ok s
 judged s (r ∷ rs) = and_then (or_place r.0 (after_payload s r.1)) (λ after. judged after rs)
@@ -60,14 +66,16 @@ opens file = judged_all (opened file)
 
 -- what has this history's payloads opens to it
 abbrev pub Reopens : List Stamped → Type 0
-Reopens history = (records : List (ℕ × List ℕ)) → map (λ r. r.1) records ≡ payloads_of history → judged start records ≡ Ok (at_last history)
+Reopens history =
+    (records : List (ℕ × List ℕ)) → map (λ r. r.1) records ≡ payloads_of history
+    → judged start records ≡ Ok (at_last history)
 
 -- so does each front of it
 abbrev pub FrontsReopen : List Stamped → Type 0
 FrontsReopen history = (n : ℕ) → n ≤ length history → Reopens (take n history)
 
--- A service's history and clock, and the payloads that its keeper tells. The payloads are the history's, each front of
--- it opens again, and no append has failed.
+-- A service's history and clock, and the payloads that its keeper tells. The payloads are the
+-- history's, each front of it opens again, and no append has failed.
 pub record IsServed (s : State) (told : Option (List (List ℕ))) (failed : Bool) : Type 0 where
   pub payloads : IfSome told (λ ps. ps ≡ payloads_of s.history)
   pub going : failed ≡ false

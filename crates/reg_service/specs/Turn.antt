@@ -1,5 +1,6 @@
 -- One request: the reply, and the registry after it.
-use Rattle.std.specs.Prelude.{◌≡◌, ◌⊎◌, ℕ, List, [], ◌∷◌, ◌++◌, Option, Some, None, Result, Ok, Err, length, max, true}
+use Rattle.std.specs.Prelude.{◌≡◌, ◌⊎◌, ℕ, List, [], ◌∷◌, ◌++◌, Option, Some, None, Result, Ok, Err}
+use Rattle.std.specs.Prelude.{length, max, true}
 use Rattle.reg_base.specs.Entities.{entity_of}
 use Rattle.reg_base.specs.declared.entity.Entity.{Entity}
 use Rattle.reg_terms.specs.declared.command.Command.{Command}
@@ -28,9 +29,14 @@ use Rattle.reg_service.specs.declared.service.Cause.TheVariants as cause
 abbrev pub at_moment : State → ℕ → State
 at_moment s m = record { history = s.history; clock = max s.clock m }
 
--- a command that isn't refused is appended and answered with its place in the history, and the id of what it made
+-- a command that isn't refused is appended and answered with its place in the history, and the id
+-- of what it made
 abbrev pub decided : State → Entity → Command → Option Refusal → Reply × State
-decided s by command None = (reply.Number (length (appended s by command).history) (made_id command (facts s.history s.clock)), appended s by command)
+decided s by command None = (
+  reply.Number (length (appended s by command).history)
+      (made_id command (facts s.history s.clock)),
+  appended s by command,
+)
 decided s by command (Some r) = (reply.Refused r, s)
 
 -- the command of an entity, unless it is refused; the text of no entity is nobody's
@@ -38,9 +44,11 @@ abbrev pub ordered : State → Option Entity → Command → Reply × State
 ordered s None command = (reply.Refused NoCaller, s)
 ordered s (Some by) command = decided s by command (refusal s.history s.clock by command)
 
--- a load that isn't refused is the command of its plan: it is appended, and answered with its place and what the plan counts
+-- a load that isn't refused is the command of its plan: it is appended, and answered with its place
+-- and what the plan counts
 abbrev pub loaded : State → Entity → Result (Command × LoadCounts) Refusal → Reply × State
-loaded s by (Ok plan) = (reply.Loaded (length (appended s by plan.0).history) plan.1, appended s by plan.0)
+loaded s by (Ok plan) =
+    (reply.Loaded (length (appended s by plan.0).history) plan.1, appended s by plan.0)
 loaded s by (Err r) = (reply.Refused r, s)
 
 -- an entity's load of a table for a job; the text of no entity is nobody's
@@ -81,7 +89,8 @@ last_reply cause.Disk = reply.KeepFault
 
 -- what follows at the clock: what is expected, or no memory with the state as it was
 abbrev pub Carries : {K : Type 0} → State → Reply × State → Reply × Next K → Type 0
-Carries s expected (told, next.Go after) = ((told, after.state) ≡ expected) ⊎ ((told ≡ reply.NoMemory) × (after.state ≡ s))
+Carries s expected (told, next.Go after) =
+    ((told, after.state) ≡ expected) ⊎ ((told ≡ reply.NoMemory) × (after.state ≡ s))
 Carries s expected (told, next.Stop why keeper) = told ≡ last_reply why
 
 -- what follows a reading: the service goes on after the turn, or stops for a cause
@@ -98,18 +107,24 @@ counted counts (reply.Refused r) = reply.Refused r
 counted counts reply.NoMemory = reply.NoMemory
 counted counts reply.KeepFault = reply.KeepFault
 
--- an accepted command alone goes into the history, at its end; whatever else is answered leaves the history as it was
+-- an accepted command alone goes into the history, at its end; whatever else is answered leaves the
+-- history as it was
 abbrev pub KeepsHistory : State → Reply → State → Type 0
-KeepsHistory s (reply.Number n id) after = (stamped : Stamped) × (after.history ≡ s.history ++ stamped ∷ []) × (n ≡ length after.history)
-KeepsHistory s (reply.Loaded n counts) after = (stamped : Stamped) × (after.history ≡ s.history ++ stamped ∷ []) × (n ≡ length after.history)
+KeepsHistory s (reply.Number n id) after =
+    (stamped : Stamped) × (after.history ≡ s.history ++ stamped ∷ []) × (n ≡ length after.history)
+KeepsHistory s (reply.Loaded n counts) after =
+    (stamped : Stamped) × (after.history ≡ s.history ++ stamped ∷ []) × (n ≡ length after.history)
 KeepsHistory s (reply.Answer a) after = after.history ≡ s.history
 KeepsHistory s (reply.Refused r) after = after.history ≡ s.history
 KeepsHistory s reply.NoMemory after = after.history ≡ s.history
 KeepsHistory s reply.KeepFault after = ⊥
 
--- the history after a request is the one before or that with one command more, and the clock doesn't go back
+-- the history after a request is the one before or that with one command more, and the clock
+-- doesn't go back
 abbrev pub GoesOn : {K : Type 0} → State → ℕ → Reply × Next K → Type 0
-GoesOn s m (told, next.Go after) = KeepsHistory s told after.state × ((after.state.clock ≡ s.clock) ⊎ (after.state.clock ≡ max s.clock m))
+GoesOn s m (told, next.Go after) =
+    KeepsHistory s told after.state
+    × ((after.state.clock ≡ s.clock) ⊎ (after.state.clock ≡ max s.clock m))
 GoesOn s m (told, next.Stop why keeper) = Unit {0}
 
 -- the fields of what is asked have their forms

@@ -1,5 +1,5 @@
-//! The registry as a service: one request after another over a keeper, which has each accepted command before its
-//! reply is given, and the service over a journal's records again.
+//! The registry as a service: one request after another over a keeper, which has each accepted
+//! command before its reply is given, and the service over a journal's records again.
 #![tactic(auto)]
 
 mod ids;

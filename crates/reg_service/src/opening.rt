@@ -1,11 +1,13 @@
 // The machine of a journal's records. A command is dropped by a call of `drop`: dropped in place,
 // it is taken apart by its kinds at each exit, and its proof is then ten times as large.
-ghost use Rattle.std.specs.Prelude.{◌≡◌, ◌≤◌, is_some, true, ℕ, Ok, Err, Some, None, IfOk, IfErr, IsErrOf};
+ghost use Rattle.std.specs.Prelude.{◌≡◌, ◌≤◌, is_some, true, ℕ, Ok, Err, Some, None, IfOk, IfErr};
+ghost use Rattle.std.specs.Prelude.{IsErrOf};
 ghost use Rattle.reg_machine.specs.History.{start, appended};
 ghost use Rattle.reg_machine.specs.Refusals.{refusal};
 ghost use Rattle.reg_keep.specs.declared.open.OpenFault.TheVariants.{Damaged};
 ghost use Rattle.reg_terms.specs.Forms.{has_form};
-ghost use Rattle.reg_service.specs.Opening.{judged, or_place, accepted, after_stamped, after_payload};
+ghost use Rattle.reg_service.specs.Opening.{judged, or_place, accepted, after_stamped};
+ghost use Rattle.reg_service.specs.Opening.{after_payload};
 
 use crate::uncounted::{advance, apply};
 use reg_base::{Entity, Moment};
@@ -23,7 +25,8 @@ fn is_refused(
     by: &Entity,
     command: &Command,
 ) -> Result<bool, AllocError>
-    ensures { IfOk result (λ b. b ≡ is_some (refusal machine.now.history machine.now.clock by.now command.now)) }
+    ensures { IfOk result (λ b. b
+        ≡ is_some (refusal machine.now.history machine.now.clock by.now command.now)) }
 {
     let found = machine.decide(alloc, by, command)?;
     Ok(found.is_some())
@@ -69,7 +72,12 @@ fn decided(
     command: Command,
 ) -> Result<Option<Machine<Incremental>>, AllocError>
     requires { has_form command ≡ true }
-    ensures { IfOk result (λ found. found ≡ accepted machine (record { at = machine.clock; by = by.now; command = command }) (refusal machine.history machine.clock by.now command)) }
+    ensures { IfOk result (λ found. found
+        ≡ accepted machine (record {
+          at = machine.clock;
+          by = by.now;
+          command = command;
+        }) (refusal machine.history machine.clock by.now command)) }
 {
     match is_refused(alloc, &machine, by, &command) {
         Ok(false) => taken(alloc, machine, by, command),
@@ -94,7 +102,12 @@ fn act(
 ) -> Result<Option<Machine<Incremental>>, AllocError>
     requires form { has_form command ≡ true }
     requires later { machine.clock ≤ at }
-    ensures { IfOk result (λ found. found ≡ accepted machine (record { at = at; by = by.now; command = command }) (refusal machine.history at by.now command)) }
+    ensures { IfOk result (λ found. found
+        ≡ accepted machine (record {
+          at = at;
+          by = by.now;
+          command = command;
+        }) (refusal machine.history at by.now command)) }
 {
     match moved(alloc, machine, at) {
         Ok(machine) => decided(alloc, machine, by, command),
@@ -146,7 +159,8 @@ fn take_record(
     bytes: &[u8],
 ) -> Result<Machine<Incremental>, OpenFault>
     ensures ok { IfOk result (λ m. or_place place (after_payload machine bytes.now) ≡ Ok m) }
-    ensures damaged { IfErr result (λ e. (at : ℕ) → e ≡ Damaged at → or_place place (after_payload machine bytes.now) ≡ Err at) }
+    ensures damaged { IfErr result (λ e. (at : ℕ) → e ≡ Damaged at
+        → or_place place (after_payload machine bytes.now) ≡ Err at) }
     ensures fault { IsErrOf result OpenFault.Fault → ⊥ }
 {
     match take_payload(alloc, machine, bytes) {
@@ -159,7 +173,8 @@ fn take_record(
 /// The machine of these records, each of which is let go once it is taken.
 pub fn replay(alloc: Global, records: Records) -> Result<Machine<Incremental>, OpenFault>
     ensures ok { IfOk result (λ m. judged start records ≡ Ok m) }
-    ensures damaged { IfErr result (λ e. (at : ℕ) → e ≡ Damaged at → judged start records ≡ Err at) }
+    ensures damaged { IfErr result (λ e. (at : ℕ) → e ≡ Damaged at
+        → judged start records ≡ Err at) }
     ensures fault { IsErrOf result OpenFault.Fault → ⊥ }
 {
     let Ok(mut machine) = Machine::start(alloc) else {

@@ -1,6 +1,7 @@
 // One request after another, over a keeper. A command is dropped by a call of `drop`, as in
 // `opening`: else each exit takes it apart by its kinds.
-ghost use Rattle.std.specs.Prelude.{◌≡◌, ℕ, List, Option, Result, true, false, Ok, Err, None, IfOk, IfErr, IfSome};
+ghost use Rattle.std.specs.Prelude.{◌≡◌, ℕ, List, Option, Result, true, false, Ok, Err, None, IfOk};
+ghost use Rattle.std.specs.Prelude.{IfErr, IfSome};
 ghost use Rattle.reg_machine.specs.History.{start};
 ghost use Rattle.reg_machine.specs.Refusals.{refusal};
 ghost use Rattle.reg_machine.specs.Loads.{load_outcome};
@@ -12,8 +13,10 @@ ghost use Rattle.reg_terms.specs.declared.reply.LoadCounts.{LoadCounts};
 ghost use Rattle.reg_terms.specs.Forms.{is_entity, has_form};
 ghost use Rattle.reg_wire.specs.Payload.{IsWritable};
 ghost use Rattle.reg_service.specs.Opening.{payloads_of, judged, FrontsReopen, IsServed};
-ghost use Rattle.reg_service.specs.Kept.{KeepsNext, KeptOn, IsAcknowledged, IsLoaded, LeavesKeeper, keeper_of};
-ghost use Rattle.reg_service.specs.Turn.{turn, requested, HasForm, IsQuery, Carries, Follows, GoesOn, counted, load_ordered, loaded, ordered};
+ghost use Rattle.reg_service.specs.Kept.{KeepsNext, KeptOn, IsAcknowledged, IsLoaded, LeavesKeeper};
+ghost use Rattle.reg_service.specs.Kept.{keeper_of};
+ghost use Rattle.reg_service.specs.Turn.{turn, requested, HasForm, IsQuery, Carries, Follows};
+ghost use Rattle.reg_service.specs.Turn.{GoesOn, counted, load_ordered, loaded, ordered};
 
 use crate::ids::made_id;
 use crate::opening::replay;
@@ -85,7 +88,8 @@ fn asked<K: Keeper>(
 ) -> (Reply, Next<K>)
     requires { IsServed machine (K.payloads keeper) (K.has_failed keeper) }
     ensures turn { Carries machine (requested machine by (Op.Query query)) result }
-    ensures kept { (expected : List Stamped) → KeepsNext ⟦<K as Keeper>⟧ machine.history expected keeper result.1 }
+    ensures kept { (expected : List Stamped)
+        → KeepsNext ⟦<K as Keeper>⟧ machine.history expected keeper result.1 }
     ensures same { LeavesKeeper keeper result.1 }
     ensures unnumbered { (n : ℕ) (id : Option ℕ) → result.0 ≡ Reply.Number n id → ⊥ }
 {
@@ -112,8 +116,10 @@ fn keep<K: Keeper>(
     requires now { stamped.at ≡ machine.clock }
     requires writable { IsWritable stamped }
     ensures turn { Carries machine (ordered machine (Some stamped.by) stamped.command) result }
-    ensures kept { KeepsNext ⟦<K as Keeper>⟧ machine.history (ordered machine (Some stamped.by) stamped.command).1.history keeper result.1 }
-    ensures acknowledged { (n : ℕ) (id : Option ℕ) → result.0 ≡ Reply.Number n id → IsAcknowledged ⟦<K as Keeper>⟧ machine.history n id result.1 }
+    ensures kept { KeepsNext ⟦<K as Keeper>⟧ machine.history
+        (ordered machine (Some stamped.by) stamped.command).1.history keeper result.1 }
+    ensures acknowledged { (n : ℕ) (id : Option ℕ) → result.0 ≡ Reply.Number n id
+        → IsAcknowledged ⟦<K as Keeper>⟧ machine.history n id result.1 }
 {
     let mut keeper = keeper;
     machine.law_loads_few();
@@ -153,8 +159,10 @@ fn carried_out<K: Keeper>(
     requires caller { is_entity by ≡ true }
     requires form { has_form command ≡ true }
     ensures turn { Carries machine (ordered machine (Some by) command) result }
-    ensures kept { KeepsNext ⟦<K as Keeper>⟧ machine.history (ordered machine (Some by) command).1.history keeper result.1 }
-    ensures acknowledged { (n : ℕ) (id : Option ℕ) → result.0 ≡ Reply.Number n id → IsAcknowledged ⟦<K as Keeper>⟧ machine.history n id result.1 }
+    ensures kept { KeepsNext ⟦<K as Keeper>⟧ machine.history
+        (ordered machine (Some by) command).1.history keeper result.1 }
+    ensures acknowledged { (n : ℕ) (id : Option ℕ) → result.0 ≡ Reply.Number n id
+        → IsAcknowledged ⟦<K as Keeper>⟧ machine.history n id result.1 }
 {
     let at = machine.clock();
     let stamped = Stamped { at, by, command };
@@ -185,8 +193,10 @@ fn commanded<K: Keeper>(
     requires served { IsServed machine (K.payloads keeper) (K.has_failed keeper) }
     requires form { has_form command ≡ true }
     ensures turn { Carries machine (requested machine by (Op.Command command)) result }
-    ensures kept { KeepsNext ⟦<K as Keeper>⟧ machine.history (requested machine by (Op.Command command)).1.history keeper result.1 }
-    ensures acknowledged { (n : ℕ) (id : Option ℕ) → result.0 ≡ Reply.Number n id → IsAcknowledged ⟦<K as Keeper>⟧ machine.history n id result.1 }
+    ensures kept { KeepsNext ⟦<K as Keeper>⟧ machine.history
+        (requested machine by (Op.Command command)).1.history keeper result.1 }
+    ensures acknowledged { (n : ℕ) (id : Option ℕ) → result.0 ≡ Reply.Number n id
+        → IsAcknowledged ⟦<K as Keeper>⟧ machine.history n id result.1 }
 {
     let read = Entity::parse(alloc, by.bytes());
     drop(by);
@@ -231,10 +241,13 @@ fn keep_load<K: Keeper>(
     requires accepted { refusal machine.history machine.clock stamped.by stamped.command ≡ None }
     requires now { stamped.at ≡ machine.clock }
     requires writable { IsWritable stamped }
-    ensures turn { Carries machine (loaded machine stamped.by (Ok (stamped.command, counts))) result }
-    ensures kept { KeepsNext ⟦<K as Keeper>⟧ machine.history (loaded machine stamped.by (Ok (stamped.command, counts))).1.history keeper result.1 }
+    ensures turn { Carries machine
+        (loaded machine stamped.by (Ok (stamped.command, counts))) result }
+    ensures kept { KeepsNext ⟦<K as Keeper>⟧ machine.history
+        (loaded machine stamped.by (Ok (stamped.command, counts))).1.history keeper result.1 }
     ensures unnumbered { (n : ℕ) (id : Option ℕ) → result.0 ≡ Reply.Number n id → ⊥ }
-    ensures loaded { (n : ℕ) (counts : LoadCounts) → result.0 ≡ Reply.Loaded n counts → IsLoaded ⟦<K as Keeper>⟧ machine.history n result.1 }
+    ensures loaded { (n : ℕ) (counts : LoadCounts) → result.0 ≡ Reply.Loaded n counts
+        → IsLoaded ⟦<K as Keeper>⟧ machine.history n result.1 }
 {
     let (reply, next) = keep(alloc, machine, keeper, stamped);
     (counted(reply, counts), next)
@@ -253,9 +266,11 @@ fn load<K: Keeper>(
     requires caller { is_entity by ≡ true }
     requires form { is_extension job.now ≡ true }
     ensures turn { Carries machine (load_ordered machine (Some by) job.now table.now) result }
-    ensures kept { KeepsNext ⟦<K as Keeper>⟧ machine.history (load_ordered machine (Some by) job.now table.now).1.history keeper result.1 }
+    ensures kept { KeepsNext ⟦<K as Keeper>⟧ machine.history
+        (load_ordered machine (Some by) job.now table.now).1.history keeper result.1 }
     ensures unnumbered { (n : ℕ) (id : Option ℕ) → result.0 ≡ Reply.Number n id → ⊥ }
-    ensures loaded { (n : ℕ) (counts : LoadCounts) → result.0 ≡ Reply.Loaded n counts → IsLoaded ⟦<K as Keeper>⟧ machine.history n result.1 }
+    ensures loaded { (n : ℕ) (counts : LoadCounts) → result.0 ≡ Reply.Loaded n counts
+        → IsLoaded ⟦<K as Keeper>⟧ machine.history n result.1 }
 {
     match machine.plan_load(alloc, &by, job, table.bytes()) {
         Err(AllocError) => (Reply::NoMemory, Next::Go(Service { machine, keeper })),
@@ -283,9 +298,11 @@ fn load_by<K: Keeper>(
     requires served { IsServed machine (K.payloads keeper) (K.has_failed keeper) }
     requires form { is_extension job ≡ true }
     ensures turn { Carries machine (requested machine by (Op.Load job table)) result }
-    ensures kept { KeepsNext ⟦<K as Keeper>⟧ machine.history (requested machine by (Op.Load job table)).1.history keeper result.1 }
+    ensures kept { KeepsNext ⟦<K as Keeper>⟧ machine.history
+        (requested machine by (Op.Load job table)).1.history keeper result.1 }
     ensures unnumbered { (n : ℕ) (id : Option ℕ) → result.0 ≡ Reply.Number n id → ⊥ }
-    ensures loaded { (n : ℕ) (counts : LoadCounts) → result.0 ≡ Reply.Loaded n counts → IsLoaded ⟦<K as Keeper>⟧ machine.history n result.1 }
+    ensures loaded { (n : ℕ) (counts : LoadCounts) → result.0 ≡ Reply.Loaded n counts
+        → IsLoaded ⟦<K as Keeper>⟧ machine.history n result.1 }
 {
     match Entity::parse(alloc, by.bytes()) {
         Err(AllocError) => (Reply::NoMemory, Next::Go(Service { machine, keeper })),
@@ -300,13 +317,15 @@ fn load_by<K: Keeper>(
 impl<K: Keeper> Service<K> {
     /// The service over a keeper's history, whose records these are, with the clock at its last
     /// moment, or at 0. `Damaged` names the first place whose payload is no command's, falls in
-    /// time, or is refused there; beside it comes `NoMemory` alone. A refusal gives the keeper back.
+    /// time, or is refused there; beside it comes `NoMemory` alone. A refusal gives the keeper
+    /// back.
     pub fn start(alloc: Global, keeper: K, records: Records) -> Result<Service<K>, (OpenFault, K)>
         requires payloads { IfSome (K.payloads keeper) (λ ps. ps ≡ payloads_of_records records) }
         requires going { K.has_failed keeper ≡ false }
         ensures history { IfOk result (λ s. judged start records ≡ Ok s.state) }
         ensures keeper { IfOk result (λ s. s.keeper ≡ keeper) }
-        ensures damaged { IfErr result (λ e. (at : ℕ) → e.0 ≡ Damaged at → judged start records ≡ Err at) }
+        ensures damaged { IfErr result (λ e. (at : ℕ) → e.0 ≡ Damaged at
+            → judged start records ≡ Err at) }
         ensures fault { IfErr result (λ e. e.0 ≡ OpenFault.Fault → ⊥) }
         ensures given_back { IfErr result (λ e. e.1 ≡ keeper) }
     {
@@ -326,15 +345,17 @@ impl<K: Keeper> Service<K> {
 
     /// A stop now leaves its history. It does nothing: it is a law of the value.
     pub fn stays(&self)
-        ensures { KeptOn ⟦<K as Keeper>⟧ self.now.state.history self.now.keeper self.now.state.history self.now.keeper }
+        ensures { KeptOn ⟦<K as Keeper>⟧ self.now.state.history self.now.keeper
+            self.now.state.history self.now.keeper }
     {
         let _keeper = &self.keeper;
     }
 
-    /// Each stop leaves the history, of which each front opens again. It does nothing: it is a law of
-    /// the value.
+    /// Each stop leaves the history, of which each front opens again. It does nothing: it is a law
+    /// of the value.
     pub fn law_stops(&self)
-        ensures leaves { (r : Result (List (List ℕ)) ℕ) → K.stop_leaves self.now.keeper r → r ≡ Ok (payloads_of self.now.state.history) }
+        ensures leaves { (r : Result (List (List ℕ)) ℕ) → K.stop_leaves self.now.keeper r
+            → r ≡ Ok (payloads_of self.now.state.history) }
         ensures fronts { FrontsReopen self.now.state.history }
     {
         let _keeper = &self.keeper;
@@ -343,7 +364,8 @@ impl<K: Keeper> Service<K> {
     /// The keeper as it stands. Each stop leaves the history, of which each front opens again.
     pub fn into_keeper(self) -> K
         ensures keeper { result ≡ self.keeper }
-        ensures leaves { (r : Result (List (List ℕ)) ℕ) → K.stop_leaves result r → r ≡ Ok (payloads_of self.state.history) }
+        ensures leaves { (r : Result (List (List ℕ)) ℕ) → K.stop_leaves result r
+            → r ≡ Ok (payloads_of self.state.history) }
         ensures fronts { FrontsReopen self.state.history }
     {
         self.keeper
@@ -357,14 +379,17 @@ impl<K: Keeper> Service<K> {
         requires { HasForm request }
         ensures turn { Follows self.state at (Ok request) result }
         ensures history { GoesOn self.state at result }
-        ensures kept { KeepsNext ⟦<K as Keeper>⟧ self.state.history (turn self.state at (Ok request)).1.history self.keeper result.1 }
+        ensures kept { KeepsNext ⟦<K as Keeper>⟧ self.state.history
+            (turn self.state at (Ok request)).1.history self.keeper result.1 }
 
-        // After a command is answered with its number, and the id of what it made, each stop leaves the
-        // history with it at its end.
-        ensures acknowledged { (n : ℕ) (id : Option ℕ) → result.0 ≡ Reply.Number n id → IsAcknowledged ⟦<K as Keeper>⟧ self.state.history n id result.1 }
+        // After a command is answered with its number, and the id of what it made, each stop leaves
+        // the history with it at its end.
+        ensures acknowledged { (n : ℕ) (id : Option ℕ) → result.0 ≡ Reply.Number n id
+            → IsAcknowledged ⟦<K as Keeper>⟧ self.state.history n id result.1 }
 
         // The same after a load is answered with its number.
-        ensures loaded { (n : ℕ) (counts : LoadCounts) → result.0 ≡ Reply.Loaded n counts → IsLoaded ⟦<K as Keeper>⟧ self.state.history n result.1 }
+        ensures loaded { (n : ℕ) (counts : LoadCounts) → result.0 ≡ Reply.Loaded n counts
+            → IsLoaded ⟦<K as Keeper>⟧ self.state.history n result.1 }
 
         // A query leaves the keeper as it was, and so the service doesn't stop for it.
         ensures asked { IsQuery request.op → LeavesKeeper self.keeper result.1 }
@@ -388,7 +413,8 @@ impl<K: Keeper> Service<K> {
     pub fn refuse(self, alloc: Global, at: Moment, refusal: Refusal) -> (Reply, Next<K>)
         ensures turn { Follows self.state at (Err refusal) result }
         ensures history { GoesOn self.state at result }
-        ensures kept { KeepsNext ⟦<K as Keeper>⟧ self.state.history self.state.history self.keeper result.1 }
+        ensures kept { KeepsNext ⟦<K as Keeper>⟧ self.state.history self.state.history self.keeper
+            result.1 }
         ensures same { LeavesKeeper self.keeper result.1 }
     {
         let Service { machine, keeper } = self;

@@ -1,5 +1,6 @@
 -- Lines that were answered: the turns from one point of a session to a later one.
-use Rattle.std.specs.Prelude.{◌≡◌, ◌≢◌, ℕ, List, [], ◌∷◌, ◌++◌, All, Option, Result, map, option_map, length, IfSome}
+use Rattle.std.specs.Prelude.{◌≡◌, ◌≢◌, ℕ, List, [], ◌∷◌, ◌++◌, All, Option, Result, map}
+use Rattle.std.specs.Prelude.{option_map, length, IfSome}
 use Rattle.std.specs.Io.KnownBytes.{append_known}
 use Rattle.reg_outside.specs.Streams.{first_moment, later_moments}
 use Rattle.reg_outside.specs.declared.sink.Sink as sink
@@ -34,7 +35,8 @@ replies_of answers = map (λ (a : Answer). a.told) answers
 -- these answers may be given one after another, and lead to this last state
 abbrev pub MayAnswer : State → List Answer → State → Type 0
 MayAnswer s [] last = last ≡ s
-MayAnswer s (a ∷ answers) last = (after : State) × Turns s a.at a.reading a.told after × MayAnswer after answers last
+MayAnswer s (a ∷ answers) last =
+    (after : State) × Turns s a.at a.reading a.told after × MayAnswer after answers last
 
 -- these are the moments that a clock gives, one after another, of those still to come
 abbrev pub AreNext : List ℕ → List ℕ → Type 0
@@ -58,10 +60,14 @@ pub record Point : Type 0 where
 
 -- the point of this output, clock and state
 abbrev pub point : {K C : Type 0} → sink.Ghosts K → clock.Ghosts C → K → C → State → Point
-point k c out time state = record { written = k.written out; moments = c.moments time; state = state }
+point k c out time state = record {
+  written = k.written out;
+  moments = c.moments time;
+  state = state;
+}
 
--- From one point to a later one these lines were answered: each that isn't skipped by one reply, at the clock's next
--- moment; and the replies were written, each with its LF.
+-- From one point to a later one these lines were answered: each that isn't skipped by one reply, at
+-- the clock's next moment; and the replies were written, each with its LF.
 pub record Answered (before : Point) (ls : List (List ℕ)) (after : Point) : Type 0 where
   pub answers : List Answer
   pub asked : readings_of answers ≡ readings ls
@@ -69,26 +75,34 @@ pub record Answered (before : Point) (ls : List (List ℕ)) (after : Point) : Ty
   pub times : Gives before.moments (moments_of answers) after.moments
   pub text : after.written ≡ append_known before.written (lines_of (replies_of answers))
 
--- bytes were taken from one point and pending line to another: the lines that they end were answered
+-- bytes were taken from one point and pending line to another: the lines that they end were
+-- answered
 abbrev pub Feeds : Point → PendingLine → List ℕ → Point → PendingLine → Type 0
-Feeds before pending taken after kept = (line : List ℕ) → Holds pending line → Holds kept (pending_from line taken) × Answered before (ended_from line taken) after
+Feeds before pending taken after kept =
+    (line : List ℕ) → Holds pending line
+    → Holds kept (pending_from line taken) × Answered before (ended_from line taken) after
 
 -- the replies where memory is never wanting
 abbrev pub answers : State → List ℕ → List (Result Request Refusal) → List Reply
 answers s coming [] = []
 answers s coming (reading ∷ more) =
-    (turn s (first_moment coming) reading).0 ∷ answers (turn s (first_moment coming) reading).1 (later_moments coming) more
+    (turn s (first_moment coming) reading).0
+    ∷ answers (turn s (first_moment coming) reading).1 (later_moments coming) more
 
 -- and the last state
 abbrev pub last_state : State → List ℕ → List (Result Request Refusal) → State
 last_state s coming [] = s
-last_state s coming (reading ∷ more) = last_state (turn s (first_moment coming) reading).1 (later_moments coming) more
+last_state s coming (reading ∷ more) =
+    last_state (turn s (first_moment coming) reading).1 (later_moments coming) more
 
--- Lines were answered, and these commands accepted: their numbers are told in order, and without want of memory the
--- replies are one function of the state, the lines and the moments.
-pub record Accepted (before : Point) (ls : List (List ℕ)) (after : Point) (accepted : List Stamped) : Type 0 where
+-- Lines were answered, and these commands accepted: their numbers are told in order, and without
+-- want of memory the replies are one function of the state, the lines and the moments.
+pub record Accepted (before : Point) (ls : List (List ℕ)) (after : Point)
+    (accepted : List Stamped) : Type 0 where
   pub all : Answered before ls after
   pub grown : after.state.history ≡ before.state.history ++ accepted
   pub numbered : numbers (replies_of all.answers) ≡ places (length before.state.history) accepted
-  pub exact : IfSome before.moments (λ coming. All (λ (told : Reply). told ≢ reply.NoMemory) (replies_of all.answers)
-      → (replies_of all.answers ≡ answers before.state coming (readings ls)) × (after.state ≡ last_state before.state coming (readings ls)))
+  pub exact : IfSome before.moments (λ coming. All (λ (told : Reply). told
+      ≢ reply.NoMemory) (replies_of all.answers)
+      → (replies_of all.answers ≡ answers before.state coming (readings ls))
+      × (after.state ≡ last_state before.state coming (readings ls)))

@@ -16,8 +16,10 @@ use Rattle.reg_session.specs.declared.stop.Stop.TheVariants as stop
 abbrev pub Takes : Option (List ℕ) → List ℕ → Option (List ℕ) → Type 0
 Takes old taken new = old ≡ prepend_known taken new
 
--- these lines were answered, and nothing more was begun: this is written, and this history answered and kept
-pub record StopsBehind (before : Point) (ls : List (List ℕ)) (written : Option (List ℕ)) (answered after : List Stamped) : Type 0 where
+-- these lines were answered, and nothing more was begun: this is written, and this history answered
+-- and kept
+pub record StopsBehind (before : Point) (ls : List (List ℕ)) (written : Option (List ℕ))
+    (answered after : List Stamped) : Type 0 where
   pub last : Point
   pub accepted : List Stamped
   pub all : Accepted before ls last accepted
@@ -36,31 +38,47 @@ pub record AnswersInput (before : Point) (left now : Option (List ℕ)) (after :
   pub all : Accepted before (lines taken) after accepted
 
 -- A session stopped at its last line, or that was answered, and the output not flushed.
-abbrev pub StopsLast : {K : Type 0} → Ghosts K → Point → K → List ℕ → Option (List ℕ) → Stop → K → Type 0
+abbrev pub StopsLast : {K : Type 0} → Ghosts K → Point → K → List ℕ → Option (List ℕ) → Stop → K
+    → Type 0
 StopsLast g before old line written why keeper = (h : Halted g before.state.history old keeper)
-    × (StopsIn before (line ∷ []) written h.answered h.after why ⊎ ((why ≡ stop.Output) × StopsBehind before (line ∷ []) written h.answered h.after))
+    × (StopsIn before (line ∷ []) written h.answered h.after why
+    ⊎ ((why ≡ stop.Output) × StopsBehind before (line ∷ []) written h.answered h.after))
 
 -- all that was written is flushed
 abbrev pub IsAllFlushed : Option (List ℕ) → Option ℕ → Type 0
 IsAllFlushed written flushed = flushed ≡ option_map length written
 
--- a session that stops for this flushed, and so it did; or the flush failed, and it stopped for that
-abbrev pub FlushesFor : (why stopped : Stop) → Option (List ℕ) → Option ℕ → (before after : ℕ) → Type 0
-FlushesFor why stopped written flushed before after = ((stopped ≡ why) × IsAllFlushed written flushed) ⊎ ((stopped ≡ stop.Output) × Rose before after)
+-- a session that stops for this flushed, and so it did; or the flush failed, and it stopped for
+-- that
+abbrev pub FlushesFor : (why stopped : Stop) → Option (List ℕ) → Option ℕ → (before after : ℕ)
+    → Type 0
+FlushesFor why stopped written flushed before after =
+    ((stopped ≡ why) × IsAllFlushed written flushed) ⊎ ((stopped ≡ stop.Output) × Rose before after)
 
--- Why the session over these bytes stopped. Where the input failed, or there was too much of it, the lines that an LF ends
--- were answered, and the replies flushed. Where the output failed, a reply wasn't written; or all were, up to the input's end
--- or to where it failed or there was too much of it, and not flushed. Else it stopped at a line.
-abbrev pub EndsInput : Point → List ℕ → Option (List ℕ) → Option (List ℕ) → Option ℕ → (answered after : List Stamped) → Stop → Type 0
-EndsInput before taken left written flushed answered after stop.Memory = StopsIn before (lines taken) written answered after stop.Memory
-EndsInput before taken left written flushed answered after stop.Disk = StopsIn before (lines taken) written answered after stop.Disk
-EndsInput before taken left written flushed answered after stop.Input = StopsBehind before (ended_lines taken) written answered after × IsAllFlushed written flushed
+-- Why the session over these bytes stopped. Where the input failed, or there was too much of it,
+-- the lines that an LF ends were answered, and the replies flushed. Where the output failed, a
+-- reply wasn't written; or all were, up to the input's end or to where it failed or there was too
+-- much of it, and not flushed. Else it stopped at a line.
+abbrev pub EndsInput : Point → List ℕ → Option (List ℕ) → Option (List ℕ) → Option ℕ
+    → (answered after : List Stamped) → Stop → Type 0
+EndsInput before taken left written flushed answered after stop.Memory =
+    StopsIn before (lines taken) written answered after stop.Memory
+EndsInput before taken left written flushed answered after stop.Disk =
+    StopsIn before (lines taken) written answered after stop.Disk
+EndsInput before taken left written flushed answered after stop.Input =
+    StopsBehind before (ended_lines taken) written answered after × IsAllFlushed written flushed
 EndsInput before taken left written flushed answered after stop.Output =
-    StopsIn before (lines taken) written answered after stop.Output ⊎ ((StopsBehind before (lines taken) written answered after × IsAtEnd left) ⊎ StopsBehind before (ended_lines taken) written answered after)
-EndsInput before taken left written flushed answered after stop.TooMuch = StopsBehind before (ended_lines taken) written answered after × IsAllFlushed written flushed × (length taken ≡ 2 ^ 32)
+    StopsIn before (lines taken) written answered after stop.Output
+    ⊎ ((StopsBehind before (lines taken) written answered after × IsAtEnd left)
+    ⊎ StopsBehind before (ended_lines taken) written answered after)
+EndsInput before taken left written flushed answered after stop.TooMuch =
+    StopsBehind before (ended_lines taken) written answered after × IsAllFlushed written flushed
+    × (length taken ≡ 2 ^ 32)
 
 -- a session over an input stopped, from this point and keeper on
-pub record StopsInput {K : Type 0} (g : Ghosts K) (before : Point) (old : K) (left now written : Option (List ℕ)) (flushed : Option ℕ) (why : Stop) (keeper : K) : Type 0 where
+pub record StopsInput {K : Type 0} (g : Ghosts K) (before : Point) (old : K)
+    (left now written : Option (List ℕ)) (flushed : Option ℕ) (why : Stop)
+    (keeper : K) : Type 0 where
   pub taken : List ℕ
   pub input : Takes left taken now
   pub few : length taken ≤ 2 ^ 32
@@ -69,7 +87,8 @@ pub record StopsInput {K : Type 0} (g : Ghosts K) (before : Point) (old : K) (le
   pub ends : EndsInput before taken now written flushed halted.answered halted.after why
 
 -- so many bytes were taken from the first point on, and the lines that they end were answered
-pub record HasTaken (left now : Option (List ℕ)) (before after : Point) (pending kept : PendingLine) (count : ℕ) : Type 0 where
+pub record HasTaken (left now : Option (List ℕ)) (before after : Point) (pending kept : PendingLine)
+    (count : ℕ) : Type 0 where
   pub taken : List ℕ
   pub input : Takes left taken now
   pub fed : Feeds before pending taken after kept

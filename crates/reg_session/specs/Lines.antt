@@ -1,5 +1,6 @@
 -- The lines of bytes, and what they ask.
-use Rattle.std.specs.Prelude.{◌≡◌, ◌≢◌, ℕ, List, [], ◌∷◌, ◌++◌, ◌==◌, All, Bool, true, false, Result, if◌then◌else◌}
+use Rattle.std.specs.Prelude.{◌≡◌, ◌≢◌, ℕ, List, [], ◌∷◌, ◌++◌, ◌==◌, All, Bool, true, false}
+use Rattle.std.specs.Prelude.{Result, if◌then◌else◌}
 use Rattle.std.specs.List.{join_with_byte}
 use Rattle.reg_terms.specs.declared.request.Request.{Request}
 use Rattle.reg_terms.specs.declared.refusal.Refusal.{Refusal}
@@ -8,12 +9,14 @@ use Rattle.reg_json.specs.Reading.{reading_of}
 -- the lines that an LF ends, where the first goes on from the bytes before
 abbrev pub ended_from : List ℕ → List ℕ → List (List ℕ)
 ended_from before [] = []
-ended_from before (b ∷ bs) = if b == 10 then before ∷ ended_from [] bs else ended_from (before ++ b ∷ []) bs
+ended_from before (b ∷ bs) =
+    if b == 10 then before ∷ ended_from [] bs else ended_from (before ++ b ∷ []) bs
 
 -- the bytes behind the last LF, in the same way
 abbrev pub pending_from : List ℕ → List ℕ → List ℕ
 pending_from before [] = before
-pending_from before (b ∷ bs) = if b == 10 then pending_from [] bs else pending_from (before ++ b ∷ []) bs
+pending_from before (b ∷ bs) =
+    if b == 10 then pending_from [] bs else pending_from (before ++ b ∷ []) bs
 
 -- the bytes cut at each LF, where the first line goes on from the bytes before
 abbrev pub lines_from : List ℕ → List ℕ → List (List ℕ)

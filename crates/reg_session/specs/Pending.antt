@@ -11,7 +11,8 @@ use Rattle.reg_session.specs.declared.pending.PendingLine.TheVariants as pending
 use Rattle.reg_session.specs.declared.pending.LineReading.{LineReading}
 use Rattle.reg_session.specs.declared.pending.LineReading.TheVariants as read
 
--- what is kept stands for this line: all its bytes, or that it is too long, or whether it is skipped
+-- what is kept stands for this line: all its bytes, or that it is too long, or whether it is
+-- skipped
 abbrev pub Holds : PendingLine → List ℕ → Type 0
 Holds (pending.Kept bytes) line = line ≡ bytes.items
 Holds pending.TooLong line = max_line < length line

@@ -1,5 +1,6 @@
 -- Replies as lines, and the numbers that they tell.
-use Rattle.std.specs.Prelude.{◌≡◌, ◌⊎◌, ℕ, List, [], ◌∷◌, ◌++◌, ◌+◌, Option, Bool, true, false, Result, Ok, Err}
+use Rattle.std.specs.Prelude.{◌≡◌, ◌⊎◌, ℕ, List, [], ◌∷◌, ◌++◌, ◌+◌, Option, Bool, true, false}
+use Rattle.std.specs.Prelude.{Result, Ok, Err}
 use Rattle.std.specs.Io.KnownBytes.{append_known}
 use Rattle.reg_outside.specs.Streams.{WritesFront}
 use Rattle.reg_terms.specs.declared.command.Stamped.{Stamped}
@@ -42,16 +43,20 @@ is_accepted (reply.Refused r) = false
 is_accepted reply.NoMemory = false
 is_accepted reply.KeepFault = false
 
--- what is shown of a reply: itself, or where no command was accepted that there was no memory to print it
+-- what is shown of a reply: itself, or where no command was accepted that there was no memory to
+-- print it
 abbrev pub IsShown : Reply → Reply → Type 0
 IsShown due shown = (shown ≡ due) ⊎ ((shown ≡ reply.NoMemory) × (is_accepted due ≡ false))
 
--- A reply was written: whole; or the output failed, and a front of it stands there; or an accepted command's reply found no
--- memory, and nothing of it stands there.
-abbrev pub WritesReply : {T : Type 0} → Reply → Option (List ℕ) → Option (List ℕ) → Result T Stop → Type 0
-WritesReply due old new (Ok done) = (shown : Reply) × IsShown due shown × (new ≡ append_known old (line_of shown))
+-- A reply was written: whole; or the output failed, and a front of it stands there; or an accepted
+-- command's reply found no memory, and nothing of it stands there.
+abbrev pub WritesReply : {T : Type 0} → Reply → Option (List ℕ) → Option (List ℕ) → Result T Stop
+    → Type 0
+WritesReply due old new (Ok done) =
+    (shown : Reply) × IsShown due shown × (new ≡ append_known old (line_of shown))
 WritesReply due old new (Err stop.Memory) = (is_accepted due ≡ true) × (new ≡ old)
 WritesReply due old new (Err stop.Disk) = ⊥
 WritesReply due old new (Err stop.Input) = ⊥
-WritesReply due old new (Err stop.Output) = (shown : Reply) × IsShown due shown × WritesFront old new (line_of shown)
+WritesReply due old new (Err stop.Output) =
+    (shown : Reply) × IsShown due shown × WritesFront old new (line_of shown)
 WritesReply due old new (Err stop.TooMuch) = ⊥

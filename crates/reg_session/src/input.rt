@@ -1,5 +1,6 @@
 // The input, read to its end.
-ghost use Rattle.std.specs.Prelude.{◌≡◌, ◌≤◌, ◌<◌, ◌^◌, ◌+◌, ◌∷◌, [], List, take, ℕ, length, option_map, Result, Ok, IfOk, IfErr, OnOk};
+ghost use Rattle.std.specs.Prelude.{◌≡◌, ◌≤◌, ◌<◌, ◌^◌, ◌+◌, ◌∷◌, [], List, take, ℕ, length};
+ghost use Rattle.std.specs.Prelude.{option_map, Result, Ok, IfOk, IfErr, OnOk};
 ghost use Rattle.std.specs.Io.KnownBytes.{IsAtEnd, prepend_known};
 ghost use Rattle.reg_outside.specs.Faults.{Rose};
 ghost use Rattle.reg_service.specs.Kept.{KeptOn};
@@ -29,10 +30,12 @@ fn read_some<S: Source>(input: &mut S, buf: &mut [u8], taken: u64) -> Result<usi
     requires some { taken < LIMIT }
     ensures within { IfOk result (λ n. taken + n ≤ LIMIT) }
     ensures filled { IfOk result (λ n. n ≤ length buf.new) }
-    ensures bytes { IfOk result (λ n. S.left input.old ≡ prepend_known (take n buf.new) (S.left input.new)) }
+    ensures bytes { IfOk result (λ n. S.left input.old
+        ≡ prepend_known (take n buf.new) (S.left input.new)) }
     ensures end { IfOk result (λ n. n ≡ 0 → IsAtEnd (S.left input.new)) }
     ensures count { S.read_faults input.old ≤ S.read_faults input.new }
-    ensures input { IfErr result (λ e. (e ≡ Stop.Input) × Rose (S.read_faults input.old) (S.read_faults input.new)) }
+    ensures input { IfErr result (λ e. (e ≡ Stop.Input)
+        × Rose (S.read_faults input.old) (S.read_faults input.new)) }
     ensures same { IfErr result (λ e. S.left input.new ≡ S.left input.old) }
 {
     let room = (LIMIT - taken).min(PIECE as u64) as usize;
@@ -46,7 +49,8 @@ fn flush<K: Sink>(out: &mut K) -> Result<(), Stop>
     ensures same { K.written out.new ≡ K.written out.old }
     ensures flushed { OnOk result (K.flushed out.new ≡ option_map length (K.written out.new)) }
     ensures count { K.write_faults out.old ≤ K.write_faults out.new }
-    ensures output { IfErr result (λ e. (e ≡ Stop.Output) × Rose (K.write_faults out.old) (K.write_faults out.new)) }
+    ensures output { IfErr result (λ e. (e ≡ Stop.Output)
+        × Rose (K.write_faults out.old) (K.write_faults out.new)) }
 {
     match out.flush() {
         Ok(()) => Ok(()),
@@ -58,7 +62,8 @@ fn flush<K: Sink>(out: &mut K) -> Result<(), Stop>
 /// failed.
 fn stop_flushed<K: Sink>(out: &mut K, why: Stop) -> Stop
     ensures same { K.written out.new ≡ K.written out.old }
-    ensures why { FlushesFor why result (K.written out.new) (K.flushed out.new) (K.write_faults out.old) (K.write_faults out.new) }
+    ensures why { FlushesFor why result (K.written out.new) (K.flushed out.new)
+        (K.write_faults out.old) (K.write_faults out.new) }
     ensures count { K.write_faults out.old ≤ K.write_faults out.new }
 {
     match flush(out) {
@@ -71,10 +76,12 @@ fn stop_flushed<K: Sink>(out: &mut K, why: Stop) -> Stop
 /// which each stop leaves the history that was answered.
 fn stop_at_input<J: Keeper, K: Sink>(service: Service<J>, out: &mut K, why: Stop) -> (Stop, J)
     ensures same { K.written out.new ≡ K.written out.old }
-    ensures why { FlushesFor why result.0 (K.written out.new) (K.flushed out.new) (K.write_faults out.old) (K.write_faults out.new) }
+    ensures why { FlushesFor why result.0 (K.written out.new) (K.flushed out.new)
+        (K.write_faults out.old) (K.write_faults out.new) }
     ensures count { K.write_faults out.old ≤ K.write_faults out.new }
     ensures keeper { result.1 ≡ service.keeper }
-    ensures leaves { (r : Result (List (List ℕ)) ℕ) → J.stop_leaves result.1 r → r ≡ Ok (payloads_of service.state.history) }
+    ensures leaves { (r : Result (List (List ℕ)) ℕ) → J.stop_leaves result.1 r
+        → r ≡ Ok (payloads_of service.state.history) }
     ensures fronts { FrontsReopen service.state.history }
 {
     (stop_flushed(out, why), service.into_keeper())
@@ -89,14 +96,21 @@ fn finish<J: Keeper, K: Sink, C: Clock>(
     clock: &mut C,
 ) -> Result<Service<J>, (Stop, J)>
     ensures answered { IfOk result (λ after. (bytes : List ℕ) → Holds line.now bytes →
-        Answered (point ⟦<K as Sink>⟧ ⟦<C as Clock>⟧ out.old clock.old service.state) (bytes ∷ []) (point ⟦<K as Sink>⟧ ⟦<C as Clock>⟧ out.new clock.new after.state)) }
+        Answered (point ⟦<K as Sink>⟧ ⟦<C as Clock>⟧ out.old clock.old service.state) (bytes
+        ∷ []) (point ⟦<K as Sink>⟧ ⟦<C as Clock>⟧ out.new clock.new after.state)) }
     ensures flushed { OnOk result (K.flushed out.new ≡ option_map length (K.written out.new)) }
-    ensures kept { IfOk result (λ after. KeptOn ⟦<J as Keeper>⟧ service.state.history service.keeper after.state.history after.keeper) }
+    ensures kept { IfOk result
+        (λ after. KeptOn ⟦<J as Keeper>⟧ service.state.history service.keeper after.state.history
+        after.keeper) }
     ensures halted { IfErr result (λ e. (bytes : List ℕ) → Holds line.now bytes →
-        StopsLast ⟦<J as Keeper>⟧ (point ⟦<K as Sink>⟧ ⟦<C as Clock>⟧ out.old clock.old service.state) service.keeper bytes (K.written out.new) e.0 e.1) }
+        StopsLast ⟦<J as Keeper>⟧
+        (point ⟦<K as Sink>⟧ ⟦<C as Clock>⟧ out.old clock.old service.state) service.keeper bytes
+        (K.written out.new) e.0 e.1) }
     ensures count { K.write_faults out.old ≤ K.write_faults out.new }
-    ensures output { IfErr result (λ e. e.0 ≡ Stop.Output → Rose (K.write_faults out.old) (K.write_faults out.new)) }
-    ensures disk { IfErr result (λ e. e.0 ≡ Stop.Disk → Rose (J.keep_faults service.keeper) (J.keep_faults e.1)) }
+    ensures output { IfErr result (λ e. e.0 ≡ Stop.Output
+        → Rose (K.write_faults out.old) (K.write_faults out.new)) }
+    ensures disk { IfErr result (λ e. e.0 ≡ Stop.Disk
+        → Rose (J.keep_faults service.keeper) (J.keep_faults e.1)) }
     ensures others { IfErr result (λ e. IsAtLine e.0) }
 {
     let service = answer_line(alloc, service, line, out, clock)?;
@@ -107,8 +121,8 @@ fn finish<J: Keeper, K: Sink, C: Clock>(
 }
 
 /// Answers all lines of the input, at most 2^32 bytes of it, and flushes. Where the input fails, or
-/// there is more of it, it answers the lines that came whole, and flushes. Where it stops, the keeper
-/// is given back.
+/// there is more of it, it answers the lines that came whole, and flushes. Where it stops, the
+/// keeper is given back.
 pub fn answer_input<S: Source, J: Keeper, K: Sink, C: Clock>(
     alloc: Global,
     service: Service<J>,
@@ -117,14 +131,23 @@ pub fn answer_input<S: Source, J: Keeper, K: Sink, C: Clock>(
     clock: &mut C,
 ) -> Result<Service<J>, (Stop, J)>
     ensures answered { IfOk result (λ to.
-        AnswersInput (point ⟦<K as Sink>⟧ ⟦<C as Clock>⟧ out.old clock.old service.state) (S.left input.old) (S.left input.new) (point ⟦<K as Sink>⟧ ⟦<C as Clock>⟧ out.new clock.new to.state)) }
+        AnswersInput (point ⟦<K as Sink>⟧ ⟦<C as Clock>⟧ out.old clock.old service.state)
+        (S.left input.old) (S.left input.new)
+        (point ⟦<K as Sink>⟧ ⟦<C as Clock>⟧ out.new clock.new to.state)) }
     ensures flushed { OnOk result (K.flushed out.new ≡ option_map length (K.written out.new)) }
-    ensures kept { IfOk result (λ to. KeptOn ⟦<J as Keeper>⟧ service.state.history service.keeper to.state.history to.keeper) }
+    ensures kept { IfOk result
+        (λ to. KeptOn ⟦<J as Keeper>⟧ service.state.history service.keeper to.state.history
+        to.keeper) }
     ensures halted { IfErr result (λ e.
-        StopsInput ⟦<J as Keeper>⟧ (point ⟦<K as Sink>⟧ ⟦<C as Clock>⟧ out.old clock.old service.state) service.keeper (S.left input.old) (S.left input.new) (K.written out.new) (K.flushed out.new) e.0 e.1) }
-    ensures input { IfErr result (λ e. e.0 ≡ Stop.Input → Rose (S.read_faults input.old) (S.read_faults input.new)) }
-    ensures output { IfErr result (λ e. e.0 ≡ Stop.Output → Rose (K.write_faults out.old) (K.write_faults out.new)) }
-    ensures disk { IfErr result (λ e. e.0 ≡ Stop.Disk → Rose (J.keep_faults service.keeper) (J.keep_faults e.1)) }
+        StopsInput ⟦<J as Keeper>⟧
+        (point ⟦<K as Sink>⟧ ⟦<C as Clock>⟧ out.old clock.old service.state) service.keeper
+        (S.left input.old) (S.left input.new) (K.written out.new) (K.flushed out.new) e.0 e.1) }
+    ensures input { IfErr result (λ e. e.0 ≡ Stop.Input
+        → Rose (S.read_faults input.old) (S.read_faults input.new)) }
+    ensures output { IfErr result (λ e. e.0 ≡ Stop.Output
+        → Rose (K.write_faults out.old) (K.write_faults out.new)) }
+    ensures disk { IfErr result (λ e. e.0 ≡ Stop.Disk
+        → Rose (J.keep_faults service.keeper) (J.keep_faults e.1)) }
 {
     service.stays();
     let mut service = service;

@@ -1,4 +1,5 @@
-//! Lines over a service: what is read is cut at each LF, and each line that isn't skipped is answered by a line.
+//! Lines over a service: what is read is cut at each LF, and each line that isn't skipped is
+//! answered by a line.
 #![tactic(auto)]
 
 mod input;

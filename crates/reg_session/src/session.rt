@@ -1,5 +1,6 @@
 // Lines in, replies out.
-ghost use Rattle.std.specs.Prelude.{◌≡◌, ◌≢◌, ◌≤◌, ◌<◌, ◌∷◌, [], List, ℕ, Result, ◌⊎◌, All, IfOk, IfErr, OnOk, length, take, slice_index};
+ghost use Rattle.std.specs.Prelude.{◌≡◌, ◌≢◌, ◌≤◌, ◌<◌, ◌∷◌, [], List, ℕ, Result, ◌⊎◌, All, IfOk};
+ghost use Rattle.std.specs.Prelude.{IfErr, OnOk, length, take, slice_index};
 ghost use Rattle.std.specs.Io.KnownBytes.{append_known};
 ghost use Rattle.reg_outside.specs.Faults.{Rose};
 ghost use Rattle.reg_outside.specs.Streams.{WritesFront};
@@ -42,7 +43,8 @@ pub fn reply_line(alloc: Global, reply: &Reply) -> Result<Vec<u8>, AllocError>
 fn write_bytes<K: Sink>(out: &mut K, bytes: &[u8]) -> Result<(), Stop>
     ensures written { OnOk result (K.written out.new ≡ append_known (K.written out.old) bytes.now) }
     ensures count { K.write_faults out.old ≤ K.write_faults out.new }
-    ensures output { IfErr result (λ e. (e ≡ Stop.Output) × Rose (K.write_faults out.old) (K.write_faults out.new)) }
+    ensures output { IfErr result (λ e. (e ≡ Stop.Output)
+        × Rose (K.write_faults out.old) (K.write_faults out.new)) }
     ensures front { WritesFront (K.written out.old) (K.written out.new) bytes.now }
 {
     match write_whole(out, bytes) {
@@ -56,7 +58,8 @@ fn write_bytes<K: Sink>(out: &mut K, bytes: &[u8]) -> Result<(), Stop>
 fn write_line<K: Sink>(alloc: Global, reply: &Reply, out: &mut K) -> Result<(), Stop>
     ensures written { WritesReply reply.now (K.written out.old) (K.written out.new) result }
     ensures count { K.write_faults out.old ≤ K.write_faults out.new }
-    ensures output { IfErr result (λ e. e ≡ Stop.Output → Rose (K.write_faults out.old) (K.write_faults out.new)) }
+    ensures output { IfErr result (λ e. e ≡ Stop.Output
+        → Rose (K.write_faults out.old) (K.write_faults out.new)) }
     ensures others { IfErr result (λ e. (e ≡ Stop.Memory) ⊎ (e ≡ Stop.Output)) }
 {
     match reply_line(alloc, reply) {
@@ -78,9 +81,13 @@ pub fn turn<J: Keeper>(
     reading: LineReading,
 ) -> (Reply, Next<J>)
     requires { AsksFormed reading }
-    ensures turn { (told : Result Request Refusal) → ReadsAs reading told → Follows service.state at told result }
-    ensures kept { (told : Result Request Refusal) → ReadsAs reading told → KeepsNext ⟦<J as Keeper>⟧ service.state.history (turn service.state at told).1.history service.keeper result.1 }
-    ensures same { (told : Result Request Refusal) → ReadsAs reading told → AsksNoChange told → LeavesKeeper service.keeper result.1 }
+    ensures turn { (told : Result Request Refusal) → ReadsAs reading told
+        → Follows service.state at told result }
+    ensures kept { (told : Result Request Refusal) → ReadsAs reading told
+        → KeepsNext ⟦<J as Keeper>⟧ service.state.history
+        (turn service.state at told).1.history service.keeper result.1 }
+    ensures same { (told : Result Request Refusal) → ReadsAs reading told → AsksNoChange told
+        → LeavesKeeper service.keeper result.1 }
 {
     match reading {
         LineReading::Asked(request) => service.request(alloc, at, request),
@@ -101,13 +108,19 @@ pub fn answer_line<J: Keeper, K: Sink, C: Clock>(
     clock: &mut C,
 ) -> Result<Service<J>, (Stop, J)>
     ensures answered { IfOk result (λ after. (bytes : List ℕ) → Holds line.now bytes →
-        Answered (point ⟦<K as Sink>⟧ ⟦<C as Clock>⟧ out.old clock.old service.state) (bytes ∷ []) (point ⟦<K as Sink>⟧ ⟦<C as Clock>⟧ out.new clock.new after.state)) }
-    ensures kept { IfOk result (λ after. KeptOn ⟦<J as Keeper>⟧ service.state.history service.keeper after.state.history after.keeper) }
+        Answered (point ⟦<K as Sink>⟧ ⟦<C as Clock>⟧ out.old clock.old service.state) (bytes
+        ∷ []) (point ⟦<K as Sink>⟧ ⟦<C as Clock>⟧ out.new clock.new after.state)) }
+    ensures kept { IfOk result
+        (λ after. KeptOn ⟦<J as Keeper>⟧ service.state.history service.keeper after.state.history
+        after.keeper) }
     ensures halted { IfErr result (λ e. (bytes : List ℕ) → Holds line.now bytes →
-        HaltsIn ⟦<J as Keeper>⟧ (point ⟦<K as Sink>⟧ ⟦<C as Clock>⟧ out.old clock.old service.state) service.keeper (bytes ∷ []) (K.written out.new) e.0 e.1) }
+        HaltsIn ⟦<J as Keeper>⟧ (point ⟦<K as Sink>⟧ ⟦<C as Clock>⟧ out.old clock.old service.state)
+        service.keeper (bytes ∷ []) (K.written out.new) e.0 e.1) }
     ensures count { K.write_faults out.old ≤ K.write_faults out.new }
-    ensures output { IfErr result (λ e. e.0 ≡ Stop.Output → Rose (K.write_faults out.old) (K.write_faults out.new)) }
-    ensures disk { IfErr result (λ e. e.0 ≡ Stop.Disk → Rose (J.keep_faults service.keeper) (J.keep_faults e.1)) }
+    ensures output { IfErr result (λ e. e.0 ≡ Stop.Output
+        → Rose (K.write_faults out.old) (K.write_faults out.new)) }
+    ensures disk { IfErr result (λ e. e.0 ≡ Stop.Disk
+        → Rose (J.keep_faults service.keeper) (J.keep_faults e.1)) }
     ensures others { IfErr result (λ e. IsAtLine e.0) }
 {
     if line.is_skipped() {
@@ -155,13 +168,20 @@ fn feed_line<J: Keeper, K: Sink, C: Clock>(
     ensures within { IfOk result (λ after. after.2 ≤ length bytes.now) }
     ensures some { IfOk result (λ after. 0 < length bytes.now → 0 < after.2) }
     ensures fed { IfOk result (λ after.
-        Feeds (point ⟦<K as Sink>⟧ ⟦<C as Clock>⟧ out.old clock.old service.state) line (take after.2 bytes.now) (point ⟦<K as Sink>⟧ ⟦<C as Clock>⟧ out.new clock.new after.0.state) after.1) }
-    ensures kept { IfOk result (λ after. KeptOn ⟦<J as Keeper>⟧ service.state.history service.keeper after.0.state.history after.0.keeper) }
+        Feeds (point ⟦<K as Sink>⟧ ⟦<C as Clock>⟧ out.old clock.old service.state) line
+        (take after.2 bytes.now)
+        (point ⟦<K as Sink>⟧ ⟦<C as Clock>⟧ out.new clock.new after.0.state) after.1) }
+    ensures kept { IfOk result
+        (λ after. KeptOn ⟦<J as Keeper>⟧ service.state.history service.keeper after.0.state.history
+        after.0.keeper) }
     ensures halted { IfErr result (λ e. (before : List ℕ) → Holds line before →
-        HaltsIn ⟦<J as Keeper>⟧ (point ⟦<K as Sink>⟧ ⟦<C as Clock>⟧ out.old clock.old service.state) service.keeper (lines_from before bytes.now) (K.written out.new) e.0 e.1) }
+        HaltsIn ⟦<J as Keeper>⟧ (point ⟦<K as Sink>⟧ ⟦<C as Clock>⟧ out.old clock.old service.state)
+        service.keeper (lines_from before bytes.now) (K.written out.new) e.0 e.1) }
     ensures count { K.write_faults out.old ≤ K.write_faults out.new }
-    ensures output { IfErr result (λ e. e.0 ≡ Stop.Output → Rose (K.write_faults out.old) (K.write_faults out.new)) }
-    ensures disk { IfErr result (λ e. e.0 ≡ Stop.Disk → Rose (J.keep_faults service.keeper) (J.keep_faults e.1)) }
+    ensures output { IfErr result (λ e. e.0 ≡ Stop.Output
+        → Rose (K.write_faults out.old) (K.write_faults out.new)) }
+    ensures disk { IfErr result (λ e. e.0 ≡ Stop.Disk
+        → Rose (J.keep_faults service.keeper) (J.keep_faults e.1)) }
     ensures others { IfErr result (λ e. IsAtLine e.0) }
 {
     let end = line_end(bytes);
@@ -185,13 +205,19 @@ pub fn feed<J: Keeper, K: Sink, C: Clock>(
     clock: &mut C,
 ) -> Result<(Service<J>, PendingLine), (Stop, J)>
     ensures fed { IfOk result (λ after.
-        Feeds (point ⟦<K as Sink>⟧ ⟦<C as Clock>⟧ out.old clock.old service.state) line piece.now (point ⟦<K as Sink>⟧ ⟦<C as Clock>⟧ out.new clock.new after.0.state) after.1) }
-    ensures kept { IfOk result (λ after. KeptOn ⟦<J as Keeper>⟧ service.state.history service.keeper after.0.state.history after.0.keeper) }
+        Feeds (point ⟦<K as Sink>⟧ ⟦<C as Clock>⟧ out.old clock.old service.state) line piece.now
+        (point ⟦<K as Sink>⟧ ⟦<C as Clock>⟧ out.new clock.new after.0.state) after.1) }
+    ensures kept { IfOk result
+        (λ after. KeptOn ⟦<J as Keeper>⟧ service.state.history service.keeper after.0.state.history
+        after.0.keeper) }
     ensures halted { IfErr result (λ e. (before : List ℕ) → Holds line before →
-        HaltsIn ⟦<J as Keeper>⟧ (point ⟦<K as Sink>⟧ ⟦<C as Clock>⟧ out.old clock.old service.state) service.keeper (lines_from before piece.now) (K.written out.new) e.0 e.1) }
+        HaltsIn ⟦<J as Keeper>⟧ (point ⟦<K as Sink>⟧ ⟦<C as Clock>⟧ out.old clock.old service.state)
+        service.keeper (lines_from before piece.now) (K.written out.new) e.0 e.1) }
     ensures count { K.write_faults out.old ≤ K.write_faults out.new }
-    ensures output { IfErr result (λ e. e.0 ≡ Stop.Output → Rose (K.write_faults out.old) (K.write_faults out.new)) }
-    ensures disk { IfErr result (λ e. e.0 ≡ Stop.Disk → Rose (J.keep_faults service.keeper) (J.keep_faults e.1)) }
+    ensures output { IfErr result (λ e. e.0 ≡ Stop.Output
+        → Rose (K.write_faults out.old) (K.write_faults out.new)) }
+    ensures disk { IfErr result (λ e. e.0 ≡ Stop.Disk
+        → Rose (J.keep_faults service.keeper) (J.keep_faults e.1)) }
     ensures others { IfErr result (λ e. IsAtLine e.0) }
 {
     service.stays();

@@ -9,12 +9,16 @@ abbrev pub is_of : {G R : Type 0} → (G → G → Bool) → (R → G) → G →
 is_of eq group_of g row = eq (group_of row) g
 
 -- whether a row stands in a group at a place
-abbrev pub is_row : {G P R : Type 0} → (G → G → Bool) → (P → P → Bool) → (R → G) → (R → P) → G → P → R → Bool
-is_row group_eq place_eq group_of place_of g p row = group_eq (group_of row) g && place_eq (place_of row) p
+abbrev pub is_row : {G P R : Type 0} → (G → G → Bool) → (P → P → Bool) → (R → G) → (R → P) → G → P
+    → R → Bool
+is_row group_eq place_eq group_of place_of g p row =
+    group_eq (group_of row) g && place_eq (place_of row) p
 
 -- the order of rows: by group, and then by place
-abbrev pub row_order : {G P R : Type 0} → (G → G → Ordering) → (P → P → Ordering) → (R → G) → (R → P) → R → R → Ordering
-row_order group_cmp place_cmp group_of place_of a b = ordering_then (group_cmp (group_of a) (group_of b)) (place_cmp (place_of a) (place_of b))
+abbrev pub row_order : {G P R : Type 0} → (G → G → Ordering) → (P → P → Ordering) → (R → G)
+    → (R → P) → R → R → Ordering
+row_order group_cmp place_cmp group_of place_of a b =
+    ordering_then (group_cmp (group_of a) (group_of b)) (place_cmp (place_of a) (place_of b))
 
 -- rows put one after another at their places among others that are in order
 abbrev pub put_into : {R : Type 0} → (R → R → Ordering) → List R → List R → List R

@@ -1,5 +1,6 @@
 // A list of rows that finds them by their keys, and knows what they name.
-ghost use Rattle.std.specs.Prelude.{Bool, ◌≡◌, ◌++◌, ◌∷◌, ◌<◌, ◌^◌, [], false, not, if◌then◌else◌, filter, map, length, MatchOption, OnOk, OnErr, true};
+ghost use Rattle.std.specs.Prelude.{Bool, ◌≡◌, ◌++◌, ◌∷◌, ◌<◌, ◌^◌, [], false, not, if◌then◌else◌};
+ghost use Rattle.std.specs.Prelude.{filter, map, length, MatchOption, OnOk, OnErr, true};
 ghost use Rattle.std.specs.List.{list_any, find};
 ghost use Rattle.std.specs.Option.{option_copied};
 ghost use Rattle.std.specs.Map.Iter.{ShowsInOrder, deref};
@@ -51,21 +52,24 @@ impl<R: LinkedRow> LinkedTable<R> {
 
     /// Whether there is a row in a group at a place. It takes no memory.
     pub fn contains(&self, group: R::Group, place: R::Place) -> bool
-        ensures { result ≡ list_any (is_row R.Group.eq R.Place.eq R.group_of R.place_of group place) self.now }
+        ensures { result ≡ list_any
+            (is_row R.Group.eq R.Place.eq R.group_of R.place_of group place) self.now }
     {
         self.rows.contains(group, place)
     }
 
     /// Whether a row has a link. It takes no memory.
     pub fn is_linked(&self, link: R::Link) -> bool
-        ensures { result ≡ list_any (has_link R.Link.eq R.group_of R.place_of R.link_at link) self.now }
+        ensures { result ≡ list_any
+            (has_link R.Link.eq R.group_of R.place_of R.link_at link) self.now }
     {
         self.links.has_rows(link)
     }
 
     /// The row in a group at a place. It takes no memory.
     pub fn get(&self, group: R::Group, place: R::Place) -> Option<&R>
-        ensures { option_copied result ≡ find (is_row R.Group.eq R.Place.eq R.group_of R.place_of group place) self.now }
+        ensures { option_copied result
+            ≡ find (is_row R.Group.eq R.Place.eq R.group_of R.place_of group place) self.now }
     {
         self.rows.get(group, place)
     }
@@ -74,7 +78,9 @@ impl<R: LinkedRow> LinkedTable<R> {
     pub fn push(&mut self, row: R) -> Result<(), AllocError>
     where
         R: Drop,
-        requires free { list_any (is_row R.Group.eq R.Place.eq R.group_of R.place_of (R.group_of row) (R.place_of row)) self.old ≡ false }
+        requires free { list_any
+            (is_row R.Group.eq R.Place.eq R.group_of R.place_of (R.group_of row) (R.place_of row))
+            self.old ≡ false }
         ensures added { OnOk result (self.new ≡ self.old ++ row ∷ []) }
         ensures err { OnErr result (self.new ≡ self.old) }
     {
@@ -92,8 +98,11 @@ impl<R: LinkedRow> LinkedTable<R> {
 
     /// Takes the row in a group at a place away, if there is one. It takes no memory.
     pub fn remove(&mut self, group: R::Group, place: R::Place) -> Option<R>
-        ensures removed { self.new ≡ filter (λ row. not (is_row R.Group.eq R.Place.eq R.group_of R.place_of group place row)) self.old }
-        ensures row { result ≡ find (is_row R.Group.eq R.Place.eq R.group_of R.place_of group place) self.old }
+        ensures removed { self.new
+            ≡ filter (λ row. not (is_row R.Group.eq R.Place.eq R.group_of R.place_of group place
+            row)) self.old }
+        ensures row { result ≡ find
+            (is_row R.Group.eq R.Place.eq R.group_of R.place_of group place) self.old }
     {
         remove_link(&mut self.links, R::link(group, place), (group, place));
         self.rows.remove(group, place)
@@ -104,8 +113,12 @@ impl<R: LinkedRow> LinkedTable<R> {
     pub fn replace(&mut self, row: R) -> Option<R>
     where
         R: Drop,
-        ensures replaced { self.new ≡ map (λ other. if is_row R.Group.eq R.Place.eq R.group_of R.place_of (R.group_of row) (R.place_of row) other then row else other) self.old }
-        ensures row { result ≡ find (is_row R.Group.eq R.Place.eq R.group_of R.place_of (R.group_of row) (R.place_of row)) self.old }
+        ensures replaced { self.new
+            ≡ map (λ other. if is_row R.Group.eq R.Place.eq R.group_of R.place_of (R.group_of row)
+            (R.place_of row) other then row else other) self.old }
+        ensures row { result ≡ find
+            (is_row R.Group.eq R.Place.eq R.group_of R.place_of (R.group_of row) (R.place_of row))
+            self.old }
     {
         let key = (row.group(), row.place());
         replace_link(&mut self.links, R::link(key.0, key.1), key);
@@ -122,8 +135,11 @@ impl<R: LinkedRow> LinkedTable<R> {
 
     /// The rows of a group, in the order of their places. It takes no memory.
     pub fn rows_of(&self, group: R::Group) -> GroupRows<'_, R>
-        ensures rows { result ≡ in_order (row_order R.Group.cmp R.Place.cmp R.group_of R.place_of) (filter (is_of R.Group.eq R.group_of group) self.now) }
-        ensures same { (test : R → Bool) → list_any test result ≡ list_any test (filter (is_of R.Group.eq R.group_of group) self.now) }
+        ensures rows { result ≡ in_order (row_order R.Group.cmp R.Place.cmp R.group_of R.place_of)
+            (filter (is_of R.Group.eq R.group_of group) self.now) }
+        ensures same { (test : R → Bool)
+            → list_any test result ≡ list_any test
+            (filter (is_of R.Group.eq R.group_of group) self.now) }
         ensures fits { length result < 2 ^ 63 }
     {
         self.rows.rows_of(group)
@@ -138,7 +154,9 @@ impl<R: LinkedRow> LinkedTable<R> {
 
     /// The place of the first row of a group. It takes no memory.
     fn first_place(&self, group: R::Group) -> Option<R::Place>
-        ensures { MatchOption result (list_any (is_of R.Group.eq R.group_of group) self.now ≡ false) (λ place. list_any (is_row R.Group.eq R.Place.eq R.group_of R.place_of group place) self.now ≡ true) }
+        ensures { MatchOption result (list_any (is_of R.Group.eq R.group_of group) self.now
+            ≡ false) (λ place. list_any
+            (is_row R.Group.eq R.Place.eq R.group_of R.place_of group place) self.now ≡ true) }
     {
         self.rows.first_place(group)
     }
@@ -147,7 +165,9 @@ impl<R: LinkedRow> LinkedTable<R> {
     fn let_go(&mut self, group: R::Group, place: R::Place)
     where
         R: Drop,
-        ensures { self.new ≡ filter (λ row. not (is_row R.Group.eq R.Place.eq R.group_of R.place_of group place row)) self.old }
+        ensures { self.new ≡ filter
+            (λ row. not (is_row R.Group.eq R.Place.eq R.group_of R.place_of group place row))
+            self.old }
     {
         self.remove(group, place);
     }

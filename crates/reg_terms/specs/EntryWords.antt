@@ -3,7 +3,24 @@ use Rattle.std.specs.Prelude.{ℕ, List, [], ◌∷◌, codes, Option}
 use Rattle.std.specs.List.{find}
 use Rattle.std.specs.Str.{bytes_eq}
 use Rattle.reg_terms.specs.declared.entry_kinds.EntryKind.{EntryKind}
-use Rattle.reg_terms.specs.declared.entry_kinds.EntryKind.TheVariants.{FolderAdd, FolderRename, FolderMove, FolderDelete, SubjectAdd, GroupAdd, GroupRename, GroupMove, GroupDelete, RowAdd, RowRemove, RowWindow, CompositeSet, CompositeClear, GrantAdd, GrantRemove, InheritAdd, InheritRemove, DefinitionAdd, DefinitionDelete, AttributeAdd, AttributeDelete, AssignAdd, AssignRemove, ValueAdd, ValueRemove, RuleAdd, RuleDelete, JobAdd, JobDelete, MemberBegin, MemberEnd}
+use Rattle.reg_terms.specs.declared.entry_kinds.EntryKind.TheVariants.{FolderAdd, FolderRename}
+use Rattle.reg_terms.specs.declared.entry_kinds.EntryKind.TheVariants.{FolderMove, FolderDelete}
+use Rattle.reg_terms.specs.declared.entry_kinds.EntryKind.TheVariants.{SubjectAdd, GroupAdd}
+use Rattle.reg_terms.specs.declared.entry_kinds.EntryKind.TheVariants.{GroupRename, GroupMove}
+use Rattle.reg_terms.specs.declared.entry_kinds.EntryKind.TheVariants.{GroupDelete, RowAdd}
+use Rattle.reg_terms.specs.declared.entry_kinds.EntryKind.TheVariants.{RowRemove, RowWindow}
+use Rattle.reg_terms.specs.declared.entry_kinds.EntryKind.TheVariants.{CompositeSet, CompositeClear}
+use Rattle.reg_terms.specs.declared.entry_kinds.EntryKind.TheVariants.{GrantAdd, GrantRemove}
+use Rattle.reg_terms.specs.declared.entry_kinds.EntryKind.TheVariants.{InheritAdd, InheritRemove}
+use Rattle.reg_terms.specs.declared.entry_kinds.EntryKind.TheVariants.{DefinitionAdd}
+use Rattle.reg_terms.specs.declared.entry_kinds.EntryKind.TheVariants.{DefinitionDelete}
+use Rattle.reg_terms.specs.declared.entry_kinds.EntryKind.TheVariants.{AttributeAdd}
+use Rattle.reg_terms.specs.declared.entry_kinds.EntryKind.TheVariants.{AttributeDelete, AssignAdd}
+use Rattle.reg_terms.specs.declared.entry_kinds.EntryKind.TheVariants.{AssignRemove, ValueAdd}
+use Rattle.reg_terms.specs.declared.entry_kinds.EntryKind.TheVariants.{ValueRemove, RuleAdd}
+use Rattle.reg_terms.specs.declared.entry_kinds.EntryKind.TheVariants.{RuleDelete, JobAdd}
+use Rattle.reg_terms.specs.declared.entry_kinds.EntryKind.TheVariants.{JobDelete, MemberBegin}
+use Rattle.reg_terms.specs.declared.entry_kinds.EntryKind.TheVariants.{MemberEnd}
 
 -- what was changed, and how
 abbrev pub word_of : EntryKind → List ℕ
@@ -42,7 +59,12 @@ word_of MemberEnd = codes "member.end"
 
 -- every kind
 abbrev pub entry_kinds : List EntryKind
-entry_kinds = FolderAdd ∷ FolderRename ∷ FolderMove ∷ FolderDelete ∷ SubjectAdd ∷ GroupAdd ∷ GroupRename ∷ GroupMove ∷ GroupDelete ∷ RowAdd ∷ RowRemove ∷ RowWindow ∷ CompositeSet ∷ CompositeClear ∷ GrantAdd ∷ GrantRemove ∷ InheritAdd ∷ InheritRemove ∷ DefinitionAdd ∷ DefinitionDelete ∷ AttributeAdd ∷ AttributeDelete ∷ AssignAdd ∷ AssignRemove ∷ ValueAdd ∷ ValueRemove ∷ RuleAdd ∷ RuleDelete ∷ JobAdd ∷ JobDelete ∷ MemberBegin ∷ MemberEnd ∷ []
+entry_kinds =
+    FolderAdd ∷ FolderRename ∷ FolderMove ∷ FolderDelete ∷ SubjectAdd ∷ GroupAdd ∷ GroupRename
+    ∷ GroupMove ∷ GroupDelete ∷ RowAdd ∷ RowRemove ∷ RowWindow ∷ CompositeSet ∷ CompositeClear
+    ∷ GrantAdd ∷ GrantRemove ∷ InheritAdd ∷ InheritRemove ∷ DefinitionAdd ∷ DefinitionDelete
+    ∷ AttributeAdd ∷ AttributeDelete ∷ AssignAdd ∷ AssignRemove ∷ ValueAdd ∷ ValueRemove ∷ RuleAdd
+    ∷ RuleDelete ∷ JobAdd ∷ JobDelete ∷ MemberBegin ∷ MemberEnd ∷ []
 
 -- the kind whose word it is
 unfoldable pub kind_worded : List ℕ → Option EntryKind

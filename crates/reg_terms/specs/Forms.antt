@@ -1,5 +1,6 @@
 -- The form that each field has, and whether the fields of a command, a query or a load have theirs.
-use Rattle.std.specs.Prelude.{ℕ, ◌==◌, ◌&&◌, ◌||◌, ◌^◌, ℤ, pos, negsuc, List, Bool, true, Option, None, Some, length, codes, nat_le, nat_lt, is_some, if◌then◌else◌}
+use Rattle.std.specs.Prelude.{ℕ, ◌==◌, ◌&&◌, ◌||◌, ◌^◌, ℤ, pos, negsuc, List, Bool, true, Option}
+use Rattle.std.specs.Prelude.{None, Some, length, codes, nat_le, nat_lt, is_some, if◌then◌else◌}
 use Rattle.std.specs.List.{list_all, list_any}
 use Rattle.std.specs.Str.{bytes_eq, is_utf8}
 use Rattle.reg_base.specs.Names.{is_extension, is_name, is_person, is_source}
@@ -36,7 +37,8 @@ is_entity entity.Everyone = true
 
 -- the text of an object: an entity's where it has a `/`, else a name or `:`
 abbrev pub is_object_text : List ℕ → Bool
-is_object_text text = if list_any (λ b. b == 47) text then is_some (entity_of text) else is_folder_text text
+is_object_text text =
+    if list_any (λ b. b == 47) text then is_some (entity_of text) else is_folder_text text
 
 -- a moment up to the greatest
 abbrev pub is_moment : ℕ → Bool

@@ -13,13 +13,15 @@ second : (a b : Bool) → (a && b) ≡ true → b ≡ true
 second true b h = h
 second false b h = absurd (let clash : ⊥ = cc in clash)
 
-pub members_alike : (a b : Member) → member_eq.ghosts.eq a b ≡ true → option_eq (λ x y. x == y) (member_group a) (member_group b) ≡ true
+pub members_alike : (a b : Member) → member_eq.ghosts.eq a b ≡ true
+    → option_eq (λ x y. x == y) (member_group a) (member_group b) ≡ true
 members_alike (member.Person a) (member.Person b) h = refl
 members_alike (member.Person a) (member.Group b) h = absurd (let clash : ⊥ = cc in clash)
 members_alike (member.Group a) (member.Person b) h = absurd (let clash : ⊥ = cc in clash)
 members_alike (member.Group a) (member.Group b) h = h
 
-pub holders_alike : (a b : Holder) → holder_eq.ghosts.eq a b ≡ true → option_eq (λ x y. x == y) (holder_group a) (holder_group b) ≡ true
+pub holders_alike : (a b : Holder) → holder_eq.ghosts.eq a b ≡ true
+    → option_eq (λ x y. x == y) (holder_group a) (holder_group b) ≡ true
 holders_alike holder.Everyone holder.Everyone h = refl
 holders_alike holder.Everyone (holder.Person b) h = refl
 holders_alike holder.Everyone (holder.Group b) h = absurd (let clash : ⊥ = cc in clash)
@@ -31,5 +33,6 @@ holders_alike (holder.Group a) (holder.Person b) h = absurd (let clash : ⊥ = c
 holders_alike (holder.Group a) (holder.Group b) h = h
 
 -- the holder of a grant's place, and of an inherit's
-pub behind_one : (a : Bool) (x y : Holder) → (a && holder_eq.ghosts.eq x y) ≡ true → option_eq (λ m n. m == n) (holder_group x) (holder_group y) ≡ true
+pub behind_one : (a : Bool) (x y : Holder) → (a && holder_eq.ghosts.eq x y) ≡ true
+    → option_eq (λ m n. m == n) (holder_group x) (holder_group y) ≡ true
 behind_one a x y h = holders_alike x y (second a (holder_eq.ghosts.eq x y) h)

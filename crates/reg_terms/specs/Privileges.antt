@@ -1,9 +1,15 @@
--- The privileges: under Grouper's names, each with its code, the kind of object that it is of, and what it gives besides itself.
+-- The privileges: under Grouper's names, each with its code, the kind of object that it is of, and
+-- what it gives besides itself.
 use Rattle.std.specs.Prelude.{ℕ, ◌==◌, ◌||◌, List, [], ◌∷◌, Bool, codes, Option}
 use Rattle.std.specs.List.{list_any, find}
 use Rattle.std.specs.Str.{bytes_eq}
 use Rattle.reg_base.specs.declared.privilege.Privilege.{Privilege}
-use Rattle.reg_base.specs.declared.privilege.Privilege.TheVariants.{Admin, Update, Read, View, Optin, Optout, GroupAttrRead, GroupAttrUpdate, StemAdmin, Create, StemAttrRead, StemAttrUpdate, AttrAdmin, AttrUpdate, AttrRead, AttrView}
+use Rattle.reg_base.specs.declared.privilege.Privilege.TheVariants.{Admin, Update, Read, View}
+use Rattle.reg_base.specs.declared.privilege.Privilege.TheVariants.{Optin, Optout, GroupAttrRead}
+use Rattle.reg_base.specs.declared.privilege.Privilege.TheVariants.{GroupAttrUpdate, StemAdmin}
+use Rattle.reg_base.specs.declared.privilege.Privilege.TheVariants.{Create, StemAttrRead}
+use Rattle.reg_base.specs.declared.privilege.Privilege.TheVariants.{StemAttrUpdate, AttrAdmin}
+use Rattle.reg_base.specs.declared.privilege.Privilege.TheVariants.{AttrUpdate, AttrRead, AttrView}
 use Rattle.reg_terms.specs.declared.kinds.InheritKind.{InheritKind}
 use Rattle.reg_terms.specs.declared.kinds.InheritKind.TheVariants.{Folder, Group, Definition}
 
@@ -19,7 +25,9 @@ line code name on gives = record { code = code; name = name; on = on; gives = gi
 
 -- the table
 abbrev pub line_of : Privilege → PrivilegeLine
-line_of Admin = line 1 (codes "ADMIN") Group (Update ∷ Read ∷ View ∷ Optin ∷ Optout ∷ GroupAttrRead ∷ GroupAttrUpdate ∷ [])
+line_of Admin =
+    line 1 (codes "ADMIN") Group (Update ∷ Read ∷ View ∷ Optin ∷ Optout ∷ GroupAttrRead
+    ∷ GroupAttrUpdate ∷ [])
 line_of Update = line 2 (codes "UPDATE") Group (View ∷ Optin ∷ Optout ∷ [])
 line_of Read = line 3 (codes "READ") Group (View ∷ [])
 line_of View = line 4 (codes "VIEW") Group []
@@ -45,11 +53,14 @@ same_privilege p q = code p == code q
 
 -- a privilege is another, or gives it
 abbrev pub gives : Privilege → Privilege → Bool
-gives held wanted = same_privilege held wanted || list_any (same_privilege wanted) (line_of held).gives
+gives held wanted =
+    same_privilege held wanted || list_any (same_privilege wanted) (line_of held).gives
 
 -- all of them, by code
 abbrev pub all_privileges : List Privilege
-all_privileges = Admin ∷ Update ∷ Read ∷ View ∷ Optin ∷ Optout ∷ GroupAttrRead ∷ GroupAttrUpdate ∷ StemAdmin ∷ Create ∷ StemAttrRead ∷ StemAttrUpdate ∷ AttrAdmin ∷ AttrUpdate ∷ AttrRead ∷ AttrView ∷ []
+all_privileges =
+    Admin ∷ Update ∷ Read ∷ View ∷ Optin ∷ Optout ∷ GroupAttrRead ∷ GroupAttrUpdate ∷ StemAdmin
+    ∷ Create ∷ StemAttrRead ∷ StemAttrUpdate ∷ AttrAdmin ∷ AttrUpdate ∷ AttrRead ∷ AttrView ∷ []
 
 -- the privilege of a code
 unfoldable pub privilege_coded : ℕ → Option Privilege

@@ -35,5 +35,6 @@ abbrev pub same_form : RuleForm → RuleForm → Bool
 same_form (RemoveLost a b) (RemoveLost c d) = (a == c) && (b == d)
 same_form (EndLost a b m) (EndLost c d n) = (a == c) && ((b == d) && (m == n))
 same_form (Veto a b) (Veto c d) = (a == c) && (b == d)
-same_form (OnCreate a s p h) (OnCreate b t q k) = (a == b) && (same_scope s t && (same_privilege p q && same_holder h k))
+same_form (OnCreate a s p h) (OnCreate b t q k) =
+    (a == b) && (same_scope s t && (same_privilege p q && same_holder h k))
 same_form _ _ = false

@@ -1,10 +1,28 @@
--- The table of ops: each with its word, its code and its fields, and an op taken apart and made of them.
-use Rattle.std.specs.Prelude.{◌≡◌, ◌≤◌, ℕ, List, [], ◌∷◌, ◌==◌, if◌then◌else◌, Option, Some, None, option_map, codes, map, length}
+-- The table of ops: each with its word, its code and its fields, and an op taken apart and made of
+-- them.
+use Rattle.std.specs.Prelude.{◌≡◌, ◌≤◌, ℕ, List, [], ◌∷◌, ◌==◌, if◌then◌else◌, Option, Some, None}
+use Rattle.std.specs.Prelude.{option_map, codes, map, length}
 use Rattle.std.specs.Str.{bytes_eq}
 use Rattle.reg_terms.specs.declared.command.Command.{Command}
-use Rattle.reg_terms.specs.declared.command.Command.TheVariants.{FolderAdd, FolderRename, FolderMove, FolderDelete, SubjectAdd, GroupAdd, GroupRename, GroupMove, GroupDelete, MemberAdd, MemberRemove, MemberWindow, CompositeSet, CompositeClear, GrantAdd, GrantRemove, InheritAdd, InheritRemove, AttrdefAdd, AttrdefDelete, AttrAdd, AttrDelete, AssignAdd, AssignRemove, ValueAdd, ValueRemove, RuleRemoveLost, RuleEndLost, RuleVeto, RuleOnCreate, RuleDelete, JobSimple, JobList, JobDelete, Load, ConsumerAdd, ConsumerAck}
+use Rattle.reg_terms.specs.declared.command.Command.TheVariants.{FolderAdd, FolderRename}
+use Rattle.reg_terms.specs.declared.command.Command.TheVariants.{FolderMove, FolderDelete}
+use Rattle.reg_terms.specs.declared.command.Command.TheVariants.{SubjectAdd, GroupAdd, GroupRename}
+use Rattle.reg_terms.specs.declared.command.Command.TheVariants.{GroupMove, GroupDelete, MemberAdd}
+use Rattle.reg_terms.specs.declared.command.Command.TheVariants.{MemberRemove, MemberWindow}
+use Rattle.reg_terms.specs.declared.command.Command.TheVariants.{CompositeSet, CompositeClear}
+use Rattle.reg_terms.specs.declared.command.Command.TheVariants.{GrantAdd, GrantRemove, InheritAdd}
+use Rattle.reg_terms.specs.declared.command.Command.TheVariants.{InheritRemove, AttrdefAdd}
+use Rattle.reg_terms.specs.declared.command.Command.TheVariants.{AttrdefDelete, AttrAdd, AttrDelete}
+use Rattle.reg_terms.specs.declared.command.Command.TheVariants.{AssignAdd, AssignRemove, ValueAdd}
+use Rattle.reg_terms.specs.declared.command.Command.TheVariants.{ValueRemove, RuleRemoveLost}
+use Rattle.reg_terms.specs.declared.command.Command.TheVariants.{RuleEndLost, RuleVeto}
+use Rattle.reg_terms.specs.declared.command.Command.TheVariants.{RuleOnCreate, RuleDelete}
+use Rattle.reg_terms.specs.declared.command.Command.TheVariants.{JobSimple, JobList, JobDelete}
+use Rattle.reg_terms.specs.declared.command.Command.TheVariants.{Load, ConsumerAdd, ConsumerAck}
 use Rattle.reg_terms.specs.declared.query.Query.{Query}
-use Rattle.reg_terms.specs.declared.query.Query.TheVariants.{GroupGet, FolderList, Members, Rows, Groups, Grants, May, Attributes, History, Log, Admin}
+use Rattle.reg_terms.specs.declared.query.Query.TheVariants.{GroupGet, FolderList, Members, Rows}
+use Rattle.reg_terms.specs.declared.query.Query.TheVariants.{Groups, Grants, May, Attributes}
+use Rattle.reg_terms.specs.declared.query.Query.TheVariants.{History, Log, Admin}
 use Rattle.reg_terms.specs.declared.request.Op.{Op}
 use Rattle.reg_terms.specs.declared.request.Op.TheVariants as asked
 use Rattle.reg_terms.specs.declared.table.CommandKind.{CommandKind}
@@ -17,7 +35,11 @@ use Rattle.reg_terms.specs.declared.field.FieldKind.{FieldKind}
 use Rattle.reg_terms.specs.declared.field.FieldKind.TheVariants as kind
 use Rattle.reg_terms.specs.declared.field.Field.{Field}
 use Rattle.reg_terms.specs.declared.field.Field.TheVariants as field
-use Rattle.reg_terms.specs.Parts.{◌>>=◌, field_kind, name_in, folder_in, extension_in, source_in, display_in, entity_in, object_in, moment_in, set_op_in, inherit_kind_in, scope_in, privilege_in, owners_in, flag_in, def_kind_in, value_in, number_in, names_in, load_rows_in, table_in, whole}
+use Rattle.reg_terms.specs.Parts.{◌>>=◌, field_kind, name_in, folder_in, extension_in, source_in}
+use Rattle.reg_terms.specs.Parts.{display_in, entity_in, object_in, moment_in, set_op_in}
+use Rattle.reg_terms.specs.Parts.{inherit_kind_in, scope_in, privilege_in, owners_in, flag_in}
+use Rattle.reg_terms.specs.Parts.{def_kind_in, value_in, number_in, names_in, load_rows_in}
+use Rattle.reg_terms.specs.Parts.{table_in, whole}
 
 -- ---- the table
 
@@ -31,63 +53,178 @@ pub record CommandRow : Type 0 where
   pub code : ℕ
   pub op : Row
 
+-- a command's row by its code, its word and its fields
+abbrev pub coded_row : ℕ → List ℕ → List (List ℕ × FieldKind) → CommandRow
+coded_row code word fields = record { code = code; op = record { word = word; fields = fields } }
+
 -- the row of a command
 abbrev pub command_row : CommandKind → CommandRow
-command_row command.FolderAdd = record { code = 1; op = record { word = codes "folder.add"; fields = (codes "folder", kind.Name) ∷ (codes "display", kind.Display) ∷ [] } }
-command_row command.FolderRename = record { code = 2; op = record { word = codes "folder.rename"; fields = (codes "folder", kind.Folder) ∷ (codes "extension", kind.Extension) ∷ [] } }
-command_row command.FolderMove = record { code = 3; op = record { word = codes "folder.move"; fields = (codes "folder", kind.Folder) ∷ (codes "to", kind.Folder) ∷ [] } }
-command_row command.FolderDelete = record { code = 4; op = record { word = codes "folder.delete"; fields = (codes "folder", kind.Folder) ∷ [] } }
-command_row command.SubjectAdd = record { code = 5; op = record { word = codes "subject.add"; fields = (codes "subject", kind.Entity) ∷ (codes "display", kind.Display) ∷ [] } }
-command_row command.GroupAdd = record { code = 6; op = record { word = codes "group.add"; fields = (codes "group", kind.Name) ∷ (codes "display", kind.Display) ∷ [] } }
-command_row command.GroupRename = record { code = 7; op = record { word = codes "group.rename"; fields = (codes "group", kind.Name) ∷ (codes "extension", kind.Extension) ∷ [] } }
-command_row command.GroupMove = record { code = 8; op = record { word = codes "group.move"; fields = (codes "group", kind.Name) ∷ (codes "to", kind.Folder) ∷ [] } }
-command_row command.GroupDelete = record { code = 9; op = record { word = codes "group.delete"; fields = (codes "group", kind.Name) ∷ [] } }
-command_row command.MemberAdd = record { code = 10; op = record { word = codes "member.add"; fields = (codes "group", kind.Name) ∷ (codes "member", kind.Entity) ∷ (codes "from", kind.OptionalMoment) ∷ (codes "until", kind.OptionalMoment) ∷ [] } }
-command_row command.MemberRemove = record { code = 11; op = record { word = codes "member.remove"; fields = (codes "group", kind.Name) ∷ (codes "member", kind.Entity) ∷ [] } }
-command_row command.MemberWindow = record { code = 12; op = record { word = codes "member.window"; fields = (codes "group", kind.Name) ∷ (codes "member", kind.Entity) ∷ (codes "from", kind.OptionalMoment) ∷ (codes "until", kind.OptionalMoment) ∷ [] } }
-command_row command.CompositeSet = record { code = 13; op = record { word = codes "composite.set"; fields = (codes "group", kind.Name) ∷ (codes "kind", kind.SetOp) ∷ (codes "left", kind.Name) ∷ (codes "right", kind.Name) ∷ [] } }
-command_row command.CompositeClear = record { code = 14; op = record { word = codes "composite.clear"; fields = (codes "group", kind.Name) ∷ [] } }
-command_row command.GrantAdd = record { code = 15; op = record { word = codes "grant.add"; fields = (codes "object", kind.Object) ∷ (codes "privilege", kind.Privilege) ∷ (codes "holder", kind.Entity) ∷ [] } }
-command_row command.GrantRemove = record { code = 16; op = record { word = codes "grant.remove"; fields = (codes "object", kind.Object) ∷ (codes "privilege", kind.Privilege) ∷ (codes "holder", kind.Entity) ∷ [] } }
-command_row command.InheritAdd = record { code = 17; op = record { word = codes "inherit.add"; fields = (codes "folder", kind.Folder) ∷ (codes "kind", kind.InheritKind) ∷ (codes "scope", kind.Scope) ∷ (codes "privilege", kind.Privilege) ∷ (codes "holder", kind.Entity) ∷ [] } }
-command_row command.InheritRemove = record { code = 18; op = record { word = codes "inherit.remove"; fields = (codes "folder", kind.Folder) ∷ (codes "kind", kind.InheritKind) ∷ (codes "scope", kind.Scope) ∷ (codes "privilege", kind.Privilege) ∷ (codes "holder", kind.Entity) ∷ [] } }
-command_row command.AttrdefAdd = record { code = 19; op = record { word = codes "attrdef.add"; fields = (codes "definition", kind.Name) ∷ (codes "owners", kind.Owners) ∷ (codes "several", kind.Flag) ∷ (codes "kind", kind.DefKind) ∷ (codes "many", kind.Flag) ∷ [] } }
-command_row command.AttrdefDelete = record { code = 20; op = record { word = codes "attrdef.delete"; fields = (codes "definition", kind.Name) ∷ [] } }
-command_row command.AttrAdd = record { code = 21; op = record { word = codes "attr.add"; fields = (codes "attribute", kind.Name) ∷ (codes "definition", kind.Name) ∷ [] } }
-command_row command.AttrDelete = record { code = 22; op = record { word = codes "attr.delete"; fields = (codes "attribute", kind.Name) ∷ [] } }
-command_row command.AssignAdd = record { code = 23; op = record { word = codes "assign.add"; fields = (codes "attribute", kind.Name) ∷ (codes "object", kind.Object) ∷ [] } }
-command_row command.AssignRemove = record { code = 24; op = record { word = codes "assign.remove"; fields = (codes "attribute", kind.Name) ∷ (codes "object", kind.Object) ∷ (codes "id", kind.Number 0 18446744073709551615) ∷ [] } }
-command_row command.ValueAdd = record { code = 25; op = record { word = codes "value.add"; fields = (codes "attribute", kind.Name) ∷ (codes "object", kind.Object) ∷ (codes "id", kind.Number 0 18446744073709551615) ∷ (codes "value", kind.Value) ∷ [] } }
-command_row command.ValueRemove = record { code = 26; op = record { word = codes "value.remove"; fields = (codes "attribute", kind.Name) ∷ (codes "object", kind.Object) ∷ (codes "id", kind.Number 0 18446744073709551615) ∷ (codes "value", kind.Value) ∷ [] } }
-command_row command.RuleRemoveLost = record { code = 27; op = record { word = codes "rule.remove_lost"; fields = (codes "check", kind.Name) ∷ (codes "owner", kind.Name) ∷ [] } }
-command_row command.RuleEndLost = record { code = 28; op = record { word = codes "rule.end_lost"; fields = (codes "check", kind.Name) ∷ (codes "owner", kind.Name) ∷ (codes "days", kind.Number 1 3650) ∷ [] } }
-command_row command.RuleVeto = record { code = 29; op = record { word = codes "rule.veto"; fields = (codes "owner", kind.Name) ∷ (codes "condition", kind.Name) ∷ [] } }
-command_row command.RuleOnCreate = record { code = 30; op = record { word = codes "rule.on_create"; fields = (codes "folder", kind.Folder) ∷ (codes "scope", kind.Scope) ∷ (codes "privilege", kind.Privilege) ∷ (codes "holder", kind.Entity) ∷ [] } }
-command_row command.RuleDelete = record { code = 31; op = record { word = codes "rule.delete"; fields = (codes "id", kind.Number 0 18446744073709551615) ∷ [] } }
-command_row command.JobSimple = record { code = 32; op = record { word = codes "job.simple"; fields = (codes "job", kind.Extension) ∷ (codes "group", kind.Name) ∷ (codes "source", kind.Source) ∷ (codes "min_size", kind.Number 0 4294967295) ∷ (codes "max_percent", kind.Number 0 100) ∷ [] } }
-command_row command.JobList = record { code = 33; op = record { word = codes "job.list"; fields = (codes "job", kind.Extension) ∷ (codes "folder", kind.Folder) ∷ (codes "source", kind.Source) ∷ (codes "min_size", kind.Number 0 4294967295) ∷ (codes "max_percent", kind.Number 0 100) ∷ [] } }
-command_row command.JobDelete = record { code = 34; op = record { word = codes "job.delete"; fields = (codes "job", kind.Extension) ∷ [] } }
-command_row command.Load = record { code = 35; op = record { word = codes "load"; fields = (codes "job", kind.Extension) ∷ (codes "created", kind.Names) ∷ (codes "removed", kind.LoadRows) ∷ (codes "added", kind.LoadRows) ∷ [] } }
-command_row command.ConsumerAdd = record { code = 36; op = record { word = codes "consumer.add"; fields = (codes "consumer", kind.Extension) ∷ [] } }
-command_row command.ConsumerAck = record { code = 37; op = record { word = codes "consumer.ack"; fields = (codes "consumer", kind.Extension) ∷ (codes "seq", kind.Number 0 18446744073709551615) ∷ [] } }
+command_row command.FolderAdd =
+    coded_row 1 (codes "folder.add") ((codes "folder", kind.Name)
+    ∷ (codes "display", kind.Display) ∷ [])
+command_row command.FolderRename =
+    coded_row 2 (codes "folder.rename") ((codes "folder", kind.Folder)
+    ∷ (codes "extension", kind.Extension) ∷ [])
+command_row command.FolderMove =
+    coded_row 3 (codes "folder.move") ((codes "folder", kind.Folder) ∷ (codes "to", kind.Folder)
+    ∷ [])
+command_row command.FolderDelete =
+    coded_row 4 (codes "folder.delete") ((codes "folder", kind.Folder) ∷ [])
+command_row command.SubjectAdd =
+    coded_row 5 (codes "subject.add") ((codes "subject", kind.Entity)
+    ∷ (codes "display", kind.Display)
+    ∷ [])
+command_row command.GroupAdd =
+    coded_row 6 (codes "group.add") ((codes "group", kind.Name) ∷ (codes "display", kind.Display)
+    ∷ [])
+command_row command.GroupRename =
+    coded_row 7 (codes "group.rename") ((codes "group", kind.Name)
+    ∷ (codes "extension", kind.Extension)
+    ∷ [])
+command_row command.GroupMove =
+    coded_row 8 (codes "group.move") ((codes "group", kind.Name) ∷ (codes "to", kind.Folder) ∷ [])
+command_row command.GroupDelete =
+    coded_row 9 (codes "group.delete") ((codes "group", kind.Name) ∷ [])
+command_row command.MemberAdd =
+    coded_row 10 (codes "member.add") ((codes "group", kind.Name) ∷ (codes "member", kind.Entity)
+    ∷ (codes "from", kind.OptionalMoment) ∷ (codes "until", kind.OptionalMoment) ∷ [])
+command_row command.MemberRemove =
+    coded_row 11 (codes "member.remove") ((codes "group", kind.Name)
+    ∷ (codes "member", kind.Entity) ∷ [])
+command_row command.MemberWindow =
+    coded_row 12 (codes "member.window") ((codes "group", kind.Name) ∷ (codes "member", kind.Entity)
+    ∷ (codes "from", kind.OptionalMoment) ∷ (codes "until", kind.OptionalMoment) ∷ [])
+command_row command.CompositeSet =
+    coded_row 13 (codes "composite.set") ((codes "group", kind.Name) ∷ (codes "kind", kind.SetOp)
+    ∷ (codes "left", kind.Name) ∷ (codes "right", kind.Name) ∷ [])
+command_row command.CompositeClear =
+    coded_row 14 (codes "composite.clear") ((codes "group", kind.Name) ∷ [])
+command_row command.GrantAdd =
+    coded_row 15 (codes "grant.add") ((codes "object", kind.Object)
+    ∷ (codes "privilege", kind.Privilege)
+    ∷ (codes "holder", kind.Entity) ∷ [])
+command_row command.GrantRemove =
+    coded_row 16 (codes "grant.remove") ((codes "object", kind.Object)
+    ∷ (codes "privilege", kind.Privilege) ∷ (codes "holder", kind.Entity) ∷ [])
+command_row command.InheritAdd =
+    coded_row 17 (codes "inherit.add") ((codes "folder", kind.Folder)
+    ∷ (codes "kind", kind.InheritKind)
+    ∷ (codes "scope", kind.Scope) ∷ (codes "privilege", kind.Privilege)
+    ∷ (codes "holder", kind.Entity) ∷ [])
+command_row command.InheritRemove =
+    coded_row 18 (codes "inherit.remove") ((codes "folder", kind.Folder)
+    ∷ (codes "kind", kind.InheritKind) ∷ (codes "scope", kind.Scope)
+    ∷ (codes "privilege", kind.Privilege) ∷ (codes "holder", kind.Entity) ∷ [])
+command_row command.AttrdefAdd =
+    coded_row 19 (codes "attrdef.add") ((codes "definition", kind.Name)
+    ∷ (codes "owners", kind.Owners)
+    ∷ (codes "several", kind.Flag) ∷ (codes "kind", kind.DefKind) ∷ (codes "many", kind.Flag)
+    ∷ [])
+command_row command.AttrdefDelete =
+    coded_row 20 (codes "attrdef.delete") ((codes "definition", kind.Name) ∷ [])
+command_row command.AttrAdd =
+    coded_row 21 (codes "attr.add") ((codes "attribute", kind.Name)
+    ∷ (codes "definition", kind.Name)
+    ∷ [])
+command_row command.AttrDelete =
+    coded_row 22 (codes "attr.delete") ((codes "attribute", kind.Name) ∷ [])
+command_row command.AssignAdd =
+    coded_row 23 (codes "assign.add") ((codes "attribute", kind.Name)
+    ∷ (codes "object", kind.Object)
+    ∷ [])
+command_row command.AssignRemove =
+    coded_row 24 (codes "assign.remove") ((codes "attribute", kind.Name)
+    ∷ (codes "object", kind.Object)
+    ∷ (codes "id", kind.Number 0 18446744073709551615) ∷ [])
+command_row command.ValueAdd =
+    coded_row 25 (codes "value.add") ((codes "attribute", kind.Name) ∷ (codes "object", kind.Object)
+    ∷ (codes "id", kind.Number 0 18446744073709551615) ∷ (codes "value", kind.Value) ∷ [])
+command_row command.ValueRemove =
+    coded_row 26 (codes "value.remove") ((codes "attribute", kind.Name)
+    ∷ (codes "object", kind.Object)
+    ∷ (codes "id", kind.Number 0 18446744073709551615) ∷ (codes "value", kind.Value) ∷ [])
+command_row command.RuleRemoveLost =
+    coded_row 27 (codes "rule.remove_lost") ((codes "check", kind.Name)
+    ∷ (codes "owner", kind.Name) ∷ [])
+command_row command.RuleEndLost =
+    coded_row 28 (codes "rule.end_lost") ((codes "check", kind.Name) ∷ (codes "owner", kind.Name)
+    ∷ (codes "days", kind.Number 1 3650) ∷ [])
+command_row command.RuleVeto =
+    coded_row 29 (codes "rule.veto") ((codes "owner", kind.Name) ∷ (codes "condition", kind.Name)
+    ∷ [])
+command_row command.RuleOnCreate =
+    coded_row 30 (codes "rule.on_create") ((codes "folder", kind.Folder)
+    ∷ (codes "scope", kind.Scope)
+    ∷ (codes "privilege", kind.Privilege) ∷ (codes "holder", kind.Entity) ∷ [])
+command_row command.RuleDelete =
+    coded_row 31 (codes "rule.delete") ((codes "id", kind.Number 0 18446744073709551615) ∷ [])
+command_row command.JobSimple =
+    coded_row 32 (codes "job.simple") ((codes "job", kind.Extension) ∷ (codes "group", kind.Name)
+    ∷ (codes "source", kind.Source) ∷ (codes "min_size", kind.Number 0 4294967295)
+    ∷ (codes "max_percent", kind.Number 0 100) ∷ [])
+command_row command.JobList =
+    coded_row 33 (codes "job.list") ((codes "job", kind.Extension) ∷ (codes "folder", kind.Folder)
+    ∷ (codes "source", kind.Source) ∷ (codes "min_size", kind.Number 0 4294967295)
+    ∷ (codes "max_percent", kind.Number 0 100) ∷ [])
+command_row command.JobDelete =
+    coded_row 34 (codes "job.delete") ((codes "job", kind.Extension) ∷ [])
+command_row command.Load =
+    coded_row 35 (codes "load") ((codes "job", kind.Extension) ∷ (codes "created", kind.Names)
+    ∷ (codes "removed", kind.LoadRows) ∷ (codes "added", kind.LoadRows) ∷ [])
+command_row command.ConsumerAdd =
+    coded_row 36 (codes "consumer.add") ((codes "consumer", kind.Extension) ∷ [])
+command_row command.ConsumerAck =
+    coded_row 37 (codes "consumer.ack") ((codes "consumer", kind.Extension)
+    ∷ (codes "seq", kind.Number 0 18446744073709551615) ∷ [])
 
 -- the row of a query
 abbrev pub query_row : QueryKind → Row
-query_row query.GroupGet = record { word = codes "group.get"; fields = (codes "group", kind.Name) ∷ [] }
-query_row query.FolderList = record { word = codes "folder.list"; fields = (codes "folder", kind.Folder) ∷ [] }
-query_row query.Members = record { word = codes "members"; fields = (codes "group", kind.Name) ∷ (codes "at", kind.OptionalMoment) ∷ [] }
+query_row query.GroupGet = record {
+  word = codes "group.get";
+  fields = (codes "group", kind.Name) ∷ [];
+}
+query_row query.FolderList = record {
+  word = codes "folder.list";
+  fields = (codes "folder", kind.Folder) ∷ [];
+}
+query_row query.Members = record {
+  word = codes "members";
+  fields = (codes "group", kind.Name) ∷ (codes "at", kind.OptionalMoment) ∷ [];
+}
 query_row query.Rows = record { word = codes "rows"; fields = (codes "group", kind.Name) ∷ [] }
-query_row query.Groups = record { word = codes "groups"; fields = (codes "subject", kind.Entity) ∷ (codes "at", kind.OptionalMoment) ∷ [] }
-query_row query.Grants = record { word = codes "grants"; fields = (codes "object", kind.Object) ∷ (codes "at", kind.OptionalMoment) ∷ [] }
-query_row query.May = record { word = codes "may"; fields = (codes "object", kind.Object) ∷ (codes "entity", kind.Entity) ∷ (codes "at", kind.OptionalMoment) ∷ [] }
-query_row query.Attributes = record { word = codes "attributes"; fields = (codes "object", kind.Object) ∷ (codes "at", kind.OptionalMoment) ∷ [] }
-query_row query.History = record { word = codes "history"; fields = (codes "group", kind.Name) ∷ [] }
-query_row query.Log = record { word = codes "log"; fields = (codes "consumer", kind.Extension) ∷ (codes "max", kind.Number 1 1000) ∷ [] }
+query_row query.Groups = record {
+  word = codes "groups";
+  fields = (codes "subject", kind.Entity) ∷ (codes "at", kind.OptionalMoment) ∷ [];
+}
+query_row query.Grants = record {
+  word = codes "grants";
+  fields = (codes "object", kind.Object) ∷ (codes "at", kind.OptionalMoment) ∷ [];
+}
+query_row query.May = record {
+  word = codes "may";
+  fields = (codes "object", kind.Object) ∷ (codes "entity", kind.Entity)
+      ∷ (codes "at", kind.OptionalMoment) ∷ [];
+}
+query_row query.Attributes = record {
+  word = codes "attributes";
+  fields = (codes "object", kind.Object) ∷ (codes "at", kind.OptionalMoment) ∷ [];
+}
+query_row query.History = record {
+  word = codes "history";
+  fields = (codes "group", kind.Name) ∷ [];
+}
+query_row query.Log = record {
+  word = codes "log";
+  fields = (codes "consumer", kind.Extension) ∷ (codes "max", kind.Number 1 1000) ∷ [];
+}
 query_row query.Admin = record { word = codes "admin"; fields = [] }
 
 -- the row of a load as a request brings it
 abbrev pub load_row : Row
-load_row = record { word = codes "load"; fields = (codes "job", kind.Extension) ∷ (codes "table", kind.Table) ∷ [] }
+load_row = record {
+  word = codes "load";
+  fields = (codes "job", kind.Extension) ∷ (codes "table", kind.Table) ∷ [];
+}
 
 -- the row of an op
 abbrev pub row_of : OpKind → Row
@@ -97,11 +234,23 @@ row_of op.Load = load_row
 
 -- every command
 abbrev pub commands : List CommandKind
-commands = command.FolderAdd ∷ command.FolderRename ∷ command.FolderMove ∷ command.FolderDelete ∷ command.SubjectAdd ∷ command.GroupAdd ∷ command.GroupRename ∷ command.GroupMove ∷ command.GroupDelete ∷ command.MemberAdd ∷ command.MemberRemove ∷ command.MemberWindow ∷ command.CompositeSet ∷ command.CompositeClear ∷ command.GrantAdd ∷ command.GrantRemove ∷ command.InheritAdd ∷ command.InheritRemove ∷ command.AttrdefAdd ∷ command.AttrdefDelete ∷ command.AttrAdd ∷ command.AttrDelete ∷ command.AssignAdd ∷ command.AssignRemove ∷ command.ValueAdd ∷ command.ValueRemove ∷ command.RuleRemoveLost ∷ command.RuleEndLost ∷ command.RuleVeto ∷ command.RuleOnCreate ∷ command.RuleDelete ∷ command.JobSimple ∷ command.JobList ∷ command.JobDelete ∷ command.Load ∷ command.ConsumerAdd ∷ command.ConsumerAck ∷ []
+commands =
+    command.FolderAdd ∷ command.FolderRename ∷ command.FolderMove ∷ command.FolderDelete
+    ∷ command.SubjectAdd ∷ command.GroupAdd ∷ command.GroupRename ∷ command.GroupMove
+    ∷ command.GroupDelete ∷ command.MemberAdd ∷ command.MemberRemove ∷ command.MemberWindow
+    ∷ command.CompositeSet ∷ command.CompositeClear ∷ command.GrantAdd ∷ command.GrantRemove
+    ∷ command.InheritAdd ∷ command.InheritRemove ∷ command.AttrdefAdd ∷ command.AttrdefDelete
+    ∷ command.AttrAdd ∷ command.AttrDelete ∷ command.AssignAdd ∷ command.AssignRemove
+    ∷ command.ValueAdd ∷ command.ValueRemove ∷ command.RuleRemoveLost ∷ command.RuleEndLost
+    ∷ command.RuleVeto ∷ command.RuleOnCreate ∷ command.RuleDelete ∷ command.JobSimple
+    ∷ command.JobList ∷ command.JobDelete ∷ command.Load ∷ command.ConsumerAdd ∷ command.ConsumerAck
+    ∷ []
 
 -- every query
 abbrev pub queries : List QueryKind
-queries = query.GroupGet ∷ query.FolderList ∷ query.Members ∷ query.Rows ∷ query.Groups ∷ query.Grants ∷ query.May ∷ query.Attributes ∷ query.History ∷ query.Log ∷ query.Admin ∷ []
+queries =
+    query.GroupGet ∷ query.FolderList ∷ query.Members ∷ query.Rows ∷ query.Groups ∷ query.Grants
+    ∷ query.May ∷ query.Attributes ∷ query.History ∷ query.Log ∷ query.Admin ∷ []
 
 -- the kinds of a row's fields
 abbrev pub field_kinds : Row → List FieldKind
@@ -115,7 +264,8 @@ coded (k ∷ ks) code = if code == (command_row k).code then Some k else coded k
 -- the first of these commands that a word names
 abbrev pub command_named : List CommandKind → List ℕ → Option CommandKind
 command_named [] word = None
-command_named (k ∷ ks) word = if bytes_eq (command_row k).op.word word then Some k else command_named ks word
+command_named (k ∷ ks) word =
+    if bytes_eq (command_row k).op.word word then Some k else command_named ks word
 
 -- the first of these queries that a word names
 abbrev pub query_named : List QueryKind → List ℕ → Option QueryKind
@@ -129,49 +279,118 @@ command_or_query None query = option_map (λ k. op.Query k) query
 
 -- the op that a word names: a load brings a table, and no request a command of loads
 unfoldable pub kind_named : List ℕ → Option OpKind
-kind_named word = if bytes_eq load_row.word word then Some op.Load else command_or_query (command_named commands word) (query_named queries word)
+kind_named word =
+    if bytes_eq load_row.word word then Some op.Load
+    else command_or_query (command_named commands word) (query_named queries word)
 
 -- ---- taken apart
 
 -- a command: which one, and its fields in order
 abbrev pub apart : Command → CommandKind × List Field
-apart (FolderAdd folder display) = (command.FolderAdd, field.Name folder ∷ field.Display display ∷ [])
-apart (FolderRename folder extension) = (command.FolderRename, field.Folder folder ∷ field.Extension extension ∷ [])
+apart (FolderAdd folder display) =
+    (command.FolderAdd, field.Name folder ∷ field.Display display ∷ [])
+apart (FolderRename folder extension) =
+    (command.FolderRename, field.Folder folder ∷ field.Extension extension ∷ [])
 apart (FolderMove folder to) = (command.FolderMove, field.Folder folder ∷ field.Folder to ∷ [])
 apart (FolderDelete folder) = (command.FolderDelete, field.Folder folder ∷ [])
-apart (SubjectAdd subject display) = (command.SubjectAdd, field.Entity subject ∷ field.Display display ∷ [])
+apart (SubjectAdd subject display) =
+    (command.SubjectAdd, field.Entity subject ∷ field.Display display ∷ [])
 apart (GroupAdd group display) = (command.GroupAdd, field.Name group ∷ field.Display display ∷ [])
-apart (GroupRename group extension) = (command.GroupRename, field.Name group ∷ field.Extension extension ∷ [])
+apart (GroupRename group extension) =
+    (command.GroupRename, field.Name group ∷ field.Extension extension ∷ [])
 apart (GroupMove group to) = (command.GroupMove, field.Name group ∷ field.Folder to ∷ [])
 apart (GroupDelete group) = (command.GroupDelete, field.Name group ∷ [])
-apart (MemberAdd group member from until) = (command.MemberAdd, field.Name group ∷ field.Entity member ∷ field.OptionalMoment from ∷ field.OptionalMoment until ∷ [])
-apart (MemberRemove group member) = (command.MemberRemove, field.Name group ∷ field.Entity member ∷ [])
-apart (MemberWindow group member from until) = (command.MemberWindow, field.Name group ∷ field.Entity member ∷ field.OptionalMoment from ∷ field.OptionalMoment until ∷ [])
-apart (CompositeSet group kind left right) = (command.CompositeSet, field.Name group ∷ field.SetOp kind ∷ field.Name left ∷ field.Name right ∷ [])
+apart (MemberAdd group member from until) = (
+  command.MemberAdd,
+  field.Name group ∷ field.Entity member ∷ field.OptionalMoment from
+      ∷ field.OptionalMoment until ∷ [],
+)
+apart (MemberRemove group member) =
+    (command.MemberRemove, field.Name group ∷ field.Entity member ∷ [])
+apart (MemberWindow group member from until) = (
+  command.MemberWindow,
+  field.Name group ∷ field.Entity member ∷ field.OptionalMoment from
+      ∷ field.OptionalMoment until ∷ [],
+)
+apart (CompositeSet group kind left right) = (
+  command.CompositeSet,
+  field.Name group ∷ field.SetOp kind ∷ field.Name left ∷ field.Name right
+      ∷ [],
+)
 apart (CompositeClear group) = (command.CompositeClear, field.Name group ∷ [])
-apart (GrantAdd object privilege holder) = (command.GrantAdd, field.Object object ∷ field.Privilege privilege ∷ field.Entity holder ∷ [])
-apart (GrantRemove object privilege holder) = (command.GrantRemove, field.Object object ∷ field.Privilege privilege ∷ field.Entity holder ∷ [])
-apart (InheritAdd folder kind scope privilege holder) = (command.InheritAdd, field.Folder folder ∷ field.InheritKind kind ∷ field.Scope scope ∷ field.Privilege privilege ∷ field.Entity holder ∷ [])
-apart (InheritRemove folder kind scope privilege holder) = (command.InheritRemove, field.Folder folder ∷ field.InheritKind kind ∷ field.Scope scope ∷ field.Privilege privilege ∷ field.Entity holder ∷ [])
-apart (AttrdefAdd definition owners several kind many) = (command.AttrdefAdd, field.Name definition ∷ field.Owners owners ∷ field.Flag several ∷ field.DefKind kind ∷ field.Flag many ∷ [])
+apart (GrantAdd object privilege holder) =
+    (command.GrantAdd, field.Object object ∷ field.Privilege privilege ∷ field.Entity holder ∷ [])
+apart (GrantRemove object privilege holder) = (
+  command.GrantRemove,
+  field.Object object ∷ field.Privilege privilege ∷ field.Entity holder
+      ∷ [],
+)
+apart (InheritAdd folder kind scope privilege holder) = (
+  command.InheritAdd,
+  field.Folder folder ∷ field.InheritKind kind ∷ field.Scope scope
+      ∷ field.Privilege privilege ∷ field.Entity holder ∷ [],
+)
+apart (InheritRemove folder kind scope privilege holder) = (
+  command.InheritRemove,
+  field.Folder folder ∷ field.InheritKind kind ∷ field.Scope scope
+      ∷ field.Privilege privilege ∷ field.Entity holder ∷ [],
+)
+apart (AttrdefAdd definition owners several kind many) = (
+  command.AttrdefAdd,
+  field.Name definition ∷ field.Owners owners ∷ field.Flag several
+      ∷ field.DefKind kind ∷ field.Flag many ∷ [],
+)
 apart (AttrdefDelete definition) = (command.AttrdefDelete, field.Name definition ∷ [])
-apart (AttrAdd attribute definition) = (command.AttrAdd, field.Name attribute ∷ field.Name definition ∷ [])
+apart (AttrAdd attribute definition) =
+    (command.AttrAdd, field.Name attribute ∷ field.Name definition ∷ [])
 apart (AttrDelete attribute) = (command.AttrDelete, field.Name attribute ∷ [])
-apart (AssignAdd attribute object) = (command.AssignAdd, field.Name attribute ∷ field.Object object ∷ [])
-apart (AssignRemove attribute object id) = (command.AssignRemove, field.Name attribute ∷ field.Object object ∷ field.Number id 0 18446744073709551615 ∷ [])
-apart (ValueAdd attribute object id value) = (command.ValueAdd, field.Name attribute ∷ field.Object object ∷ field.Number id 0 18446744073709551615 ∷ field.Value value ∷ [])
-apart (ValueRemove attribute object id value) = (command.ValueRemove, field.Name attribute ∷ field.Object object ∷ field.Number id 0 18446744073709551615 ∷ field.Value value ∷ [])
-apart (RuleRemoveLost check owner) = (command.RuleRemoveLost, field.Name check ∷ field.Name owner ∷ [])
-apart (RuleEndLost check owner days) = (command.RuleEndLost, field.Name check ∷ field.Name owner ∷ field.Number days 1 3650 ∷ [])
+apart (AssignAdd attribute object) =
+    (command.AssignAdd, field.Name attribute ∷ field.Object object ∷ [])
+apart (AssignRemove attribute object id) = (
+  command.AssignRemove,
+  field.Name attribute ∷ field.Object object
+      ∷ field.Number id 0 18446744073709551615 ∷ [],
+)
+apart (ValueAdd attribute object id value) = (
+  command.ValueAdd,
+  field.Name attribute ∷ field.Object object
+      ∷ field.Number id 0 18446744073709551615 ∷ field.Value value ∷ [],
+)
+apart (ValueRemove attribute object id value) = (
+  command.ValueRemove,
+  field.Name attribute ∷ field.Object object
+      ∷ field.Number id 0 18446744073709551615 ∷ field.Value value ∷ [],
+)
+apart (RuleRemoveLost check owner) =
+    (command.RuleRemoveLost, field.Name check ∷ field.Name owner ∷ [])
+apart (RuleEndLost check owner days) =
+    (command.RuleEndLost, field.Name check ∷ field.Name owner ∷ field.Number days 1 3650 ∷ [])
 apart (RuleVeto owner condition) = (command.RuleVeto, field.Name owner ∷ field.Name condition ∷ [])
-apart (RuleOnCreate folder scope privilege holder) = (command.RuleOnCreate, field.Folder folder ∷ field.Scope scope ∷ field.Privilege privilege ∷ field.Entity holder ∷ [])
+apart (RuleOnCreate folder scope privilege holder) = (
+  command.RuleOnCreate,
+  field.Folder folder ∷ field.Scope scope ∷ field.Privilege privilege
+      ∷ field.Entity holder ∷ [],
+)
 apart (RuleDelete id) = (command.RuleDelete, field.Number id 0 18446744073709551615 ∷ [])
-apart (JobSimple job group source min_size max_percent) = (command.JobSimple, field.Extension job ∷ field.Name group ∷ field.Source source ∷ field.Number min_size 0 4294967295 ∷ field.Number max_percent 0 100 ∷ [])
-apart (JobList job folder source min_size max_percent) = (command.JobList, field.Extension job ∷ field.Folder folder ∷ field.Source source ∷ field.Number min_size 0 4294967295 ∷ field.Number max_percent 0 100 ∷ [])
+apart (JobSimple job group source min_size max_percent) = (
+  command.JobSimple,
+  field.Extension job ∷ field.Name group ∷ field.Source source
+      ∷ field.Number min_size 0 4294967295 ∷ field.Number max_percent 0 100 ∷ [],
+)
+apart (JobList job folder source min_size max_percent) = (
+  command.JobList,
+  field.Extension job ∷ field.Folder folder ∷ field.Source source
+      ∷ field.Number min_size 0 4294967295 ∷ field.Number max_percent 0 100 ∷ [],
+)
 apart (JobDelete job) = (command.JobDelete, field.Extension job ∷ [])
-apart (Load job created removed added) = (command.Load, field.Extension job ∷ field.Names created ∷ field.LoadRows removed ∷ field.LoadRows added ∷ [])
+apart (Load job created removed added) = (
+  command.Load,
+  field.Extension job ∷ field.Names created ∷ field.LoadRows removed
+      ∷ field.LoadRows added ∷ [],
+)
 apart (ConsumerAdd consumer) = (command.ConsumerAdd, field.Extension consumer ∷ [])
-apart (ConsumerAck consumer seq) = (command.ConsumerAck, field.Extension consumer ∷ field.Number seq 0 18446744073709551615 ∷ [])
+apart (ConsumerAck consumer seq) =
+    (command.ConsumerAck, field.Extension consumer ∷ field.Number seq 0 18446744073709551615 ∷ [])
 
 -- a query: which one, and its fields in order
 abbrev pub query_apart : Query → QueryKind × List Field
@@ -179,12 +398,16 @@ query_apart (GroupGet group) = (query.GroupGet, field.Name group ∷ [])
 query_apart (FolderList folder) = (query.FolderList, field.Folder folder ∷ [])
 query_apart (Members group at) = (query.Members, field.Name group ∷ field.OptionalMoment at ∷ [])
 query_apart (Rows group) = (query.Rows, field.Name group ∷ [])
-query_apart (Groups subject at) = (query.Groups, field.Entity subject ∷ field.OptionalMoment at ∷ [])
+query_apart (Groups subject at) =
+    (query.Groups, field.Entity subject ∷ field.OptionalMoment at ∷ [])
 query_apart (Grants object at) = (query.Grants, field.Object object ∷ field.OptionalMoment at ∷ [])
-query_apart (May object entity at) = (query.May, field.Object object ∷ field.Entity entity ∷ field.OptionalMoment at ∷ [])
-query_apart (Attributes object at) = (query.Attributes, field.Object object ∷ field.OptionalMoment at ∷ [])
+query_apart (May object entity at) =
+    (query.May, field.Object object ∷ field.Entity entity ∷ field.OptionalMoment at ∷ [])
+query_apart (Attributes object at) =
+    (query.Attributes, field.Object object ∷ field.OptionalMoment at ∷ [])
 query_apart (History group) = (query.History, field.Name group ∷ [])
-query_apart (Log consumer max) = (query.Log, field.Extension consumer ∷ field.Number max 1 1000 ∷ [])
+query_apart (Log consumer max) =
+    (query.Log, field.Extension consumer ∷ field.Number max 1 1000 ∷ [])
 query_apart Admin = (query.Admin, [])
 
 -- which command it is
@@ -455,7 +678,8 @@ pub record IsMade (k : OpKind) (fields : List Field) : Type 0 where
   pub is_kind : op_kind op ≡ k
   pub has_these : op_fields op ≡ fields
 
--- a command's fields are of its row's kinds, at most six, and make it again, and its code leads to its row
+-- a command's fields are of its row's kinds, at most six, and make it again, and its code leads to
+-- its row
 pub record IsApart (c : Command) : Type 0 where
   pub few : length (fields_of c) ≤ 6
   pub kinds : map field_kind (fields_of c) ≡ field_kinds (command_row (kind_of c)).op

@@ -1,5 +1,7 @@
--- Values of assignments: when two of them are one, how a definition takes one, and how assignments change.
-use Rattle.std.specs.Prelude.{ℕ, ◌==◌, ◌++◌, ◌∷◌, [], List, Bool, false, Option, Some, None, option_map, if◌then◌else◌}
+-- Values of assignments: when two of them are one, how a definition takes one, and how assignments
+-- change.
+use Rattle.std.specs.Prelude.{ℕ, ◌==◌, ◌++◌, ◌∷◌, [], List, Bool, false, Option, Some, None}
+use Rattle.std.specs.Prelude.{option_map, if◌then◌else◌}
 use Rattle.std.specs.Ordering.{int_eq}
 use Rattle.std.specs.List.{list_any, position, remove}
 use Rattle.std.specs.Str.{bytes_eq}
@@ -22,7 +24,8 @@ same_value (attr.Text a) (attr.Text b) = bytes_eq a b
 same_value (attr.Moment a) (attr.Moment b) = a == b
 same_value _ _ = false
 
--- a value as a definition of this kind takes it, if it does: a timestamp is the text of a moment, and a marker has none
+-- a value as a definition of this kind takes it, if it does: a timestamp is the text of a moment,
+-- and a marker has none
 abbrev pub taken : DefKind → Value → Option AttrValue
 taken Marker v = None
 taken Integer (given.Int n) = Some (attr.Int n)
@@ -56,4 +59,5 @@ with_value id v row = if row.id == id then record row { values = row.values ++ v
 
 -- and without the first of its values that are this one
 abbrev pub without_value : ℕ → AttrValue → AssignRow → AssignRow
-without_value id v row = if row.id == id then record row { values = without_first v row.values } else row
+without_value id v row =
+    if row.id == id then record row { values = without_first v row.values } else row

@@ -1,6 +1,10 @@
 // A field of a command or a query, and the kinds of fields.
 ghost use Rattle.std.specs.Prelude.{◌≡◌};
-ghost use Rattle.reg_terms.specs.Parts.{as_name, as_folder, as_extension, as_source, as_display, as_entity, as_object, as_moment, as_set_op, as_inherit_kind, as_scope, as_privilege, as_owners, as_flag, as_def_kind, as_value, as_number, as_names, as_load_rows, as_table};
+ghost use Rattle.reg_terms.specs.Parts.{as_name, as_folder, as_extension, as_source, as_display};
+ghost use Rattle.reg_terms.specs.Parts.{as_entity, as_object, as_moment, as_set_op};
+ghost use Rattle.reg_terms.specs.Parts.{as_inherit_kind, as_scope, as_privilege, as_owners};
+ghost use Rattle.reg_terms.specs.Parts.{as_flag, as_def_kind, as_value, as_number, as_names};
+ghost use Rattle.reg_terms.specs.Parts.{as_load_rows, as_table};
 
 use crate::{DefKind, InheritKind, LoadRows, Names, Owners, Scope, SetOp, Value};
 use reg_base::{Bytes, Entity, Moment, Name, Privilege, Text};

@@ -3,7 +3,10 @@ ghost use Rattle.std.specs.Prelude.{◌≡◌, ◌≤◌, is_some, length};
 ghost use Rattle.std.specs.List.{list_all};
 ghost use Rattle.reg_base.specs.Names.{is_name};
 ghost use Rattle.reg_base.specs.Entities.{entity_of, group_entity, person_entity};
-ghost use Rattle.reg_terms.specs.Forms.{is_folder_text, is_display, is_entity, is_object_text, is_optional_moment, is_i64, is_value, suits_some, is_load_row, are_few, are_names, are_load_rows, is_field, has_form};
+ghost use Rattle.reg_terms.specs.Forms.{is_folder_text, is_display, is_entity, is_object_text};
+ghost use Rattle.reg_terms.specs.Forms.{is_optional_moment, is_i64, is_value, suits_some};
+ghost use Rattle.reg_terms.specs.Forms.{is_load_row, are_few, are_names, are_load_rows, is_field};
+ghost use Rattle.reg_terms.specs.Forms.{has_form};
 ghost use Rattle.reg_terms.specs.Parts.{seen, seen_all};
 
 use crate::limits::MAX_DISPLAY;

@@ -61,8 +61,8 @@ impl Row for CompositeRow {
     fn place(&self) {}
 }
 
-/// A grant is found by its object, the privilege's code and its holder, and an object's are listed by the
-/// code, then everyone, persons by id, groups by id.
+/// A grant is found by its object, the privilege's code and its holder, and an object's are listed
+/// by the code, then everyone, persons by id, groups by id.
 impl Row for GrantRow {
     type Group = Object;
 
@@ -128,8 +128,8 @@ impl LinkedRow for InheritRow {
     }
 }
 
-/// A rule is found by what it watches, its id, and of whom it speaks beside that; the rules that watch
-/// one thing are listed by id.
+/// A rule is found by what it watches, its id, and of whom it speaks beside that; the rules that
+/// watch one thing are listed by id.
 impl Row for RuleRow {
     type Group = RuleKey;
 

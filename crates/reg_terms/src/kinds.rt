@@ -1,6 +1,8 @@
 // What rows speak of.
 ghost use Rattle.std.specs.Prelude.{◌≡◌};
-ghost use Rattle.reg_terms.specs.Kinds.{same_member, same_object, same_holder, same_scope, same_kind, is_of_kind, member_group, holder_group, as_folder, as_group, as_definition, as_attribute};
+ghost use Rattle.reg_terms.specs.Kinds.{same_member, same_object, same_holder, same_scope};
+ghost use Rattle.reg_terms.specs.Kinds.{same_kind, is_of_kind, member_group, holder_group};
+ghost use Rattle.reg_terms.specs.Kinds.{as_folder, as_group, as_definition, as_attribute};
 
 use reg_base::{AttrDefId, AttrId, FolderId, GroupId, Moment, SubjectId, Text};
 

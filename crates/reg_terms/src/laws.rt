@@ -7,20 +7,24 @@ ghost use Rattle.reg_terms.specs.declared.table.OpKind.{OpKind};
 ghost use Rattle.reg_terms.specs.declared.table.OpKind.TheVariants as op;
 ghost use Rattle.reg_terms.specs.declared.field.Field.{Field};
 ghost use Rattle.reg_terms.specs.Parts.{field_kind};
-ghost use Rattle.reg_terms.specs.Table.{command_row, row_of, field_kinds, kind_named, IsMadeCommand, IsMade, IsApart};
+ghost use Rattle.reg_terms.specs.Table.{command_row, row_of, field_kinds, kind_named};
+ghost use Rattle.reg_terms.specs.Table.{IsMadeCommand, IsMade, IsApart};
 
-/// Fields of the kinds that a command's row says make a command of these fields; and the fields of each
-/// command are of its row's kinds, at most six, and make it again, and its code leads to its row.
+/// Fields of the kinds that a command's row says make a command of these fields; and the fields of
+/// each command are of its row's kinds, at most six, and make it again, and its code leads to its
+/// row.
 #[tactic(auto, using(crate::proofs::Makes::command_made))]
 pub fn law_commands()
-    ensures made { (k : CommandKind) (fields : List Field) → map field_kind fields ≡ field_kinds (command_row k).op → IsMadeCommand k fields }
+    ensures made { (k : CommandKind) (fields : List Field)
+        → map field_kind fields ≡ field_kinds (command_row k).op → IsMadeCommand k fields }
     ensures apart { (c : Command) → IsApart c }
 {}
 
 /// Fields of the kinds that an op's row says make a command, query or load of these fields.
 #[tactic(auto, using(crate::proofs::Makes::op_made))]
 pub fn law_ops()
-    ensures { (k : OpKind) (fields : List Field) → map field_kind fields ≡ field_kinds (row_of k) → IsMade k fields }
+    ensures { (k : OpKind) (fields : List Field) → map field_kind fields ≡ field_kinds (row_of k)
+        → IsMade k fields }
 {}
 
 /// The word `load` names a load with its table, and no word names the command of a load.

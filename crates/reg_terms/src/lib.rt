@@ -1,5 +1,5 @@
-//! What all crates speak of: commands, the rows that they make, the events that these bring, refusals,
-//! requests and replies.
+//! What all crates speak of: commands, the rows that they make, the events that these bring,
+//! refusals, requests and replies.
 #![tactic(auto)]
 
 mod admin_shown;

@@ -1,6 +1,10 @@
 // Commands, queries and loads made of fields.
 ghost use Rattle.std.specs.Prelude.{◌≡◌};
-ghost use Rattle.reg_terms.specs.Parts.{Took, name_in, folder_in, extension_in, source_in, display_in, entity_in, object_in, moment_in, set_op_in, inherit_kind_in, scope_in, privilege_in, owners_in, flag_in, def_kind_in, value_in, number_in, names_in, load_rows_in, table_in, whole};
+ghost use Rattle.reg_terms.specs.Parts.{Took, name_in, folder_in, extension_in, source_in};
+ghost use Rattle.reg_terms.specs.Parts.{display_in, entity_in, object_in, moment_in, set_op_in};
+ghost use Rattle.reg_terms.specs.Parts.{inherit_kind_in, scope_in, privilege_in, owners_in};
+ghost use Rattle.reg_terms.specs.Parts.{flag_in, def_kind_in, value_in, number_in, names_in};
+ghost use Rattle.reg_terms.specs.Parts.{load_rows_in, table_in, whole};
 ghost use Rattle.reg_terms.specs.Table.{made_command, made_query, made};
 ghost use Rattle.reg_terms.specs.declared.table.CommandKind.TheVariants as command;
 ghost use Rattle.reg_terms.specs.declared.table.QueryKind.TheVariants as query;

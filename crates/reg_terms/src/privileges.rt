@@ -1,6 +1,7 @@
 // The privileges: codes, names, the kinds of object that they are of, and which gives which.
 ghost use Rattle.std.specs.Prelude.{◌≡◌};
-ghost use Rattle.reg_terms.specs.Privileges.{line_of, code, same_privilege, gives, all_privileges, privilege_coded, privilege_named};
+ghost use Rattle.reg_terms.specs.Privileges.{line_of, code, same_privilege, gives, all_privileges};
+ghost use Rattle.reg_terms.specs.Privileges.{privilege_coded, privilege_named};
 
 use crate::InheritKind;
 use reg_base::Privilege;

@@ -5,7 +5,8 @@ use crate::{
 };
 use reg_base::{Entity, Moment, Name, Text};
 
-/// A question that changes nothing (`docs/REQUESTS.md`). A folder is named by its name, or `:` for the root.
+/// A question that changes nothing (`docs/REQUESTS.md`). A folder is named by its name, or `:` for
+/// the root.
 #[derive(Drop)]
 pub enum Query {
     /// The group of this name.
@@ -30,8 +31,8 @@ pub enum Query {
         subject: Entity,
         at: Option<Moment>,
     },
-    /// The privileges granted on an object, written on it or inherited, and their holders, now or at a
-    /// moment before now.
+    /// The privileges granted on an object, written on it or inherited, and their holders, now or
+    /// at a moment before now.
     Grants {
         object: Text,
         at: Option<Moment>,
@@ -42,7 +43,8 @@ pub enum Query {
         entity: Entity,
         at: Option<Moment>,
     },
-    /// The attributes that are assigned to an object, with their values, now or at a moment before now.
+    /// The attributes that are assigned to an object, with their values, now or at a moment before
+    /// now.
     Attributes {
         object: Text,
         at: Option<Moment>,
@@ -110,8 +112,8 @@ pub enum Answer {
         last: u64,
         place: u64,
     },
-    /// The consumers in the order in which they were made; the groups that are gone, the jobs and the
-    /// rules by id.
+    /// The consumers in the order in which they were made; the groups that are gone, the jobs and
+    /// the rules by id.
     Admin {
         consumers: ConsumersShown,
         gone: GonesShown,

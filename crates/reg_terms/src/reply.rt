@@ -25,8 +25,8 @@ pub struct LoadCounts {
 /// What a request is answered.
 #[derive(Drop)]
 pub enum Reply {
-    /// The command was accepted: its place in the history, from 1, and the id of what it made, where
-    /// that has one and no name.
+    /// The command was accepted: its place in the history, from 1, and the id of what it made,
+    /// where that has one and no name.
     Number { number: u64, id: Option<u64> },
     /// The load was accepted: its place in the history, from 1, and what it did.
     Loaded { number: u64, counts: LoadCounts },

@@ -28,8 +28,8 @@ impl RuleForm {
         }
     }
 
-    /// Of whom the rule speaks beside that: the group from which it takes, the group in which one has
-    /// to be, or the holder of its grant.
+    /// Of whom the rule speaks beside that: the group from which it takes, the group in which one
+    /// has to be, or the holder of its grant.
     pub fn other(&self) -> Holder
         ensures { result ≡ other_of self.now }
     {

@@ -119,7 +119,8 @@ impl GrantsShown {
     }
 }
 
-/// An attribute that is assigned to an owner, with its values in the order in which they were added.
+/// An attribute that is assigned to an owner, with its values in the order in which they were
+/// added.
 #[derive(Drop)]
 pub struct AssignShown {
     /// The attribute's name.

@@ -1,6 +1,8 @@
 // The table of ops: each with its word, its code and its fields.
 ghost use Rattle.std.specs.Prelude.{◌≡◌, map};
-ghost use Rattle.reg_terms.specs.Table.{command_row, query_row, load_row, row_of, field_kinds, commands, queries, coded, command_named, query_named, kind_named};
+ghost use Rattle.reg_terms.specs.Table.{command_row, query_row, load_row, row_of, field_kinds};
+ghost use Rattle.reg_terms.specs.Table.{commands, queries, coded, command_named, query_named};
+ghost use Rattle.reg_terms.specs.Table.{kind_named};
 
 use crate::field::FieldKind;
 

@@ -45,8 +45,9 @@ fn text_taken(alloc: Global, kind: DefKind, text: &Text) -> Result<Option<AttrVa
 }
 
 impl Value {
-    /// The value as a definition of this kind takes it: an integer takes a whole number, a text a text, and
-    /// a timestamp a moment's text; a marker takes none. None exactly where it isn't of the kind.
+    /// The value as a definition of this kind takes it: an integer takes a whole number, a text a
+    /// text, and a timestamp a moment's text; a marker takes none. None exactly where it isn't of
+    /// the kind.
     pub fn taken(&self, alloc: Global, kind: DefKind) -> Result<Option<AttrValue>, AllocError>
         ensures { IfOk result (λ found. found ≡ taken kind self.now) }
     {

@@ -1,6 +1,6 @@
-// A chain of 200 groups, each a member of the next: 2,000 persons are in the first and so in all, and
-// one person joins the last and leaves it again, 25,000 times. What recomputes all memberships at each
-// command, or folds the history again for each past moment, doesn't end in a test's time.
+// A chain of 200 groups, each a member of the next: 2,000 persons are in the first and so in all,
+// and one person joins the last and leaves it again, 25,000 times. What recomputes all memberships
+// at each command, or folds the history again for each past moment, doesn't end in a test's time.
 ghost use Rattle.std.specs.Prelude.{◌≡◌, ◌<◌};
 
 use reg_base::{GroupId, Moment, Steps, SubjectId};
@@ -125,8 +125,8 @@ fn otherwise_told(machine: &Machine<Incremental>) -> usize {
 }
 
 /// All commands are accepted, and each change of a membership is in the log. The last group has all
-/// persons of the first one; who joined last and left was in it at each moment at which it had joined,
-/// and at no other.
+/// persons of the first one; who joined last and left was in it at each moment at which it had
+/// joined, and at no other.
 #[test]
 fn a_long_chain_of_groups_is_kept_and_remembered(rt: HostRuntime) -> Result<(), Fail> {
     let alloc = rt.alloc();

@@ -1,5 +1,6 @@
 -- The answers over the facts, as they are computed: each is what `show` tells of the view.
-use Rattle.std.specs.Prelude.{ℕ, ◌&&◌, List, [], Bool, false, Option, None, Some, Result, Ok, Err, map, filter, codes, length, if◌then◌else◌}
+use Rattle.std.specs.Prelude.{ℕ, ◌&&◌, List, [], Bool, false, Option, None, Some, Result, Ok, Err}
+use Rattle.std.specs.Prelude.{map, filter, codes, length, if◌then◌else◌}
 use Rattle.reg_base.specs.Entities.{entity_of}
 use Rattle.reg_base.specs.declared.entity.Entity.{Entity}
 use Rattle.reg_base.specs.declared.entity.Entity.TheVariants as entity
@@ -35,8 +36,10 @@ use Rattle.reg_priv.specs.Grants.{Grant}
 use Rattle.reg_priv.specs.Holders.{holders}
 use Rattle.reg_priv.specs.May.{is_root, may, privileges_of, visible, who_of}
 use Rattle.reg_view.specs.Past.{Past, entry_shown, gone_id, history_of, span_shown}
-use Rattle.reg_view.specs.Show.{◌>>=◌, denied, found_or, in_time, root_denied, is_caller, is_entity_text}
-use Rattle.reg_view.specs.Texts.{row_shown, composite_shown, consumer_shown, grant_shown, gone_shown, definition_name, job_shown, member_text, rule_shown}
+use Rattle.reg_view.specs.Show.{◌>>=◌, denied, found_or, in_time, root_denied, is_caller}
+use Rattle.reg_view.specs.Show.{is_entity_text}
+use Rattle.reg_view.specs.Texts.{row_shown, composite_shown, consumer_shown, grant_shown}
+use Rattle.reg_view.specs.Texts.{gone_shown, definition_name, job_shown, member_text, rule_shown}
 use Rattle.reg_view.specs.View.{assigns_shown, is_admin, is_readable, owned, powers_at}
 
 -- ---- groups and folders
@@ -47,7 +50,12 @@ display_of id rows = elim (group_row id rows) [ None ↦ [] | Some row ↦ row.d
 
 -- the group of this name, if the caller sees it
 abbrev pub group_seen : Live → Lists → Who → List ℕ → Result ℕ Refusal
-group_seen L f c group = elim (group_id group f) [ None ↦ Err (NotFound group) | Some id ↦ if visible L f c (object.Group id) then Ok id else Err (NotFound group) ]
+group_seen L f c group =
+    elim (group_id group f) [
+      | None ↦ Err (NotFound group)
+      | Some id ↦ if visible L f c
+          (object.Group id) then Ok id else Err (NotFound group)
+    ]
 
 -- the group of this name, if the caller may read it
 abbrev pub group_read : Live → Lists → Who → List ℕ → Result ℕ Refusal
@@ -122,13 +130,18 @@ listing L f c d home = answer.FolderList
 
 -- what the caller sees of what stands directly in the folder of this name
 abbrev pub listing_of : Live → Lists → Who → List ℕ → Result Answer Refusal
-listing_of L f c folder = elim (folder_id folder f) [ None ↦ Err (NotFound folder) | Some d ↦ Ok (listing L f c d folder) ]
+listing_of L f c folder =
+    elim (folder_id folder f)
+    [ None ↦ Err (NotFound folder) | Some d ↦ Ok (listing L f c d folder) ]
 
 -- ---- entities
 
--- the object that an entity is, if it stands and the caller sees it; an entity of the registry itself is none
+-- the object that an entity is, if it stands and the caller sees it; an entity of the registry
+-- itself is none
 abbrev pub entity_found : Live → Lists → Who → Entity → Result (Option Object) Refusal
-entity_found L f c (entity.Person text) = elim (subject_id text f.subjects) [ None ↦ Err (NotFound text) | Some s ↦ Ok (Some (object.Subject s)) ]
+entity_found L f c (entity.Person text) =
+    elim (subject_id text f.subjects)
+    [ None ↦ Err (NotFound text) | Some s ↦ Ok (Some (object.Subject s)) ]
 entity_found L f c (entity.Group name) = do
   g ← group_seen L f c name
   Ok (Some (object.Group g))
@@ -137,11 +150,15 @@ entity_found L f c entity.Everyone = Ok None
 
 -- the names of those of these groups that stand and that the caller may read
 abbrev pub readable_names : Live → Lists → Who → List ℕ → List (List ℕ)
-readable_names L f c ids = map (λ (g : ℕ). name_of (object.Group g) f) (filter (λ (g : ℕ). has_group g f.groups && is_readable L f c (object.Group g)) ids)
+readable_names L f c ids =
+    map (λ (g : ℕ). name_of (object.Group g) f) (filter (λ (g : ℕ). has_group g f.groups
+    && is_readable L f c (object.Group g)) ids)
 
 -- of the groups that have a person, by a test, those that stand and that the caller may read
 abbrev pub groups_where : (ℕ → Bool) → Live → Lists → Who → Answer
-groups_where has L f c = answer.Groups (map (λ (row : GroupRow). name_of (object.Group row.id) f) (filter (λ (row : GroupRow). has row.id && is_readable L f c (object.Group row.id)) f.groups))
+groups_where has L f c =
+    answer.Groups (map (λ (row : GroupRow). name_of (object.Group row.id) f)
+    (filter (λ (row : GroupRow). has row.id && is_readable L f c (object.Group row.id)) f.groups))
 
 -- the groups of a person, now or at a moment
 abbrev pub groups_at : Past → Live → Lists → ℕ → Who → ℕ → Option ℕ → Result Answer Refusal
@@ -151,10 +168,14 @@ groups_at p L f now c s (Some at) = do
   Ok (groups_where (λ g. p.was at g s) L f c)
 
 -- the groups of which a person of this text is a member, now or at a moment
-abbrev pub groups_of_person : Past → Live → Lists → ℕ → Who → List ℕ → Option ℕ → Result Answer Refusal
-groups_of_person p L f now c text at = elim (subject_id text f.subjects) [ None ↦ Err (NotFound text) | Some s ↦ groups_at p L f now c s at ]
+abbrev pub groups_of_person : Past → Live → Lists → ℕ → Who → List ℕ → Option ℕ
+    → Result Answer Refusal
+groups_of_person p L f now c text at =
+    elim (subject_id text f.subjects)
+    [ None ↦ Err (NotFound text) | Some s ↦ groups_at p L f now c s at ]
 
--- a field names a thing of a kind that it can't be: a moment that is later than now is refused first
+-- a field names a thing of a kind that it can't be: a moment that is later than now is refused
+-- first
 abbrev pub unfit : List ℕ → ℕ → Option ℕ → Result Answer Refusal
 unfit field now at = do
   _ ← in_time now at
@@ -177,17 +198,21 @@ name_found L f c text None = Err (NotFound text)
 name_found L f c text (Some o) = if visible L f c o then Ok (Some o) else Err (NotFound text)
 
 -- the object that an entity's text names
-abbrev pub entity_object : Live → Lists → Who → List ℕ → Option Entity → Result (Option Object) Refusal
+abbrev pub entity_object : Live → Lists → Who → List ℕ → Option Entity
+    → Result (Option Object) Refusal
 entity_object L f c text None = Err (NotFound text)
 entity_object L f c text (Some e) = entity_found L f c e
 
 -- the object that a text names, if the caller sees it: an entity, or an object by its name
 abbrev pub object_found : Live → Lists → Who → List ℕ → Result (Option Object) Refusal
-object_found L f c text = if is_entity_text text then entity_object L f c text (entity_of text) else name_found L f c text (resolve text f)
+object_found L f c text =
+    if is_entity_text text then entity_object L f c text (entity_of text)
+    else name_found L f c text (resolve text f)
 
 -- the name of the definition of an attribute
 abbrev pub definition_of : ℕ → Lists → List ℕ
-definition_of a f = elim (attribute_row a f.attributes) [ None ↦ codes ":" | Some row ↦ definition_name f row ]
+definition_of a f =
+    elim (attribute_row a f.attributes) [ None ↦ codes ":" | Some row ↦ definition_name f row ]
 
 -- what is answered to who isn't an object's admin
 abbrev pub not_admin : Lists → Object → Refusal
@@ -217,9 +242,11 @@ grants_told p f now (object.Attr a) at = unfit (codes "object") now at
 grants_told p f now (object.Subject s) at = unfit (codes "object") now at
 
 -- the grants on an object; an entity of the registry itself has none
-abbrev pub grants_on : Past → Live → Lists → ℕ → Who → Option Object → Option ℕ → Result Answer Refusal
+abbrev pub grants_on : Past → Live → Lists → ℕ → Who → Option Object → Option ℕ
+    → Result Answer Refusal
 grants_on p L f now c None at = unfit (codes "object") now at
-grants_on p L f now c (Some o) at = if is_admin L f c o then grants_told p f now o at else Err (not_admin f o)
+grants_on p L f now c (Some o) at =
+    if is_admin L f c o then grants_told p f now o at else Err (not_admin f o)
 
 -- the grants on what this text names, now or at a moment
 abbrev pub grants_of : Past → Live → Lists → ℕ → Who → List ℕ → Option ℕ → Result Answer Refusal
@@ -241,22 +268,27 @@ powers_of p L f now who o at = do
   Ok (answer.May (privileges_at p L f who o at))
 
 -- what someone may do with an object, if it is one that may do something
-abbrev pub powers_told : Past → Live → Lists → ℕ → Option Who → Object → Option ℕ → Result Answer Refusal
+abbrev pub powers_told : Past → Live → Lists → ℕ → Option Who → Object → Option ℕ
+    → Result Answer Refusal
 powers_told p L f now None o at = unfit (codes "entity") now at
 powers_told p L f now (Some who) o at = powers_of p L f now who o at
 
 -- what the caller itself may do with an object
-abbrev pub own_told : Past → Live → Lists → ℕ → Who → Option Object → Option ℕ → Result Answer Refusal
+abbrev pub own_told : Past → Live → Lists → ℕ → Who → Option Object → Option ℕ
+    → Result Answer Refusal
 own_told p L f now c None at = unfit (codes "object") now at
 own_told p L f now c (Some o) at = powers_of p L f now c o at
 
 -- what another may do with an object
-abbrev pub other_told : Past → Live → Lists → ℕ → Who → Option Object → Entity → Option ℕ → Result Answer Refusal
+abbrev pub other_told : Past → Live → Lists → ℕ → Who → Option Object → Entity → Option ℕ
+    → Result Answer Refusal
 other_told p L f now c None e at = unfit (codes "object") now at
-other_told p L f now c (Some o) e at = if is_admin L f c o then powers_told p L f now (who_of e f) o at else Err (not_admin f o)
+other_told p L f now c (Some o) e at =
+    if is_admin L f c o then powers_told p L f now (who_of e f) o at else Err (not_admin f o)
 
 -- what an entity may do with what this text names, now or at a moment
-abbrev pub may_of : Past → Live → Lists → ℕ → List ℕ → Who → List ℕ → Entity → Option ℕ → Result Answer Refusal
+abbrev pub may_of : Past → Live → Lists → ℕ → List ℕ → Who → List ℕ → Entity → Option ℕ
+    → Result Answer Refusal
 may_of p L f now by c object entity at = do
   o ← object_found L f c object
   _ ← entity_found L f c entity
@@ -270,25 +302,36 @@ attributes_at p L f c o None = assigns_shown p L f c (assigns_on o f.assigns)
 attributes_at p L f c o (Some at) = owned p L f c at o
 
 -- and so they are told
-abbrev pub attributes_told : Past → Live → Lists → ℕ → Who → Object → Option ℕ → Result Answer Refusal
+abbrev pub attributes_told : Past → Live → Lists → ℕ → Who → Object → Option ℕ
+    → Result Answer Refusal
 attributes_told p L f now c o at = do
   _ ← in_time now at
   Ok (answer.Attributes (attributes_at p L f c o at))
 
 -- the attributes of a folder or a group, if the caller may read them
-abbrev pub owner_told : Past → Live → Lists → ℕ → Who → Object → Privilege → Option ℕ → Result Answer Refusal
-owner_told p L f now c o wanted at = if may L f c o wanted then attributes_told p L f now c o at else Err (denied (name_of o f) wanted)
+abbrev pub owner_told : Past → Live → Lists → ℕ → Who → Object → Privilege → Option ℕ
+    → Result Answer Refusal
+owner_told p L f now c o wanted at =
+    if may L f c o wanted then attributes_told p L f now c o at
+    else Err (denied (name_of o f) wanted)
 
--- the attributes of an object that this text names: of a folder or a group by its name, or of a person
-abbrev pub attributes_of_object : Past → Live → Lists → ℕ → Who → List ℕ → Object → Option ℕ → Result Answer Refusal
-attributes_of_object p L f now c text (object.Folder d) at = owner_told p L f now c (object.Folder d) privilege.StemAttrRead at
-attributes_of_object p L f now c text (object.Group g) at = if is_entity_text text then unfit (codes "object") now at else owner_told p L f now c (object.Group g) privilege.GroupAttrRead at
+-- the attributes of an object that this text names: of a folder or a group by its name, or of a
+-- person
+abbrev pub attributes_of_object : Past → Live → Lists → ℕ → Who → List ℕ → Object → Option ℕ
+    → Result Answer Refusal
+attributes_of_object p L f now c text (object.Folder d) at =
+    owner_told p L f now c (object.Folder d) privilege.StemAttrRead at
+attributes_of_object p L f now c text (object.Group g) at =
+    if is_entity_text text then unfit (codes "object") now at
+    else owner_told p L f now c (object.Group g) privilege.GroupAttrRead at
 attributes_of_object p L f now c text (object.Def a) at = unfit (codes "object") now at
 attributes_of_object p L f now c text (object.Attr a) at = unfit (codes "object") now at
-attributes_of_object p L f now c text (object.Subject s) at = attributes_told p L f now c (object.Subject s) at
+attributes_of_object p L f now c text (object.Subject s) at =
+    attributes_told p L f now c (object.Subject s) at
 
 -- and where it may be none
-abbrev pub attributes_on : Past → Live → Lists → ℕ → Who → List ℕ → Option Object → Option ℕ → Result Answer Refusal
+abbrev pub attributes_on : Past → Live → Lists → ℕ → Who → List ℕ → Option Object → Option ℕ
+    → Result Answer Refusal
 attributes_on p L f now c text None at = unfit (codes "object") now at
 attributes_on p L f now c text (Some o) at = attributes_of_object p L f now c text o at
 
@@ -302,7 +345,8 @@ attributes_of p L f now c text at = do
 
 -- the entries after a place, at most some, as they are shown
 abbrev pub entries_told : Past → ℕ → ℕ → Answer
-entries_told p place max = answer.Log (map (entry_shown p) (entries_after place max p.lines)) (length p.lines) place
+entries_told p place max =
+    answer.Log (map (entry_shown p) (entries_after place max p.lines)) (length p.lines) place
 
 -- the place of the consumer of this name, which root alone sees
 abbrev pub place_seen : Live → Lists → Who → List ℕ → Option ℕ
@@ -318,7 +362,9 @@ log_of p L f c consumer max = do
 
 -- the consumers, the groups that are gone, the loader jobs and the rules
 abbrev pub admin_told : Past → Lists → Answer
-admin_told p f = answer.Admin (map consumer_shown f.consumers) (map (gone_shown p) p.gone_by_id) (map (job_shown f) f.jobs) (map (rule_shown p f) f.rules)
+admin_told p f =
+    answer.Admin (map consumer_shown f.consumers) (map (gone_shown p) p.gone_by_id)
+    (map (job_shown f) f.jobs) (map (rule_shown p f) f.rules)
 
 -- and root alone is told of them
 abbrev pub admin_of : Past → Live → Lists → Who → Result Answer Refusal

@@ -11,9 +11,11 @@ use Rattle.reg_view.specs.Past.{moment_of, past}
 use Rattle.reg_view.specs.Show.{show}
 use Rattle.reg_view.specs.View.{View, view_of}
 
--- what the caller of this text sees of what the history gives at the clock, of the past what was at a moment
+-- what the caller of this text sees of what the history gives at the clock, of the past what was at
+-- a moment
 unfoldable pub view : List Stamped → ℕ → ℕ → List ℕ → View
-view history now at by = view_of (past history now) (live now (facts history now)) (facts history now) now at by
+view history now at by =
+    view_of (past history now) (live now (facts history now)) (facts history now) now at by
 
 -- the moment that a query names, if it names one
 abbrev pub named_moment : Query → Option ℕ

@@ -1,5 +1,7 @@
--- What a history tells of the past, and how it is shown: by the names that stand now, or were the last.
-use Rattle.std.specs.Prelude.{ℕ, ◌++◌, List, [], ◌∷◌, Bool, Option, Some, None, codes, map, nat_lt, if◌then◌else◌}
+-- What a history tells of the past, and how it is shown: by the names that stand now, or were the
+-- last.
+use Rattle.std.specs.Prelude.{ℕ, ◌++◌, List, [], ◌∷◌, Bool, Option, Some, None, codes, map, nat_lt}
+use Rattle.std.specs.Prelude.{if◌then◌else◌}
 use Rattle.reg_terms.specs.declared.command.Stamped.{Stamped}
 use Rattle.reg_terms.specs.declared.kinds.Holder.{Holder}
 use Rattle.reg_terms.specs.declared.kinds.Holder.TheVariants as holder
@@ -21,7 +23,10 @@ use Rattle.reg_machine.specs.Past as machine
 
 -- ---- what is told
 
--- the facts at a moment, who was a member then (of a group, a person), when a person was a member of a group, what was changed, the groups that went in the order in which they did, each with the name that it had then, the same groups by id, each with the moment at which it went, the name that an object has or had last, and the definition of which an attribute was made
+-- the facts at a moment, who was a member then (of a group, a person), when a person was a member
+-- of a group, what was changed, the groups that went in the order in which they did, each with the
+-- name that it had then, the same groups by id, each with the moment at which it went, the name
+-- that an object has or had last, and the definition of which an attribute was made
 pub record Past : Type 0 where
   pub facts : ℕ → Lists
   pub was : ℕ → ℕ → ℕ → Bool
@@ -76,12 +81,16 @@ history_of p g (row ∷ rows) = map (span_shown row.text) (p.spans g row.id) ++ 
 
 -- what is told of a group's past
 abbrev pub group_past : Past → Lists → ℕ → ℕ → GroupPast
-group_past p f at g = record { members = texts_where (p.was at g) f.subjects; history = history_of p g f.subjects }
+group_past p f at g = record {
+  members = texts_where (p.was at g) f.subjects;
+  history = history_of p g f.subjects;
+}
 
 -- the last that passes a test
 abbrev pub last_where : {A : Type 0} → (A → Bool) → List A → Option A
 last_where test [] = None
-last_where test (x ∷ xs) = elim (last_where test xs) [ Some y ↦ Some y | None ↦ if test x then Some x else None ]
+last_where test (x ∷ xs) =
+    elim (last_where test xs) [ Some y ↦ Some y | None ↦ if test x then Some x else None ]
 
 -- of the groups that are gone the one that had this name, and went last
 abbrev pub gone_id : Past → List ℕ → Option ℕ
@@ -103,7 +112,14 @@ entity_text p (Some (holder.Group g)) = codes "g:gsa/" ++ p.last_name (object.Gr
 
 -- an entry, by texts
 abbrev pub entry_shown : Past → Entry → EntryShown
-entry_shown p e = record { at = e.at; entity = entity_text p e.entity; kind = e.kind; number = e.number; object = object_text p e.object; seq = e.seq }
+entry_shown p e = record {
+  at = e.at;
+  entity = entity_text p e.entity;
+  kind = e.kind;
+  number = e.number;
+  object = object_text p e.object;
+  seq = e.seq;
+}
 
 -- the whole log
 abbrev pub log_shown : Past → List EntryShown

@@ -1,5 +1,7 @@
 -- What is answered to a query: from what the caller may see, and from that alone.
-use Rattle.std.specs.Prelude.{⊤, ℕ, ◌==◌, ◌&&◌, List, [], Bool, false, not, Option, Some, None, Result, Ok, Err, map, filter, codes, length, take, drop, nat_lt, option_map, if◌then◌else◌}
+use Rattle.std.specs.Prelude.{⊤, ℕ, ◌==◌, ◌&&◌, List, [], Bool, false, not, Option, Some, None}
+use Rattle.std.specs.Prelude.{Result, Ok, Err, map, filter, codes, length, take, drop, nat_lt}
+use Rattle.std.specs.Prelude.{option_map, if◌then◌else◌}
 use Rattle.std.specs.List.{find, list_any}
 use Rattle.std.specs.Str.{bytes_eq}
 use Rattle.reg_base.specs.Entities.{entity_of}
@@ -9,7 +11,8 @@ use Rattle.reg_base.specs.declared.privilege.Privilege.{Privilege}
 use Rattle.reg_base.specs.declared.privilege.Privilege.TheVariants as privilege
 use Rattle.reg_terms.specs.Privileges.{line_of}
 use Rattle.reg_terms.specs.declared.refusal.Refusal.{Refusal}
-use Rattle.reg_terms.specs.declared.refusal.Refusal.TheVariants.{NoCaller, NotFound, Denied, Future, WrongKind}
+use Rattle.reg_terms.specs.declared.refusal.Refusal.TheVariants.{NoCaller, NotFound, Denied, Future}
+use Rattle.reg_terms.specs.declared.refusal.Refusal.TheVariants.{WrongKind}
 use Rattle.reg_terms.specs.declared.admin_shown.ConsumerShown.{ConsumerShown}
 use Rattle.reg_terms.specs.declared.query.Query.{Query}
 use Rattle.reg_terms.specs.declared.query.Query.TheVariants as query
@@ -18,7 +21,8 @@ use Rattle.reg_terms.specs.declared.query.Answer.TheVariants as answer
 use Rattle.reg_facts.specs.Children.{by_bytes, is_among}
 use Rattle.reg_facts.specs.Naming.{home_of}
 use Rattle.reg_view.specs.Past.{GroupPast, last_where}
-use Rattle.reg_view.specs.View.{View, AttributeSeen, GroupGone, GroupSeen, GroupRead, Administered, OwnerRead, Powers}
+use Rattle.reg_view.specs.View.{View, AttributeSeen, GroupGone, GroupSeen, GroupRead, Administered}
+use Rattle.reg_view.specs.View.{OwnerRead, Powers}
 
 -- ---- finding
 
@@ -67,7 +71,8 @@ seen v group = found_or (group_named v group) (NotFound group)
 
 -- a group as it is read, or READ is wanted
 abbrev pub read : View → List ℕ → Result GroupRead Refusal
-read v group = found_or (named (λ (g : GroupRead). g.name) v.readable group) (denied group privilege.Read)
+read v group =
+    found_or (named (λ (g : GroupRead). g.name) v.readable group) (denied group privilege.Read)
 
 -- of the groups that are gone the one that had this name last, and went last
 abbrev pub gone_named : View → List ℕ → Option GroupGone
@@ -78,7 +83,8 @@ abbrev pub past_told : View → List ℕ → Option GroupSeen → Result GroupPa
 past_told v group (Some _) = do
   g ← read v group
   Ok g.past
-past_told v group None = found_or (option_map (λ (g : GroupGone). g.past) (gone_named v group)) (NotFound group)
+past_told v group None =
+    found_or (option_map (λ (g : GroupGone). g.past) (gone_named v group)) (NotFound group)
 
 -- the past of the group of this name
 abbrev pub past_of : View → List ℕ → Result GroupPast Refusal
@@ -91,9 +97,12 @@ in_time now (Some at) = if nat_lt now at then Err (Future at now) else Ok tt
 
 -- ---- groups and folders
 
--- the names of what stands directly in a folder, in the order of their bytes; the root stands nowhere
+-- the names of what stands directly in a folder, in the order of their bytes; the root stands
+-- nowhere
 abbrev pub inside : List ℕ → List (List ℕ) → List (List ℕ)
-inside folder names = by_bytes (filter (λ (n : List ℕ). bytes_eq (home_of n) folder && not (bytes_eq n (codes ":"))) names)
+inside folder names =
+    by_bytes (filter (λ (n : List ℕ). bytes_eq (home_of n) folder
+    && not (bytes_eq n (codes ":"))) names)
 
 -- the display text of a group
 abbrev pub shown_group : View → List ℕ → Result Answer Refusal
@@ -105,7 +114,9 @@ shown_group v group = do
 abbrev pub shown_listing : View → List ℕ → Result Answer Refusal
 shown_listing v folder = do
   d ← found_or (folder_named v folder) (NotFound folder)
-  Ok (answer.FolderList (inside d (map (λ (a : AttributeSeen). a.name) v.attributes)) (inside d v.definitions) (inside d v.folders) (inside d (map (λ (g : GroupSeen). g.name) v.groups)))
+  Ok (answer.FolderList (inside d (map (λ (a : AttributeSeen). a.name) v.attributes))
+      (inside d v.definitions) (inside d v.folders)
+      (inside d (map (λ (g : GroupSeen). g.name) v.groups)))
 
 -- the members of a group, now or at a moment
 abbrev pub shown_members : View → List ℕ → Option ℕ → Result Answer Refusal
@@ -131,7 +142,8 @@ shown_rows v group = do
 
 -- what an entity text names: a subject, a group that is seen, or an entity of the registry itself
 abbrev pub entity_seen : View → Entity → Result Entity Refusal
-entity_seen v (entity.Person text) = if is_among text v.subjects then Ok (entity.Person text) else Err (NotFound text)
+entity_seen v (entity.Person text) =
+    if is_among text v.subjects then Ok (entity.Person text) else Err (NotFound text)
 entity_seen v (entity.Group name) = do
   _ ← seen v name
   Ok (entity.Group name)
@@ -140,7 +152,9 @@ entity_seen v entity.Everyone = Ok entity.Everyone
 
 -- of the groups that the caller may read, those of which the person is a member at the moment asked
 abbrev pub groups_with : View → Entity → Result Answer Refusal
-groups_with v (entity.Person text) = Ok (answer.Groups (map (λ (g : GroupRead). g.name) (filter (λ (g : GroupRead). is_among text g.past.members) v.readable)))
+groups_with v (entity.Person text) =
+    Ok (answer.Groups (map (λ (g : GroupRead). g.name)
+    (filter (λ (g : GroupRead). is_among text g.past.members) v.readable)))
 groups_with v (entity.Group name) = Err (WrongKind (codes "subject"))
 groups_with v entity.System = Err (WrongKind (codes "subject"))
 groups_with v entity.Everyone = Err (WrongKind (codes "subject"))
@@ -161,7 +175,8 @@ pub data Kind : Type 0 where
   ADefinition : Kind
   AnAttribute : List ℕ → Kind
 
--- what an object text names: what has a name, a subject by its text, or an entity of the registry itself
+-- what an object text names: what has a name, a subject by its text, or an entity of the registry
+-- itself
 pub data Meant : Type 0 where
   Named : List ℕ → Kind → Meant
   ASubject : List ℕ → Meant
@@ -183,7 +198,11 @@ object_named v text =
                 elim (definition_named v text) [
                   | Some _ ↦ Ok (Named text ADefinition)
                   | None ↦
-                      elim (attribute_named v text) [ Some a ↦ Ok (Named text (AnAttribute a.definition)) | None ↦ Err (NotFound text) ]
+                      elim (attribute_named v text) [
+                        | Some a ↦ Ok (Named text (AnAttribute a.definition))
+                        | None ↦ Err
+                            (NotFound text)
+                      ]
                 ]
           ]
     ]
@@ -204,7 +223,8 @@ entity_meant v text (Some e) = do
 
 -- what an object text names, if the caller sees it: an entity, or an object by its name
 abbrev pub object_seen : View → List ℕ → Result Meant Refusal
-object_seen v text = if is_entity_text text then entity_meant v text (entity_of text) else object_named v text
+object_seen v text =
+    if is_entity_text text then entity_meant v text (entity_of text) else object_named v text
 
 -- what is answered to who isn't an object's admin
 abbrev pub not_admin : List ℕ → Kind → Refusal
@@ -215,7 +235,8 @@ not_admin name (AnAttribute definition) = denied definition privilege.AttrAdmin
 
 -- what the object's admin is told
 abbrev pub as_admin : View → List ℕ → Kind → Result Administered Refusal
-as_admin v name kind = found_or (named (λ (a : Administered). a.name) v.administered name) (not_admin name kind)
+as_admin v name kind =
+    found_or (named (λ (a : Administered). a.name) v.administered name) (not_admin name kind)
 
 -- root is told, and is told this
 abbrev pub as_root : View → Result Answer Refusal → Result Answer Refusal
@@ -289,7 +310,8 @@ other_told v at (Named name kind) e = do
 other_told v at (ASubject text) e = as_root v (timed v at (nothing_for e))
 other_told v at Internal e = timed v at (Err (WrongKind (codes "object")))
 
--- what an entity may do with what this text names: the caller may ask it of itself, and the object's admin of anyone
+-- what an entity may do with what this text names: the caller may ask it of itself, and the
+-- object's admin of anyone
 abbrev pub shown_may : View → List ℕ → Entity → Option ℕ → Result Answer Refusal
 shown_may v object entity at = do
   o ← object_seen v object
@@ -304,12 +326,17 @@ owner_told v at owners name refusal = do
   o ← found_or (named (λ (o : OwnerRead). o.name) owners name) refusal
   timed v at (Ok (answer.Attributes o.assignments))
 
--- the attributes of what is meant by this text, now or at a moment: of a folder or a group by its name, or of a person; anything else owns none
+-- the attributes of what is meant by this text, now or at a moment: of a folder or a group by its
+-- name, or of a person; anything else owns none
 abbrev pub attributes_on : View → Option ℕ → List ℕ → Meant → Result Answer Refusal
-attributes_on v at text (Named name AFolder) = owner_told v at v.owners name (denied name privilege.StemAttrRead)
-attributes_on v at text (Named name AGroup) = if is_entity_text text then timed v at (Err (WrongKind (codes "object"))) else owner_told v at v.owners name (denied name privilege.GroupAttrRead)
+attributes_on v at text (Named name AFolder) =
+    owner_told v at v.owners name (denied name privilege.StemAttrRead)
+attributes_on v at text (Named name AGroup) =
+    if is_entity_text text then timed v at (Err (WrongKind (codes "object")))
+    else owner_told v at v.owners name (denied name privilege.GroupAttrRead)
 attributes_on v at text (Named name ADefinition) = timed v at (Err (WrongKind (codes "object")))
-attributes_on v at text (Named name (AnAttribute definition)) = timed v at (Err (WrongKind (codes "object")))
+attributes_on v at text (Named name (AnAttribute definition)) =
+    timed v at (Err (WrongKind (codes "object")))
 attributes_on v at text (ASubject person) = owner_told v at v.persons person (NotFound person)
 attributes_on v at text Internal = timed v at (Err (WrongKind (codes "object")))
 

@@ -1,5 +1,7 @@
--- What a refusal may name: what the query names, the root folder, and the definition of an attribute that the caller sees.
-use Rattle.std.specs.Prelude.{◌≡◌, ⊤, ◌||◌, ◌++◌, ℕ, List, [], ◌∷◌, Bool, true, Some, None, Result, Ok, Err, codes}
+-- What a refusal may name: what the query names, the root folder, and the definition of an
+-- attribute that the caller sees.
+use Rattle.std.specs.Prelude.{◌≡◌, ⊤, ◌||◌, ◌++◌, ℕ, List, [], ◌∷◌, Bool, true, Some, None, Result}
+use Rattle.std.specs.Prelude.{Ok, Err, codes}
 use Rattle.std.specs.List.{list_any}
 use Rattle.std.specs.Str.{bytes_eq}
 use Rattle.reg_base.specs.Entities.{entity_of}
@@ -44,7 +46,8 @@ is_definition v text = list_any (λ (a : AttributeSeen). bytes_eq a.definition t
 -- a refusal tells nothing else
 abbrev pub TellsOf : View → List (List ℕ) → Refusal → Type 0
 TellsOf v names (NotFound text) = is_among text names ≡ true
-TellsOf v names (Denied text p) = (is_among text names || (bytes_eq text (codes ":") || is_definition v text)) ≡ true
+TellsOf v names (Denied text p) =
+    (is_among text names || (bytes_eq text (codes ":") || is_definition v text)) ≡ true
 TellsOf v names _ = ⊤
 
 -- a refusal, if it is one, does so

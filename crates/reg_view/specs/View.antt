@@ -1,4 +1,5 @@
--- What a caller may see of the registry: all that an answer may tell. There are names in it and no ids, so that it is the same whatever else stands in the registry.
+-- What a caller may see of the registry: all that an answer may tell. There are names in it and no
+-- ids, so that it is the same whatever else stands in the registry.
 use Rattle.std.specs.Prelude.{ℕ, ◌++◌, List, [], Bool, true, false, Option, Some, None, map, filter}
 use Rattle.reg_base.specs.Entities.{entity_of}
 use Rattle.reg_base.specs.declared.privilege.Privilege.{Privilege}
@@ -31,7 +32,8 @@ use Rattle.reg_priv.specs.Holders.{holders}
 use Rattle.reg_priv.specs.May.{is_root, may, visible, who_of}
 use Rattle.reg_view.specs.Past.{Past, GroupPast, group_past, log_shown}
 use Rattle.reg_view.specs.Powers.{powers_then}
-use Rattle.reg_view.specs.Texts.{row_shown, composite_shown, grant_shown, assign_shown, consumer_shown, definition_name, gone_shown, job_shown, rule_shown}
+use Rattle.reg_view.specs.Texts.{row_shown, composite_shown, grant_shown, assign_shown}
+use Rattle.reg_view.specs.Texts.{consumer_shown, definition_name, gone_shown, job_shown, rule_shown}
 
 -- ---- the record
 
@@ -62,19 +64,24 @@ pub record Powers : Type 0 where
   pub name : List ℕ
   pub privileges : List Privilege
 
--- an object whose admin the caller is: the grants on it at the moment asked, and what GrouperSystem and each person could do with it then
+-- an object whose admin the caller is: the grants on it at the moment asked, and what GrouperSystem
+-- and each person could do with it then
 pub record Administered : Type 0 where
   pub name : List ℕ
   pub grants : List GrantShown
   pub system : List Privilege
   pub persons : List Powers
 
--- an owner whose attributes the caller may read, under its name or text: the assignments to it at the moment asked on whose definition the caller has attrRead
+-- an owner whose attributes the caller may read, under its name or text: the assignments to it at
+-- the moment asked on whose definition the caller has attrRead
 pub record OwnerRead : Type 0 where
   pub name : List ℕ
   pub assignments : List AssignShown
 
--- what a caller may see; the owners are folders and groups, and the attributes of persons are told to all; consumers, the log, the groups that are gone, loader jobs and rules are root's alone. A subject has no grants and no privileges are on it, so it is among the objects of neither list of privileges
+-- what a caller may see; the owners are folders and groups, and the attributes of persons are told
+-- to all; consumers, the log, the groups that are gone, loader jobs and rules are root's alone. A
+-- subject has no grants and no privileges are on it, so it is among the objects of neither list of
+-- privileges
 pub record View : Type 0 where
   pub now : ℕ
   pub caller : List ℕ
@@ -99,7 +106,28 @@ pub record View : Type 0 where
 
 -- who doesn't stand sees nothing
 abbrev pub blank : ℕ → List ℕ → View
-blank now by = record { now = now; caller = by; stands = false; is_root = false; folders = []; subjects = []; groups = []; definitions = []; attributes = []; readable = []; administered = []; own = []; owners = []; persons = []; consumers = []; log = []; gone = []; gone_by_id = []; jobs = []; rules = [] }
+blank now by = record {
+  now = now;
+  caller = by;
+  stands = false;
+  is_root = false;
+  folders = [];
+  subjects = [];
+  groups = [];
+  definitions = [];
+  attributes = [];
+  readable = [];
+  administered = [];
+  own = [];
+  owners = [];
+  persons = [];
+  consumers = [];
+  log = [];
+  gone = [];
+  gone_by_id = [];
+  jobs = [];
+  rules = [];
+}
 
 -- ---- what it holds
 
@@ -118,7 +146,9 @@ attribute_object row = object.Attr row.id
 
 -- all objects that have names
 abbrev pub objects : Lists → List Object
-objects f = map folder_object f.folders ++ map group_object f.groups ++ map definition_object f.definitions ++ map attribute_object f.attributes
+objects f =
+    map folder_object f.folders ++ map group_object f.groups ++ map definition_object f.definitions
+    ++ map attribute_object f.attributes
 
 -- the rows whose objects pass a test, as they are shown
 abbrev pub shown_where : {R A : Type 0} → (R → Object) → (Object → Bool) → (R → A) → List R → List A
@@ -141,7 +171,10 @@ abbrev pub group_seen : Lists → GroupRow → GroupSeen
 group_seen f row = record { name = name_of (object.Group row.id) f; display = row.display }
 
 abbrev pub attribute_seen : Lists → AttributeRow → AttributeSeen
-attribute_seen f row = record { name = name_of (object.Attr row.id) f; definition = definition_name f row }
+attribute_seen f row = record {
+  name = name_of (object.Attr row.id) f;
+  definition = definition_name f row;
+}
 
 -- a group, as it is read: its past at a moment
 abbrev pub group_read : Past → Lists → ℕ → GroupRow → GroupRead
@@ -167,7 +200,10 @@ powers_at p f at c o = powers_then f at (p.facts at) c o
 
 -- what a person could do with an object at a moment
 abbrev pub person_powers : Past → Lists → ℕ → Object → SubjectRow → Powers
-person_powers p f at o row = record { name = row.text; privileges = powers_at p f at (who.Person row.id) o }
+person_powers p f at o row = record {
+  name = row.text;
+  privileges = powers_at p f at (who.Person row.id) o;
+}
 
 -- an object, as its admin is told of it: the grants on it at a moment, and who could do what then
 abbrev pub administered : Past → Lists → ℕ → Object → Administered
@@ -182,7 +218,8 @@ administered p f at o = record {
 abbrev pub own_powers : Past → Lists → ℕ → Who → Object → Powers
 own_powers p f at c o = record { name = name_of o f; privileges = powers_at p f at c o }
 
--- whether the caller may read the attributes of an owner: of a folder or a group by a privilege on it, and of a person always; a definition and an attribute own none
+-- whether the caller may read the attributes of an owner: of a folder or a group by a privilege on
+-- it, and of a person always; a definition and an attribute own none
 abbrev pub reads_owner : Live → Lists → Who → Object → Bool
 reads_owner L f c (object.Folder d) = may L f c (object.Folder d) privilege.StemAttrRead
 reads_owner L f c (object.Group g) = may L f c (object.Group g) privilege.GroupAttrRead
@@ -190,13 +227,16 @@ reads_owner L f c (object.Def a) = false
 reads_owner L f c (object.Attr a) = false
 reads_owner L f c (object.Subject s) = true
 
--- whether the caller may read the assignments of an attribute: by attrRead now on the definition of which it was made; on one that is gone root alone has it
+-- whether the caller may read the assignments of an attribute: by attrRead now on the definition of
+-- which it was made; on one that is gone root alone has it
 abbrev pub reads_attribute : Past → Live → Lists → Who → ℕ → Bool
-reads_attribute p L f c a = elim (p.def_of a) [ None ↦ false | Some d ↦ may L f c (object.Def d) privilege.AttrRead ]
+reads_attribute p L f c a =
+    elim (p.def_of a) [ None ↦ false | Some d ↦ may L f c (object.Def d) privilege.AttrRead ]
 
 -- of some assignments those that the caller may read
 abbrev pub assigns_shown : Past → Live → Lists → Who → List AssignRow → List AssignShown
-assigns_shown p L f c rows = map (assign_shown p) (filter (λ (row : AssignRow). reads_attribute p L f c row.attribute) rows)
+assigns_shown p L f c rows =
+    map (assign_shown p) (filter (λ (row : AssignRow). reads_attribute p L f c row.attribute) rows)
 
 -- those to an owner at a moment
 abbrev pub owned : Past → Live → Lists → Who → ℕ → Object → List AssignShown
@@ -207,19 +247,25 @@ abbrev pub owner_read : Past → Live → Lists → Who → ℕ → Object → O
 owner_read p L f c at o = record { name = name_of o f; assignments = owned p L f c at o }
 
 abbrev pub person_read : Past → Live → Lists → Who → ℕ → SubjectRow → OwnerRead
-person_read p L f c at row = record { name = row.text; assignments = owned p L f c at (object.Subject row.id) }
+person_read p L f c at row = record {
+  name = row.text;
+  assignments = owned p L f c at (object.Subject row.id);
+}
 
--- what a caller that stands may see, of the past what was at a moment: whether it may see it is judged now
+-- what a caller that stands may see, of the past what was at a moment: whether it may see it is
+-- judged now
 abbrev pub seen_by : Past → Live → Lists → ℕ → ℕ → List ℕ → Who → View
 seen_by p L f now at by c = record {
   now = now;
   caller = by;
   stands = true;
   is_root = is_root L f c;
-  folders = shown_where folder_object (visible L f c) (λ (row : FolderRow). name_of (object.Folder row.id) f) f.folders;
+  folders = shown_where folder_object (visible L f c)
+      (λ (row : FolderRow). name_of (object.Folder row.id) f) f.folders;
   subjects = map (λ (row : SubjectRow). row.text) f.subjects;
   groups = shown_where group_object (visible L f c) (group_seen f) f.groups;
-  definitions = shown_where definition_object (visible L f c) (λ (row : DefinitionRow). name_of (object.Def row.id) f) f.definitions;
+  definitions = shown_where definition_object (visible L f c)
+      (λ (row : DefinitionRow). name_of (object.Def row.id) f) f.definitions;
   attributes = shown_where attribute_object (visible L f c) (attribute_seen f) f.attributes;
   readable = shown_where group_object (is_readable L f c) (group_read p f at) f.groups;
   administered = shown_where (λ (o : Object). o) (is_admin L f c) (administered p f at) (objects f);
@@ -238,6 +284,8 @@ seen_by p L f now at by c = record {
 abbrev pub caller_of : List ℕ → Lists → Option Who
 caller_of by f = elim (entity_of by) [ None ↦ None | Some e ↦ who_of e f ]
 
--- what is seen by a caller of this text where these are the facts and this was the past, which is asked at a moment
+-- what is seen by a caller of this text where these are the facts and this was the past, which is
+-- asked at a moment
 abbrev pub view_of : Past → Live → Lists → ℕ → ℕ → List ℕ → View
-view_of p L f now at by = elim (caller_of by f) [ None ↦ blank now by | Some c ↦ seen_by p L f now at by c ]
+view_of p L f now at by =
+    elim (caller_of by f) [ None ↦ blank now by | Some c ↦ seen_by p L f now at by c ]

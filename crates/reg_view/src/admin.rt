@@ -5,7 +5,8 @@ ghost use Rattle.reg_terms.specs.declared.admin_shown.FormShown.TheVariants as f
 ghost use Rattle.reg_terms.specs.declared.kinds.Object.TheVariants as object;
 ghost use Rattle.reg_view.specs.Answers.{admin_of, admin_told};
 ghost use Rattle.reg_view.specs.Past.{past_at};
-ghost use Rattle.reg_view.specs.Texts.{consumer_shown, form_shown, gone_shown, holder_text, job_shown, rule_shown};
+ghost use Rattle.reg_view.specs.Texts.{consumer_shown, form_shown, gone_shown, holder_text};
+ghost use Rattle.reg_view.specs.Texts.{job_shown, rule_shown};
 
 use crate::Answer;
 use crate::administering::root_denied;
@@ -57,7 +58,8 @@ fn groups_shown<K: Kept>(
 
 /// The groups that are gone. They cost what they are.
 fn gone_shown<K: Kept>(alloc: Global, machine: &Machine<K>) -> Result<GonesShown, AllocError>
-    ensures { IfOk result (λ shown. shown ≡ map (gone_shown (past_at machine.now)) (past_at machine.now).gone_by_id) }
+    ensures { IfOk result (λ shown. shown
+        ≡ map (gone_shown (past_at machine.now)) (past_at machine.now).gone_by_id) }
 {
     let rows = machine.gone_by_id(alloc)?;
     groups_shown(alloc, machine, &rows)
@@ -104,7 +106,9 @@ fn remove_lost_shown(
     check: GroupId,
     owner: GroupId,
 ) -> Result<FormShown, AllocError>
-    ensures { IfOk result (λ shown. shown ≡ form.RemoveLost (name_of (object.Group check) facts.now) (name_of (object.Group owner) facts.now)) }
+    ensures { IfOk result (λ shown. shown
+        ≡ form.RemoveLost (name_of (object.Group check) facts.now)
+        (name_of (object.Group owner) facts.now)) }
 {
     let check = group_name(alloc, facts, check)?;
     let owner = group_name(alloc, facts, owner)?;
@@ -118,7 +122,9 @@ fn end_lost_shown(
     owner: GroupId,
     days: u32,
 ) -> Result<FormShown, AllocError>
-    ensures { IfOk result (λ shown. shown ≡ form.EndLost (name_of (object.Group check) facts.now) (name_of (object.Group owner) facts.now) days) }
+    ensures { IfOk result (λ shown. shown
+        ≡ form.EndLost (name_of (object.Group check) facts.now)
+        (name_of (object.Group owner) facts.now) days) }
 {
     let check = group_name(alloc, facts, check)?;
     let owner = group_name(alloc, facts, owner)?;
@@ -131,7 +137,9 @@ fn veto_shown(
     owner: GroupId,
     condition: GroupId,
 ) -> Result<FormShown, AllocError>
-    ensures { IfOk result (λ shown. shown ≡ form.Veto (name_of (object.Group owner) facts.now) (name_of (object.Group condition) facts.now)) }
+    ensures { IfOk result (λ shown. shown
+        ≡ form.Veto (name_of (object.Group owner) facts.now)
+        (name_of (object.Group condition) facts.now)) }
 {
     let owner = group_name(alloc, facts, owner)?;
     let condition = group_name(alloc, facts, condition)?;
@@ -147,7 +155,9 @@ fn on_create_shown<K: Kept>(
     privilege: Privilege,
     holder: &Holder,
 ) -> Result<FormShown, AllocError>
-    ensures { IfOk result (λ shown. shown ≡ form.OnCreate (name_of (object.Folder folder) facts.now) scope privilege (holder_text (past_at machine.now) facts.now holder.now)) }
+    ensures { IfOk result (λ shown. shown
+        ≡ form.OnCreate (name_of (object.Folder folder) facts.now) scope privilege
+        (holder_text (past_at machine.now) facts.now holder.now)) }
 {
     let folder = object_name(alloc, facts, &Object::Folder(folder))?;
     let holder = holder_text(alloc, machine, facts, holder)?;
@@ -190,7 +200,8 @@ fn rules_shown<K: Kept>(
     facts: &Facts,
     rows: &[RuleRow],
 ) -> Result<RulesShown, AllocError>
-    ensures { IfOk result (λ shown. shown ≡ map (rule_shown (past_at machine.now) facts.now) rows.now) }
+    ensures { IfOk result (λ shown. shown
+        ≡ map (rule_shown (past_at machine.now) facts.now) rows.now) }
 {
     let mut shown = RulesShown::new(alloc);
     for row in rows {
@@ -228,7 +239,8 @@ pub fn admin_of<K: Kept>(
     kept: &K,
     who: &Who,
 ) -> Result<Result<Answer, Refusal>, AllocError>
-    ensures { IfOk result (λ r. r ≡ admin_of (past_at machine.now) (K.held kept.now) facts.now who.now) }
+    ensures { IfOk result (λ r. r
+        ≡ admin_of (past_at machine.now) (K.held kept.now) facts.now who.now) }
 {
     if !is_root(facts, kept, who) {
         return Ok(Err(root_denied(alloc)?));

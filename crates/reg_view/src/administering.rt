@@ -74,7 +74,8 @@ fn grants_shown<K: Kept>(
     facts: &Facts,
     grants: &[(Privilege, Holder)],
 ) -> Result<GrantsShown, AllocError>
-    ensures { IfOk result (λ shown. shown ≡ map (grant_shown (past_at machine.now) facts.now) grants.now) }
+    ensures { IfOk result (λ shown. shown
+        ≡ map (grant_shown (past_at machine.now) facts.now) grants.now) }
 {
     let mut shown = GrantsShown::new(alloc);
     for grant in grants {
@@ -94,7 +95,9 @@ fn grants_now<K: Kept>(
     facts: &Facts,
     object: &Object,
 ) -> Result<Answer, AllocError>
-    ensures { IfOk result (λ r. r ≡ answer.Grants (map (grant_shown (past_at machine.now) facts.now) (holders object.now facts.now))) }
+    ensures { IfOk result (λ r. r
+        ≡ answer.Grants (map (grant_shown (past_at machine.now) facts.now)
+        (holders object.now facts.now))) }
 {
     let found = holders(alloc, facts, object)?;
     let grants = grants_shown(alloc, machine, facts, &found)?;
@@ -111,7 +114,9 @@ fn grants_then<K: Kept>(
     at: Moment,
 ) -> Result<Answer, AllocError>
     requires { at ≤ machine.now.clock }
-    ensures { IfOk result (λ r. r ≡ answer.Grants (map (grant_shown (past_at machine.now) facts.now) (holders object.now ((past_at machine.now).facts at)))) }
+    ensures { IfOk result (λ r. r
+        ≡ answer.Grants (map (grant_shown (past_at machine.now) facts.now)
+        (holders object.now ((past_at machine.now).facts at)))) }
 {
     let found = machine.grants_at(*object, at)?;
     let grants = grants_shown(alloc, machine, facts, &found)?;
@@ -126,7 +131,8 @@ fn all_grants<K: Kept>(
     object: &Object,
     at: Option<Moment>,
 ) -> Result<Result<Answer, Refusal>, AllocError>
-    ensures { IfOk result (λ r. r ≡ all_grants (past_at machine.now) facts.now machine.now.clock object.now at) }
+    ensures { IfOk result (λ r. r
+        ≡ all_grants (past_at machine.now) facts.now machine.now.clock object.now at) }
 {
     let Some(asked) = at else {
         let answer = grants_now(alloc, machine, facts, object)?;
@@ -147,7 +153,8 @@ fn grants_told<K: Kept>(
     object: &Object,
     at: Option<Moment>,
 ) -> Result<Result<Answer, Refusal>, AllocError>
-    ensures { IfOk result (λ r. r ≡ grants_told (past_at machine.now) facts.now machine.now.clock object.now at) }
+    ensures { IfOk result (λ r. r
+        ≡ grants_told (past_at machine.now) facts.now machine.now.clock object.now at) }
 {
     match object {
         Object::Folder(_) | Object::Group(_) | Object::Def(_) => {
@@ -167,7 +174,9 @@ fn grants_on<K: Kept>(
     found: &Option<Object>,
     at: Option<Moment>,
 ) -> Result<Result<Answer, Refusal>, AllocError>
-    ensures { IfOk result (λ r. r ≡ grants_on (past_at machine.now) (K.held kept.now) facts.now machine.now.clock who.now found.now at) }
+    ensures { IfOk result (λ r. r
+        ≡ grants_on (past_at machine.now)
+        (K.held kept.now) facts.now machine.now.clock who.now found.now at) }
 {
     let Some(object) = found else {
         return unfit(alloc, "object", machine.clock(), at);
@@ -188,7 +197,9 @@ pub fn grants_of<K: Kept>(
     object: &Text,
     at: Option<Moment>,
 ) -> Result<Result<Answer, Refusal>, AllocError>
-    ensures { IfOk result (λ r. r ≡ grants_of (past_at machine.now) (K.held kept.now) facts.now machine.now.clock who.now object.now at) }
+    ensures { IfOk result (λ r. r
+        ≡ grants_of (past_at machine.now)
+        (K.held kept.now) facts.now machine.now.clock who.now object.now at) }
 {
     let found = match object_found(alloc, facts, kept, who, object)? {
         Ok(found) => found,

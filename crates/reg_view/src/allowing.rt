@@ -37,7 +37,9 @@ fn powers_of<K: Kept>(
     object: &Object,
     at: Option<Moment>,
 ) -> Result<Result<Answer, Refusal>, AllocError>
-    ensures { IfOk result (λ r. r ≡ powers_of (past_at machine.now) (K.held kept.now) facts.now machine.now.clock who.now object.now at) }
+    ensures { IfOk result (λ r. r
+        ≡ powers_of (past_at machine.now)
+        (K.held kept.now) facts.now machine.now.clock who.now object.now at) }
 {
     let Some(asked) = at else {
         let privileges = privileges_of(alloc, facts, kept, who, object)?;
@@ -60,7 +62,9 @@ fn powers_told<K: Kept>(
     object: &Object,
     at: Option<Moment>,
 ) -> Result<Result<Answer, Refusal>, AllocError>
-    ensures { IfOk result (λ r. r ≡ powers_told (past_at machine.now) (K.held kept.now) facts.now machine.now.clock someone.now object.now at) }
+    ensures { IfOk result (λ r. r
+        ≡ powers_told (past_at machine.now)
+        (K.held kept.now) facts.now machine.now.clock someone.now object.now at) }
 {
     match someone {
         Some(who) => powers_of(alloc, machine, facts, kept, who, object, at),
@@ -78,7 +82,9 @@ fn own_told<K: Kept>(
     found: &Option<Object>,
     at: Option<Moment>,
 ) -> Result<Result<Answer, Refusal>, AllocError>
-    ensures { IfOk result (λ r. r ≡ own_told (past_at machine.now) (K.held kept.now) facts.now machine.now.clock who.now found.now at) }
+    ensures { IfOk result (λ r. r
+        ≡ own_told (past_at machine.now)
+        (K.held kept.now) facts.now machine.now.clock who.now found.now at) }
 {
     match found {
         Some(object) => powers_of(alloc, machine, facts, kept, who, object, at),
@@ -97,7 +103,9 @@ fn other_told<K: Kept>(
     entity: &Entity,
     at: Option<Moment>,
 ) -> Result<Result<Answer, Refusal>, AllocError>
-    ensures { IfOk result (λ r. r ≡ other_told (past_at machine.now) (K.held kept.now) facts.now machine.now.clock who.now found.now entity.now at) }
+    ensures { IfOk result (λ r. r
+        ≡ other_told (past_at machine.now)
+        (K.held kept.now) facts.now machine.now.clock who.now found.now entity.now at) }
 {
     let Some(object) = found else {
         return unfit(alloc, "object", machine.clock(), at);
@@ -122,7 +130,9 @@ pub fn may_of<K: Kept>(
     entity: &Entity,
     at: Option<Moment>,
 ) -> Result<Result<Answer, Refusal>, AllocError>
-    ensures { IfOk result (λ r. r ≡ may_of (past_at machine.now) (K.held kept.now) facts.now machine.now.clock by.now who.now object.now entity.now at) }
+    ensures { IfOk result (λ r. r
+        ≡ may_of (past_at machine.now)
+        (K.held kept.now) facts.now machine.now.clock by.now who.now object.now entity.now at) }
 {
     let found = match object_found(alloc, facts, kept, who, object)? {
         Ok(found) => found,

@@ -47,7 +47,9 @@ fn answer_of<K: Kept>(
     query: &Query,
 ) -> Result<Result<Answer, Refusal>, AllocError>
     requires { facts.now ≡ given.facts machine.now.history machine.now.clock }
-    ensures { IfOk result (λ r. r ≡ answer_of (past_at machine.now) (K.held kept.now) facts.now machine.now.clock by.now who.now query.now) }
+    ensures { IfOk result (λ r. r
+        ≡ answer_of (past_at machine.now)
+        (K.held kept.now) facts.now machine.now.clock by.now who.now query.now) }
 {
     match query {
         Query::GroupGet { group } => group_of(alloc, facts, kept, who, group),
@@ -79,11 +81,17 @@ pub fn answer<K: Kept>(
     query: &Query,
 ) -> Result<Result<Answer, Refusal>, AllocError>
     requires here { facts.now ≡ given.facts machine.now.history machine.now.clock }
-    requires held { K.held kept.now ≡ live machine.now.clock (given.facts machine.now.history machine.now.clock) }
-    ensures shown { IfOk result (λ r. r ≡ show (view_of (past_at machine.now) (K.held kept.now) facts.now machine.now.clock (asked_at machine.now.clock query.now) by.now) query.now) }
+    requires held { K.held kept.now
+        ≡ live machine.now.clock (given.facts machine.now.history machine.now.clock) }
+    ensures shown { IfOk result (λ r. r
+        ≡ show (view_of (past_at machine.now) (K.held kept.now) facts.now machine.now.clock
+        (asked_at machine.now.clock query.now) by.now) query.now) }
 
     // A group that the caller doesn't see is answered as a name that no group has.
-    ensures unseen { IfOk result (λ r. (group : List ℕ) → AsksOf group query.now → IsUnseen (K.held kept.now) facts.now by.now group → IsOfNoneGone (past_at machine.now) (K.held kept.now) facts.now by.now query.now → r ≡ Err (Refusal.NotFound group)) }
+    ensures unseen { IfOk result (λ r. (group : List ℕ) → AsksOf group query.now
+        → IsUnseen (K.held kept.now) facts.now by.now group
+        → IsOfNoneGone (past_at machine.now) (K.held kept.now) facts.now by.now query.now
+        → r ≡ Err (Refusal.NotFound group)) }
 {
     let caller = caller_of(alloc, facts, by)?;
     let Some(who) = caller else {

@@ -2,7 +2,8 @@
 ghost use Rattle.std.specs.Prelude.{◌≡◌, ◌≤◌, IfOk};
 ghost use Rattle.reg_facts.specs.Attributes.{assigns_on};
 ghost use Rattle.reg_terms.specs.declared.kinds.Object.TheVariants as object;
-ghost use Rattle.reg_view.specs.Answers.{attributes_of, attributes_of_object, attributes_told, owner_told};
+ghost use Rattle.reg_view.specs.Answers.{attributes_of, attributes_of_object, attributes_told};
+ghost use Rattle.reg_view.specs.Answers.{owner_told};
 ghost use Rattle.reg_view.specs.Past.{past_at};
 ghost use Rattle.reg_view.specs.Texts.{assign_shown};
 ghost use Rattle.reg_view.specs.View.{assigns_shown, owned, reads_attribute};
@@ -20,8 +21,8 @@ use reg_priv::{Who, may};
 use reg_terms::{AssignShown, AssignsShown};
 use std::alloc::{AllocError, Global};
 
-/// Whether the caller may read the assignments of an attribute: by attrRead now on the definition of
-/// which it was made.
+/// Whether the caller may read the assignments of an attribute: by attrRead now on the definition
+/// of which it was made.
 fn reads_attribute<K: Kept>(
     machine: &Machine<K>,
     facts: &Facts,
@@ -29,7 +30,8 @@ fn reads_attribute<K: Kept>(
     who: &Who,
     attribute: AttrId,
 ) -> bool
-    ensures { result ≡ reads_attribute (past_at machine.now) (K.held kept.now) facts.now who.now attribute }
+    ensures { result ≡ reads_attribute (past_at machine.now)
+        (K.held kept.now) facts.now who.now attribute }
 {
     match machine.def_of(attribute) {
         Some(id) => may(facts, kept, who, &Object::Def(id), Privilege::AttrRead),
@@ -68,7 +70,8 @@ fn assigns_shown<K: Kept>(
     who: &Who,
     rows: Vec<AssignRow>,
 ) -> Result<AssignsShown, AllocError>
-    ensures { IfOk result (λ shown. shown ≡ assigns_shown (past_at machine.now) (K.held kept.now) facts.now who.now rows.items) }
+    ensures { IfOk result (λ shown. shown
+        ≡ assigns_shown (past_at machine.now) (K.held kept.now) facts.now who.now rows.items) }
 {
     let mut shown = AssignsShown::new(alloc);
     for row in rows {
@@ -90,14 +93,16 @@ fn assigns_now<K: Kept>(
     who: &Who,
     owner: &Object,
 ) -> Result<AssignsShown, AllocError>
-    ensures { IfOk result (λ shown. shown ≡ assigns_shown (past_at machine.now) (K.held kept.now) facts.now who.now (assigns_on owner.now facts.now.assigns)) }
+    ensures { IfOk result (λ shown. shown
+        ≡ assigns_shown (past_at machine.now) (K.held kept.now) facts.now who.now
+        (assigns_on owner.now facts.now.assigns)) }
 {
     let rows = facts.assigns_on(alloc, owner)?;
     assigns_shown(alloc, machine, facts, kept, who, rows)
 }
 
-/// Of the assignments to an owner at a moment those that the caller may read now. They cost what was
-/// ever assigned to the owner.
+/// Of the assignments to an owner at a moment those that the caller may read now. They cost what
+/// was ever assigned to the owner.
 fn assigns_then<K: Kept>(
     alloc: Global,
     machine: &Machine<K>,
@@ -108,7 +113,8 @@ fn assigns_then<K: Kept>(
     at: Moment,
 ) -> Result<AssignsShown, AllocError>
     requires { at ≤ machine.now.clock }
-    ensures { IfOk result (λ shown. shown ≡ owned (past_at machine.now) (K.held kept.now) facts.now who.now at owner.now) }
+    ensures { IfOk result (λ shown. shown
+        ≡ owned (past_at machine.now) (K.held kept.now) facts.now who.now at owner.now) }
 {
     let rows = machine.assigns_at(*owner, at)?;
     assigns_shown(alloc, machine, facts, kept, who, rows)
@@ -124,7 +130,9 @@ fn attributes_told<K: Kept>(
     owner: &Object,
     at: Option<Moment>,
 ) -> Result<Result<Answer, Refusal>, AllocError>
-    ensures { IfOk result (λ r. r ≡ attributes_told (past_at machine.now) (K.held kept.now) facts.now machine.now.clock who.now owner.now at) }
+    ensures { IfOk result (λ r. r
+        ≡ attributes_told (past_at machine.now)
+        (K.held kept.now) facts.now machine.now.clock who.now owner.now at) }
 {
     let Some(asked) = at else {
         let assignments = assigns_now(alloc, machine, facts, kept, who, owner)?;
@@ -148,7 +156,9 @@ fn owner_told<K: Kept>(
     wanted: Privilege,
     at: Option<Moment>,
 ) -> Result<Result<Answer, Refusal>, AllocError>
-    ensures { IfOk result (λ r. r ≡ owner_told (past_at machine.now) (K.held kept.now) facts.now machine.now.clock who.now owner.now wanted at) }
+    ensures { IfOk result (λ r. r
+        ≡ owner_told (past_at machine.now)
+        (K.held kept.now) facts.now machine.now.clock who.now owner.now wanted at) }
 {
     if !may(facts, kept, who, owner, wanted) {
         let name = object_name(alloc, facts, owner)?;
@@ -168,7 +178,9 @@ fn group_told<K: Kept>(
     group: GroupId,
     at: Option<Moment>,
 ) -> Result<Result<Answer, Refusal>, AllocError>
-    ensures { IfOk result (λ r. r ≡ attributes_of_object (past_at machine.now) (K.held kept.now) facts.now machine.now.clock who.now text.now (object.Group group) at) }
+    ensures { IfOk result (λ r. r
+        ≡ attributes_of_object (past_at machine.now)
+        (K.held kept.now) facts.now machine.now.clock who.now text.now (object.Group group) at) }
 {
     if is_entity_text(text) {
         return unfit(alloc, "object", machine.clock(), at);
@@ -189,7 +201,9 @@ fn attributes_of_object<K: Kept>(
     object: &Object,
     at: Option<Moment>,
 ) -> Result<Result<Answer, Refusal>, AllocError>
-    ensures { IfOk result (λ r. r ≡ attributes_of_object (past_at machine.now) (K.held kept.now) facts.now machine.now.clock who.now text.now object.now at) }
+    ensures { IfOk result (λ r. r
+        ≡ attributes_of_object (past_at machine.now)
+        (K.held kept.now) facts.now machine.now.clock who.now text.now object.now at) }
 {
     match object {
         Object::Folder(_) => {
@@ -202,8 +216,8 @@ fn attributes_of_object<K: Kept>(
     }
 }
 
-/// The attributes of what this text names, now or at a moment: of a folder or a group by its name, if
-/// the caller may read them now, or of a person.
+/// The attributes of what this text names, now or at a moment: of a folder or a group by its name,
+/// if the caller may read them now, or of a person.
 pub fn attributes_of<K: Kept>(
     alloc: Global,
     machine: &Machine<K>,
@@ -213,7 +227,9 @@ pub fn attributes_of<K: Kept>(
     text: &Text,
     at: Option<Moment>,
 ) -> Result<Result<Answer, Refusal>, AllocError>
-    ensures { IfOk result (λ r. r ≡ attributes_of (past_at machine.now) (K.held kept.now) facts.now machine.now.clock who.now text.now at) }
+    ensures { IfOk result (λ r. r
+        ≡ attributes_of (past_at machine.now)
+        (K.held kept.now) facts.now machine.now.clock who.now text.now at) }
 {
     match object_found(alloc, facts, kept, who, text)? {
         Ok(Some(object)) => {

@@ -22,10 +22,12 @@ use std::alloc::{AllocError, Global};
 use std::marker::Brand;
 use std::sync::ledger::{Blank, Ledger};
 
-/// What someone could do with an object at a moment at which both stood is what it may do by the facts
-/// and the memberships of then, where the same grants count. It does nothing.
+/// What someone could do with an object at a moment at which both stood is what it may do by the
+/// facts and the memberships of then, where the same grants count. It does nothing.
 pub fn law_powers()
-    ensures { (f F : Lists) (at : ℕ) (c : Who) (o : Object) → stands o F ≡ true → who_stands c F ≡ true → judged o f ≡ judged o F → powers_then f at F c o ≡ privileges_of (live at F) F c o }
+    ensures { (f F : Lists) (at : ℕ) (c : Who) (o : Object) → stands o F ≡ true
+        → who_stands c F ≡ true → judged o f ≡ judged o F
+        → powers_then f at F c o ≡ privileges_of (live at F) F c o }
 {}
 
 fn was_member_from<K: Kept, L: Ledger>(
@@ -67,7 +69,8 @@ fn who_stood<K: Kept>(machine: &Machine<K>, who: &Who, t: Moment) -> bool
 /// Whether an object and someone stood at a moment.
 fn both_stood<K: Kept>(machine: &Machine<K>, who: &Who, object: &Object, t: Moment) -> bool
     requires { t ≤ machine.now.clock }
-    ensures { result ≡ (stands object.now ((past_at machine.now).facts t) && who_stands who.now ((past_at machine.now).facts t)) }
+    ensures { result ≡ (stands object.now ((past_at machine.now).facts t)
+        && who_stands who.now ((past_at machine.now).facts t)) }
 {
     machine.stood_at(*object, t) && who_stood(machine, who, t)
 }
@@ -175,7 +178,9 @@ fn powers_on<K: Kept>(
     t: Moment,
 ) -> Result<Privileges, AllocError>
     requires { t ≤ machine.now.clock }
-    ensures { IfOk result (λ list. list ≡ filter (may_on (live_at machine.now t) ((past_at machine.now).facts t) who.now object.now) all_privileges) }
+    ensures { IfOk result (λ list. list
+        ≡ filter (may_on (live_at machine.now t) ((past_at machine.now).facts t) who.now object.now)
+        all_privileges) }
 {
     let grants = machine.grants_at(*object, t)?;
     let held = held_of(alloc, machine, who, &grants, t)?;
@@ -183,8 +188,8 @@ fn powers_on<K: Kept>(
     fitting(alloc, object, root, held.list())
 }
 
-/// What someone could do with an object at a moment; nothing where either didn't stand then. It costs
-/// what the past has of the object.
+/// What someone could do with an object at a moment; nothing where either didn't stand then. It
+/// costs what the past has of the object.
 pub fn powers_at<K: Kept>(
     alloc: Global,
     machine: &Machine<K>,
@@ -194,7 +199,8 @@ pub fn powers_at<K: Kept>(
     t: Moment,
 ) -> Result<Privileges, AllocError>
     requires { t ≤ machine.now.clock }
-    ensures { IfOk result (λ list. list ≡ powers_at (past_at machine.now) facts.now t who.now object.now) }
+    ensures { IfOk result (λ list. list
+        ≡ powers_at (past_at machine.now) facts.now t who.now object.now) }
 {
     if both_stood(machine, who, object, t) {
         let judged = judged(facts, object);

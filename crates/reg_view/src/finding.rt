@@ -45,7 +45,8 @@ fn entity_object<K: Kept>(
     who: &Who,
     text: &Text,
 ) -> Result<Result<Option<Object>, Refusal>, AllocError>
-    ensures { IfOk result (λ r. r ≡ entity_object (K.held kept.now) facts.now who.now text.now (entity_of text.now)) }
+    ensures { IfOk result (λ r. r
+        ≡ entity_object (K.held kept.now) facts.now who.now text.now (entity_of text.now)) }
 {
     match Entity::parse(alloc, text.bytes())? {
         Some(entity) => entity_found(alloc, facts, kept, who, &entity),
@@ -61,7 +62,8 @@ fn name_found<K: Kept>(
     who: &Who,
     text: &Text,
 ) -> Result<Result<Option<Object>, Refusal>, AllocError>
-    ensures { IfOk result (λ r. r ≡ name_found (K.held kept.now) facts.now who.now text.now (resolve text.now facts.now)) }
+    ensures { IfOk result (λ r. r
+        ≡ name_found (K.held kept.now) facts.now who.now text.now (resolve text.now facts.now)) }
 {
     let Some(object) = facts.resolve(text.as_str()) else {
         return Ok(Err(not_found(alloc, text.as_str())?));
@@ -79,8 +81,8 @@ pub fn is_entity_text(text: &Text) -> bool
     text.bytes().contains(&b'/')
 }
 
-/// The object that a text names, if the caller sees it: an entity, or an object by its name. An entity
-/// of the registry itself is none.
+/// The object that a text names, if the caller sees it: an entity, or an object by its name. An
+/// entity of the registry itself is none.
 pub fn object_found<K: Kept>(
     alloc: Global,
     facts: &Facts,

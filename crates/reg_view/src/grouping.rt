@@ -3,7 +3,8 @@ ghost use Rattle.std.specs.Prelude.{◌≡◌, ◌≤◌, IfOk};
 ghost use Rattle.reg_facts.specs.Members.{texts_where};
 ghost use Rattle.reg_effect.specs.Member.{member};
 ghost use Rattle.reg_terms.specs.declared.query.Answer.TheVariants as answer;
-ghost use Rattle.reg_view.specs.Answers.{display_of, group_of, members_at, members_of, rows_of_group};
+ghost use Rattle.reg_view.specs.Answers.{display_of, group_of, members_at, members_of};
+ghost use Rattle.reg_view.specs.Answers.{rows_of_group};
 ghost use Rattle.reg_view.specs.Past.{past_at};
 
 use crate::Answer;
@@ -54,7 +55,8 @@ fn members_answer<K: Kept>(
     kept: &K,
     id: GroupId,
 ) -> Result<Answer, AllocError>
-    ensures { IfOk result (λ r. r ≡ answer.Members (texts_where (member (K.held kept.now) id) facts.now.subjects)) }
+    ensures { IfOk result (λ r. r
+        ≡ answer.Members (texts_where (member (K.held kept.now) id) facts.now.subjects)) }
 {
     let ids = kept.members(id)?;
     let members = facts.texts_of(alloc, &ids)?;
@@ -70,7 +72,8 @@ fn members_then<K: Kept>(
     at: Moment,
 ) -> Result<Answer, AllocError>
     requires { at ≤ machine.now.clock }
-    ensures { IfOk result (λ r. r ≡ answer.Members (texts_where ((past_at machine.now).was at id) facts.now.subjects)) }
+    ensures { IfOk result (λ r. r
+        ≡ answer.Members (texts_where ((past_at machine.now).was at id) facts.now.subjects)) }
 {
     let earlier = machine.members_at(id, at)?;
     let members = facts.texts_of(alloc, &earlier)?;
@@ -86,7 +89,8 @@ fn members_at<K: Kept>(
     id: GroupId,
     at: Option<Moment>,
 ) -> Result<Result<Answer, Refusal>, AllocError>
-    ensures { IfOk result (λ r. r ≡ members_at (past_at machine.now) (K.held kept.now) facts.now machine.now.clock id at) }
+    ensures { IfOk result (λ r. r
+        ≡ members_at (past_at machine.now) (K.held kept.now) facts.now machine.now.clock id at) }
 {
     let Some(asked) = at else {
         let answer = members_answer(alloc, facts, kept, id)?;
@@ -109,7 +113,9 @@ pub fn members_of<K: Kept>(
     group: &Name,
     at: Option<Moment>,
 ) -> Result<Result<Answer, Refusal>, AllocError>
-    ensures { IfOk result (λ r. r ≡ members_of (past_at machine.now) (K.held kept.now) facts.now machine.now.clock who.now group.now at) }
+    ensures { IfOk result (λ r. r
+        ≡ members_of (past_at machine.now)
+        (K.held kept.now) facts.now machine.now.clock who.now group.now at) }
 {
     let id = match group_past(alloc, machine, facts, kept, who, group)? {
         Ok(id) => id,

@@ -55,7 +55,8 @@ fn history_answer<K: Kept>(
     id: GroupId,
 ) -> Result<Answer, AllocError>
     requires { facts.now ≡ given.facts machine.now.history machine.now.clock }
-    ensures { IfOk result (λ r. r ≡ answer.History (history_of (past_at machine.now) id facts.now.subjects)) }
+    ensures { IfOk result (λ r. r
+        ≡ answer.History (history_of (past_at machine.now) id facts.now.subjects)) }
 {
     facts.law_sound();
     machine.law_past();
@@ -74,7 +75,8 @@ pub fn history_told<K: Kept>(
     group: &Name,
 ) -> Result<Result<Answer, Refusal>, AllocError>
     requires { facts.now ≡ given.facts machine.now.history machine.now.clock }
-    ensures { IfOk result (λ r. r ≡ history_told (past_at machine.now) (K.held kept.now) facts.now who.now group.now) }
+    ensures { IfOk result (λ r. r
+        ≡ history_told (past_at machine.now) (K.held kept.now) facts.now who.now group.now) }
 {
     let id = match group_past(alloc, machine, facts, kept, who, group)? {
         Ok(id) => id,

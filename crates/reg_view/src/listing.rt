@@ -29,7 +29,8 @@ fn seen_names<K: Kept>(
     who: &Who,
     names: &Texts,
 ) -> Result<Texts, AllocError>
-    ensures { IfOk result (λ seen. seen ≡ seen_names (K.held kept.now) facts.now who.now names.now) }
+    ensures { IfOk result (λ seen. seen
+        ≡ seen_names (K.held kept.now) facts.now who.now names.now) }
 {
     let mut seen = Texts::new(alloc);
     let mut pieces = names.pieces();
@@ -41,8 +42,8 @@ fn seen_names<K: Kept>(
     Ok(seen)
 }
 
-/// The names of what stands directly in the folder of this id and name, of what the caller sees. They
-/// cost what stands in the folder, and not what all objects are.
+/// The names of what stands directly in the folder of this id and name, of what the caller sees.
+/// They cost what stands in the folder, and not what all objects are.
 fn listing<K: Kept>(
     alloc: Global,
     facts: &Facts,
@@ -51,7 +52,8 @@ fn listing<K: Kept>(
     folder: FolderId,
     home: &Text,
 ) -> Result<Answer, AllocError>
-    ensures { IfOk result (λ answer. answer ≡ listing (K.held kept.now) facts.now who.now folder home.now) }
+    ensures { IfOk result (λ answer. answer
+        ≡ listing (K.held kept.now) facts.now who.now folder home.now) }
 {
     let names = facts.child_names(alloc, folder, home.as_str())?;
     let ChildNames {

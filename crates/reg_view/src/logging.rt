@@ -32,7 +32,8 @@ fn object_text<K: Kept>(
 
 /// The text of a group's entity, by the name that it has or had last.
 fn group_text<K: Kept>(alloc: Global, machine: &Machine<K>, id: GroupId) -> Result<Text, AllocError>
-    ensures { IfOk result (λ text. text ≡ codes "g:gsa/" ++ (past_at machine.now).last_name (object.Group id)) }
+    ensures { IfOk result (λ text. text
+        ≡ codes "g:gsa/" ++ (past_at machine.now).last_name (object.Group id)) }
 {
     let name = machine.last_name(alloc, Object::Group(id))?;
     let mut text = String::from_str(alloc, "g:gsa/")?;
@@ -152,7 +153,8 @@ pub fn log_of<K: Kept>(
     max: u64,
 ) -> Result<Result<Answer, Refusal>, AllocError>
     requires { facts.now ≡ given.facts machine.now.history machine.now.clock }
-    ensures { IfOk result (λ r. r ≡ log_of (past_at machine.now) (K.held kept.now) facts.now who.now consumer.now max) }
+    ensures { IfOk result (λ r. r
+        ≡ log_of (past_at machine.now) (K.held kept.now) facts.now who.now consumer.now max) }
 {
     let Some(place) = place_seen(machine, facts, kept, who, consumer) else {
         return Ok(Err(not_found(alloc, consumer.as_str())?));

@@ -1,7 +1,8 @@
 // The groups of a person.
 ghost use Rattle.std.specs.Prelude.{◌≡◌, ◌≤◌, IfOk};
 ghost use Rattle.reg_effect.specs.Member.{member};
-ghost use Rattle.reg_view.specs.Answers.{groups_at, groups_of, groups_of_person, groups_where, readable_names};
+ghost use Rattle.reg_view.specs.Answers.{groups_at, groups_of, groups_of_person, groups_where};
+ghost use Rattle.reg_view.specs.Answers.{readable_names};
 ghost use Rattle.reg_view.specs.Past.{past_at};
 
 use crate::Answer;
@@ -24,7 +25,8 @@ fn readable_names<K: Kept>(
     who: &Who,
     ids: &[GroupId],
 ) -> Result<Texts, AllocError>
-    ensures { IfOk result (λ names. names ≡ readable_names (K.held kept.now) facts.now who.now ids.now) }
+    ensures { IfOk result (λ names. names
+        ≡ readable_names (K.held kept.now) facts.now who.now ids.now) }
 {
     let mut names = Texts::new(alloc);
     for id in ids {
@@ -47,7 +49,9 @@ fn groups_now<K: Kept>(
     who: &Who,
     subject: SubjectId,
 ) -> Result<Answer, AllocError>
-    ensures { IfOk result (λ answer. answer ≡ groups_where (λ g. member (K.held kept.now) g subject) (K.held kept.now) facts.now who.now) }
+    ensures { IfOk result (λ answer. answer
+        ≡ groups_where (λ g. member (K.held kept.now) g subject)
+        (K.held kept.now) facts.now who.now) }
 {
     facts.law_sound();
     let ids = kept.groups_of(subject)?;
@@ -55,8 +59,8 @@ fn groups_now<K: Kept>(
     Ok(Answer::Groups { groups })
 }
 
-/// Of the groups of which a person was a member at a moment those that stand and that the caller may
-/// read now. They cost what the past has of the person.
+/// Of the groups of which a person was a member at a moment those that stand and that the caller
+/// may read now. They cost what the past has of the person.
 fn groups_then<K: Kept>(
     alloc: Global,
     machine: &Machine<K>,
@@ -67,7 +71,9 @@ fn groups_then<K: Kept>(
     at: Moment,
 ) -> Result<Answer, AllocError>
     requires { at ≤ machine.now.clock }
-    ensures { IfOk result (λ answer. answer ≡ groups_where (λ g. (past_at machine.now).was at g subject) (K.held kept.now) facts.now who.now) }
+    ensures { IfOk result (λ answer. answer
+        ≡ groups_where (λ g. (past_at machine.now).was at g subject)
+        (K.held kept.now) facts.now who.now) }
 {
     facts.law_sound();
     let earlier = machine.groups_at(subject, at)?;
@@ -85,7 +91,9 @@ fn groups_at<K: Kept>(
     subject: SubjectId,
     at: Option<Moment>,
 ) -> Result<Result<Answer, Refusal>, AllocError>
-    ensures { IfOk result (λ r. r ≡ groups_at (past_at machine.now) (K.held kept.now) facts.now machine.now.clock who.now subject at) }
+    ensures { IfOk result (λ r. r
+        ≡ groups_at (past_at machine.now)
+        (K.held kept.now) facts.now machine.now.clock who.now subject at) }
 {
     let Some(asked) = at else {
         let answer = groups_now(alloc, facts, kept, who, subject)?;
@@ -107,7 +115,9 @@ fn groups_of_person<K: Kept>(
     text: &Text,
     at: Option<Moment>,
 ) -> Result<Result<Answer, Refusal>, AllocError>
-    ensures { IfOk result (λ r. r ≡ groups_of_person (past_at machine.now) (K.held kept.now) facts.now machine.now.clock who.now text.now at) }
+    ensures { IfOk result (λ r. r
+        ≡ groups_of_person (past_at machine.now)
+        (K.held kept.now) facts.now machine.now.clock who.now text.now at) }
 {
     let Some(id) = facts.subject_id(text.as_str()) else {
         return Ok(Err(not_found(alloc, text.as_str())?));
@@ -126,7 +136,9 @@ pub fn groups_of<K: Kept>(
     subject: &Entity,
     at: Option<Moment>,
 ) -> Result<Result<Answer, Refusal>, AllocError>
-    ensures { IfOk result (λ r. r ≡ groups_of (past_at machine.now) (K.held kept.now) facts.now machine.now.clock who.now subject.now at) }
+    ensures { IfOk result (λ r. r
+        ≡ groups_of (past_at machine.now)
+        (K.held kept.now) facts.now machine.now.clock who.now subject.now at) }
 {
     match subject {
         Entity::Person(text) => groups_of_person(alloc, machine, facts, kept, who, text, at),

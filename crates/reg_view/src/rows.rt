@@ -65,7 +65,8 @@ fn rows_shown(alloc: Global, facts: &Facts, rows: &[MemberRow]) -> Result<RowsSh
 }
 
 fn shown_of(alloc: Global, facts: &Facts, group: GroupId) -> Result<RowsShown, AllocError>
-    ensures { IfOk result (λ shown. shown ≡ map (row_shown facts.now) (rows_of group facts.now.rows)) }
+    ensures { IfOk result (λ shown. shown
+        ≡ map (row_shown facts.now) (rows_of group facts.now.rows)) }
 {
     facts.law_sound();
     let rows = facts.rows_of(alloc, group)?;
@@ -95,7 +96,9 @@ fn composite_shown(
 /// The immediate memberships and the factors of a group. They cost what they are, and not what all
 /// rows are.
 pub fn rows_answer(alloc: Global, facts: &Facts, id: GroupId) -> Result<Answer, AllocError>
-    ensures { IfOk result (λ r. r ≡ answer.Rows (composite_shown id facts.now) (map (row_shown facts.now) (rows_of id facts.now.rows))) }
+    ensures { IfOk result (λ r. r
+        ≡ answer.Rows (composite_shown id facts.now)
+        (map (row_shown facts.now) (rows_of id facts.now.rows))) }
 {
     let composite = composite_shown(alloc, facts, id)?;
     let rows = shown_of(alloc, facts, id)?;

@@ -58,7 +58,8 @@ fn gone_found<K: Kept>(
     who: &Who,
     group: &Name,
 ) -> Option<GroupId>
-    ensures { result ≡ gone_found (past_at machine.now) (K.held kept.now) facts.now who.now group.now }
+    ensures { result ≡ gone_found (past_at machine.now)
+        (K.held kept.now) facts.now who.now group.now }
 {
     if !is_root(facts, kept, who) {
         return None;
@@ -76,7 +77,8 @@ pub fn group_past<K: Kept>(
     who: &Who,
     group: &Name,
 ) -> Result<Result<GroupId, Refusal>, AllocError>
-    ensures { IfOk result (λ r. r ≡ group_past (past_at machine.now) (K.held kept.now) facts.now who.now group.now) }
+    ensures { IfOk result (λ r. r
+        ≡ group_past (past_at machine.now) (K.held kept.now) facts.now who.now group.now) }
 {
     if facts.group_id(group.as_str()).is_some() {
         return group_read(alloc, facts, kept, who, group);

@@ -79,7 +79,8 @@ fn group_holder<K: Kept>(
     facts: &Facts,
     id: GroupId,
 ) -> Result<Text, AllocError>
-    ensures { IfOk result (λ text. text ≡ holder_text (past_at machine.now) facts.now (Holder.Group id)) }
+    ensures { IfOk result (λ text. text
+        ≡ holder_text (past_at machine.now) facts.now (Holder.Group id)) }
 {
     let name = group_called(alloc, machine, facts, id)?;
     let mut text = String::from_str(alloc, "g:gsa/")?;

@@ -29,7 +29,8 @@ pub fn not_later(now: Moment, asked: Moment) -> Result<(), Refusal>
     Ok(())
 }
 
-/// A field names a thing of a kind that it can't be: a moment that is later than now is refused first.
+/// A field names a thing of a kind that it can't be: a moment that is later than now is refused
+/// first.
 pub fn unfit(
     alloc: Global,
     field: &str,

@@ -1,5 +1,6 @@
 -- The bytes of the fields of a payload.
-use Rattle.std.specs.Prelude.{ℕ, ℤ, ◌+◌, ◌*◌, Bool, List, [], ◌∷◌, ◌++◌, length, codes, Option, Some, None}
+use Rattle.std.specs.Prelude.{ℕ, ℤ, ◌+◌, ◌*◌, Bool, List, [], ◌∷◌, ◌++◌, length, codes, Option}
+use Rattle.std.specs.Prelude.{Some, None}
 use Rattle.std.specs.Int.{w16, w32, w64, cast_unsigned, from_bool, to_le_bytes}
 use Rattle.std.specs.List.{flat_map}
 use Rattle.reg_base.specs.declared.entity.Entity.{Entity}
@@ -67,7 +68,8 @@ privilege_bytes privilege = code privilege ∷ []
 
 -- one byte: 1 for folders, 2 for groups and 4 for subjects, added up
 abbrev pub owners_code : Owners → ℕ
-owners_code owners = from_bool owners.folder + 2 * from_bool owners.group + 4 * from_bool owners.subject
+owners_code owners =
+    from_bool owners.folder + 2 * from_bool owners.group + 4 * from_bool owners.subject
 
 abbrev pub owners_bytes : Owners → List ℕ
 owners_bytes owners = owners_code owners ∷ []

@@ -1,5 +1,7 @@
--- The payload of a stamped command: its moment, who gave it, its op's code and its fields, one behind the other.
-use Rattle.std.specs.Prelude.{◌≡◌, ◌≤◌, ◌+◌, ℕ, List, ◌∷◌, ◌++◌, true, ◌==◌, if◌then◌else◌, length, Option, Some, None}
+-- The payload of a stamped command: its moment, who gave it, its op's code and its fields, one
+-- behind the other.
+use Rattle.std.specs.Prelude.{◌≡◌, ◌≤◌, ◌+◌, ℕ, List, ◌∷◌, ◌++◌, true, ◌==◌, if◌then◌else◌, length}
+use Rattle.std.specs.Prelude.{Option, Some, None}
 use Rattle.std.specs.List.{flat_map}
 use Rattle.reg_terms.specs.declared.command.Command.{Command}
 use Rattle.reg_terms.specs.declared.command.Command.TheVariants.{Load}
@@ -21,18 +23,23 @@ command_bytes command = code_of command ∷ fields_bytes command
 
 -- the bytes of a stamped command
 unfoldable pub payload : Stamped → List ℕ
-payload stamped = moment_bytes stamped.at ++ (text_bytes (entity_text stamped.by) ++ command_bytes stamped.command)
+payload stamped =
+    moment_bytes stamped.at ++ (text_bytes (entity_text stamped.by)
+    ++ command_bytes stamped.command)
 
 -- a stamped command that has a payload: its moment, who gave it and each field have their forms
 abbrev pub IsWritable : Stamped → Type 0
-IsWritable stamped = (is_moment stamped.at ≡ true) × (is_entity stamped.by ≡ true) × (has_form stamped.command ≡ true)
+IsWritable stamped =
+    (is_moment stamped.at ≡ true) × (is_entity stamped.by ≡ true)
+    × (has_form stamped.command ≡ true)
 
 -- how many names and rows a load lists
 abbrev pub listed : Command → ℕ
 listed (Load job created removed added) = length created + length removed + length added
 listed _ = 0
 
--- no more than the groups that may ever be made, the rows that may stand and the records that a table may have
+-- no more than the groups that may ever be made, the rows that may stand and the records that a
+-- table may have
 abbrev pub AreFew : Command → Type 0
 AreFew command = listed command ≤ max_groups + max_rows + max_records
 
@@ -41,7 +48,8 @@ unfoldable pub stamped_at : ℕ → List ℕ → Option Stamped
 stamped_at moment bytes = do
   by ← entity_at bytes
   command ← command_of by.1
-  if length command.1 == 0 then Some (record { at = moment; by = by.0; command = command.0 }) else None
+  if length command.1 == 0 then Some (record { at = moment; by = by.0; command = command.0 })
+      else None
 
 -- the stamped command whose payload the bytes are, if they are one
 unfoldable pub stamped_of : List ℕ → Option Stamped

@@ -1,5 +1,8 @@
--- Reading the fields of a payload from the front, and a command by the kinds of its fields: each reading gives a value and the bytes after it, or nothing.
-use Rattle.std.specs.Prelude.{ℕ, ℤ, zero, suc, ◌/◌, ◌%◌, ◌==◌, List, [], ◌∷◌, Bool, true, false, ◌&&◌, nat_le, nat_lt, if◌then◌else◌, length, take, drop, Option, Some, None}
+-- Reading the fields of a payload from the front, and a command by the kinds of its fields: each
+-- reading gives a value and the bytes after it, or nothing.
+use Rattle.std.specs.Prelude.{ℕ, ℤ, zero, suc, ◌/◌, ◌%◌, ◌==◌, List, [], ◌∷◌, Bool, true, false}
+use Rattle.std.specs.Prelude.{◌&&◌, nat_le, nat_lt, if◌then◌else◌, length, take, drop, Option, Some}
+use Rattle.std.specs.Prelude.{None}
 use Rattle.std.specs.List.{list_all}
 use Rattle.std.specs.Int.{Width, w16, w32, w64, byte_len, cast_signed, from_le_bytes}
 use Rattle.reg_base.specs.Names.{is_extension, is_name, is_person, is_source}
@@ -129,7 +132,8 @@ inherit_kind_at (suc (suc zero) ∷ rest) = Some (Group, rest)
 inherit_kind_at (suc (suc (suc zero)) ∷ rest) = Some (Definition, rest)
 inherit_kind_at (suc (suc (suc (suc b))) ∷ rest) = None
 
--- how far an inherit reaches: 1 for what is directly in a folder, 2 for what is at any depth below it
+-- how far an inherit reaches: 1 for what is directly in a folder, 2 for what is at any depth below
+-- it
 unfoldable pub scope_at : List ℕ → Option (Scope × List ℕ)
 scope_at [] = None
 scope_at (zero ∷ rest) = None
@@ -144,9 +148,14 @@ privilege_at bytes = do
   privilege ← privilege_coded code.0
   Some (privilege, code.1)
 
--- the kinds of owner whose code a number is: 1 for folders, 2 for groups and 4 for subjects, added up
+-- the kinds of owner whose code a number is: 1 for folders, 2 for groups and 4 for subjects, added
+-- up
 abbrev pub owners_of : ℕ → Owners
-owners_of code = record { folder = code % 2 == 1; group = (code / 2) % 2 == 1; subject = code / 4 == 1 }
+owners_of code = record {
+  folder = code % 2 == 1;
+  group = (code / 2) % 2 == 1;
+  subject = code / 4 == 1;
+}
 
 -- kinds of owner, one at least, by their code
 unfoldable pub owners_at : List ℕ → Option (Owners × List ℕ)
@@ -192,7 +201,8 @@ value_at (suc (suc (suc b)) ∷ rest) = None
 -- ---- lists
 
 -- so many items, one behind the other
-unfoldable pub items_at : {A : Type 0} → (List ℕ → Option (A × List ℕ)) → ℕ → List ℕ → Option (List A × List ℕ)
+unfoldable pub items_at : {A : Type 0} → (List ℕ → Option (A × List ℕ)) → ℕ → List ℕ
+    → Option (List A × List ℕ)
 items_at item zero bytes = Some ([], bytes)
 items_at item (suc n) bytes = do
   first ← item bytes
@@ -200,7 +210,8 @@ items_at item (suc n) bytes = do
   Some (first.0 ∷ others.0, others.1)
 
 -- four bytes of count, and so many items
-unfoldable pub list_at : {A : Type 0} → (List ℕ → Option (A × List ℕ)) → List ℕ → Option (List A × List ℕ)
+unfoldable pub list_at : {A : Type 0} → (List ℕ → Option (A × List ℕ)) → List ℕ
+    → Option (List A × List ℕ)
 list_at item bytes = do
   count ← number_at w32 bytes
   items_at item count.0 count.1
@@ -246,7 +257,8 @@ field_at kind.Owners bytes = stands (λ v. field.Owners v) (owners_at bytes)
 field_at kind.Flag bytes = stands (λ v. field.Flag v) (flag_at bytes)
 field_at kind.DefKind bytes = stands (λ v. field.DefKind v) (def_kind_at bytes)
 field_at kind.Value bytes = stands (λ v. field.Value v) (value_at bytes)
-field_at (kind.Number least most) bytes = stands (λ v. field.Number v least most) (ranged_at least most bytes)
+field_at (kind.Number least most) bytes =
+    stands (λ v. field.Number v least most) (ranged_at least most bytes)
 field_at kind.Names bytes = stands (λ v. field.Names v) (names_at bytes)
 field_at kind.LoadRows bytes = stands (λ v. field.LoadRows v) (load_rows_at bytes)
 field_at kind.Table bytes = None

@@ -42,9 +42,12 @@ fn stamped_of(alloc: Global, bytes: &[u8]) -> Result<Stamped, ReadFault>
 pub fn decode(alloc: Global, bytes: &[u8]) -> Result<Option<Stamped>, AllocError>
     ensures value { IfOk result (λ found. found ≡ stamped_of bytes.now) }
 
-    // What is found has these bytes as its payload, and nothing is found only where no stamped command has.
-    ensures found { IfOk result (λ found. IfSome found (λ stamped. IsWritable stamped × (payload stamped ≡ bytes.now))) }
-    ensures none { IfOk result (λ found. IfNone found ((stamped : Stamped) → IsWritable stamped → payload stamped ≡ bytes.now → ⊥)) }
+    // What is found has these bytes as its payload, and nothing is found only where no stamped
+    // command has.
+    ensures found { IfOk result (λ found. IfSome found (λ stamped. IsWritable stamped
+        × (payload stamped ≡ bytes.now))) }
+    ensures none { IfOk result (λ found. IfNone found ((stamped : Stamped) → IsWritable stamped
+        → payload stamped ≡ bytes.now → ⊥)) }
 {
     law_commands();
     match stamped_of(alloc, bytes) {

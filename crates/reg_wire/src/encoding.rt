@@ -2,10 +2,15 @@
 ghost use Rattle.std.specs.Prelude.{◌≡◌, ◌++◌, ◌<◌, ◌≤◌, ◌^◌, true, codes, length, IfOk, OnOk};
 ghost use Rattle.std.specs.List.{flat_map, list_all};
 ghost use Rattle.std.specs.Int.{w32, to_le_bytes};
-ghost use Rattle.reg_terms.specs.Forms.{are_load_rows, are_names, is_entity, is_field, is_load_row, is_value, has_form};
+ghost use Rattle.reg_terms.specs.Forms.{are_load_rows, are_names, is_entity, is_field, is_load_row};
+ghost use Rattle.reg_terms.specs.Forms.{is_value, has_form};
 ghost use Rattle.reg_terms.specs.Parts.{seen, seen_all};
 ghost use Rattle.reg_terms.specs.Table.{code_of};
-ghost use Rattle.reg_wire.specs.Fields.{entity_text, field_bytes, text_bytes, moment_bytes, number_bytes, optional_moment_bytes, set_op_bytes, inherit_kind_bytes, scope_bytes, privilege_bytes, owners_code, owners_bytes, flag_bytes, def_kind_bytes, int_bytes, value_bytes, list_bytes, load_row_bytes};
+ghost use Rattle.reg_wire.specs.Fields.{entity_text, field_bytes, text_bytes, moment_bytes};
+ghost use Rattle.reg_wire.specs.Fields.{number_bytes, optional_moment_bytes, set_op_bytes};
+ghost use Rattle.reg_wire.specs.Fields.{inherit_kind_bytes, scope_bytes, privilege_bytes};
+ghost use Rattle.reg_wire.specs.Fields.{owners_code, owners_bytes, flag_bytes, def_kind_bytes};
+ghost use Rattle.reg_wire.specs.Fields.{int_bytes, value_bytes, list_bytes, load_row_bytes};
 ghost use Rattle.reg_wire.specs.Payload.{fields_bytes, command_bytes, payload, IsWritable, AreFew};
 
 use crate::fields::{
@@ -29,7 +34,8 @@ fn put_text(out: &mut Vec<u8>, text: &[u8]) -> Result<(), AllocError>
 
 #[tactic(auto, using(crate::proofs::Texts::name_short))]
 fn put_group(out: &mut Vec<u8>, name: &Name) -> Result<(), AllocError>
-    ensures { OnOk result (out.new.items ≡ out.old.items ++ text_bytes (codes "g:gsa/" ++ name.now)) }
+    ensures { OnOk result (out.new.items
+        ≡ out.old.items ++ text_bytes (codes "g:gsa/" ++ name.now)) }
 {
     let name = name.bytes();
     out.extend_from_slice(&((6 + name.len()) as u16).to_le_bytes())?;
@@ -256,7 +262,8 @@ fn put_field(out: &mut Vec<u8>, field: &FieldRef<'_>) -> Result<(), AllocError>
 #[tactic(auto, using(crate::proofs::Lists::seen_bytes, crate::proofs::Lists::seen_fit))]
 fn put_fields(out: &mut Vec<u8>, fields: &[FieldRef<'_>]) -> Result<(), AllocError>
     requires { list_all is_field (seen_all fields.now) ≡ true }
-    ensures { OnOk result (out.new.items ≡ out.old.items ++ flat_map field_bytes (seen_all fields.now)) }
+    ensures { OnOk result (out.new.items
+        ≡ out.old.items ++ flat_map field_bytes (seen_all fields.now)) }
 {
     match fields {
         [] => Ok(()),
@@ -303,8 +310,8 @@ fn payload(alloc: Global, stamped: &Stamped) -> Result<Vec<u8>, AllocError>
     Ok(out)
 }
 
-/// The payload of a stamped command; `is_writable` says which have one. It is shorter than 2^32 bytes
-/// where no load in it lists more than may stand. The only error is out of memory.
+/// The payload of a stamped command; `is_writable` says which have one. It is shorter than 2^32
+/// bytes where no load in it lists more than may stand. The only error is out of memory.
 #[tactic(auto, using(crate::proofs::Payloads::payload_short))]
 pub fn encode(alloc: Global, stamped: &Stamped) -> Result<Vec<u8>, AllocError>
     requires { IsWritable stamped.now }

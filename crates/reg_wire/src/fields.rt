@@ -1,8 +1,14 @@
-// Reading the fields of a payload from the front: each function gives a value and the bytes after it.
+// Reading the fields of a payload from the front: each function gives a value and the bytes after
+// it.
 ghost use Rattle.std.specs.Prelude.{◌≡◌};
 ghost use Rattle.std.specs.Int.{w16, w32, w64};
 ghost use Rattle.reg_wire.specs.Steps.{Gives};
-ghost use Rattle.reg_wire.specs.Reading.{byte_at, number_at, text_at, name_at, folder_at, extension_at, source_at, person_at, display_at, entity_at, moment_at, ranged_at, object_at, optional_moment_at, set_op_at, inherit_kind_at, scope_at, privilege_at, owners_of, owners_at, flag_at, def_kind_at, int_at, value_at};
+ghost use Rattle.reg_wire.specs.Reading.{byte_at, number_at, text_at, name_at, folder_at};
+ghost use Rattle.reg_wire.specs.Reading.{extension_at, source_at, person_at, display_at, entity_at};
+ghost use Rattle.reg_wire.specs.Reading.{moment_at, ranged_at, object_at, optional_moment_at};
+ghost use Rattle.reg_wire.specs.Reading.{set_op_at, inherit_kind_at, scope_at, privilege_at};
+ghost use Rattle.reg_wire.specs.Reading.{owners_of, owners_at, flag_at, def_kind_at, int_at};
+ghost use Rattle.reg_wire.specs.Reading.{value_at};
 
 use crate::fault::ReadFault;
 use reg_base::{Entity, Moment, Name, Privilege, Text, is_extension, is_person, is_source};

@@ -1,15 +1,16 @@
 // Reading the lists of a load: a count, and so many items behind it.
 ghost use Rattle.std.specs.Prelude.{◌≡◌};
 ghost use Rattle.reg_wire.specs.Steps.{Gives};
-ghost use Rattle.reg_wire.specs.Reading.{items_at, list_at, name_at, names_at, load_row_at, load_rows_at};
+ghost use Rattle.reg_wire.specs.Reading.{items_at, list_at, name_at, names_at, load_row_at};
+ghost use Rattle.reg_wire.specs.Reading.{load_rows_at};
 
 use crate::fault::ReadFault;
 use crate::fields::{name_at, person_at, u32_at};
 use reg_terms::{LoadRow, LoadRows, Names};
 use std::alloc::Global;
 
-/// So many names. The loop ends where the bytes do, since each name has two bytes at least; and memory
-/// is taken as names come, however many the count says.
+/// So many names. The loop ends where the bytes do, since each name has two bytes at least; and
+/// memory is taken as names come, however many the count says.
 fn so_many_names(alloc: Global, count: u32, bytes: &[u8]) -> Result<(Names, &[u8]), ReadFault>
     ensures { Gives (λ x. (x.0, x.1.now)) result (items_at name_at count bytes.now) }
 {

@@ -104,7 +104,10 @@ fn fields_at<'a>(
     fields: &[(&'static str, FieldKind)],
     bytes: &'a [u8],
 ) -> Result<(VecDeque<Field>, &'a [u8]), ReadFault>
-    ensures { Gives (λ x. (x.0.items, x.1.now)) result (fields_at (map (λ f. f.1) fields.now) bytes.now) }
+    ensures { Gives (λ x. (
+      x.0.items,
+      x.1.now,
+    )) result (fields_at (map (λ f. f.1) fields.now) bytes.now) }
 {
     match fields {
         [] => Ok((VecDeque::new(alloc), bytes)),

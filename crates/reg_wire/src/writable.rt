@@ -21,10 +21,11 @@ fn is_entity(entity: &Entity) -> bool
     }
 }
 
-/// Whether the stamped command has a payload: its moment, who gave it and each field of its command have
-/// their forms. It takes no memory.
+/// Whether the stamped command has a payload: its moment, who gave it and each field of its command
+/// have their forms. It takes no memory.
 pub fn is_writable(stamped: &Stamped) -> bool
-    ensures { result ≡ (is_moment stamped.now.at && (is_entity stamped.now.by && has_form stamped.now.command)) }
+    ensures { result ≡ (is_moment stamped.now.at
+        && (is_entity stamped.now.by && has_form stamped.now.command)) }
 {
     is_moment(stamped.at) && is_entity(&stamped.by) && has_form(&stamped.command)
 }

@@ -1,20 +1,24 @@
 -- Numbers in words.
-use Rattle.std.specs.Prelude.{◌&&◌, ℕ, List, Bool, Option, Some, None, if◌then◌else◌, length, nat_le, option_and_then}
+use Rattle.std.specs.Prelude.{◌&&◌, ℕ, List, Bool, Option, Some, None, if◌then◌else◌, length}
+use Rattle.std.specs.Prelude.{nat_le, option_and_then}
 use Rattle.std.specs.Char.{is_ascii_digit}
 use Rattle.std.specs.List.{list_all}
 use Rattle.std.specs.Str.Parse.{digits_value}
 
 -- 1 to 20 digits
 abbrev pub are_digits : List ℕ → Bool
-are_digits text = nat_le 1 (length text) && (nat_le (length text) 20 && list_all is_ascii_digit text)
+are_digits text =
+    nat_le 1 (length text) && (nat_le (length text) 20 && list_all is_ascii_digit text)
 
 -- of a number from the least to the most
 abbrev pub is_number_in : ℕ → ℕ → List ℕ → Bool
-is_number_in least most text = are_digits text && (nat_le least (digits_value 10 text) && nat_le (digits_value 10 text) most)
+is_number_in least most text =
+    are_digits text && (nat_le least (digits_value 10 text) && nat_le (digits_value 10 text) most)
 
 -- that number
 abbrev pub number_in : ℕ → ℕ → List ℕ → Option ℕ
-number_in least most text = if is_number_in least most text then Some (digits_value 10 text) else None
+number_in least most text =
+    if is_number_in least most text then Some (digits_value 10 text) else None
 
 -- the seed that a word names
 abbrev pub seed_in : List ℕ → Option ℕ

@@ -1,8 +1,11 @@
--- What the program's words ask for. The first word names a command; the words behind it are read as those of one simple
--- command: positional words in order, options as `--at T` or `--at=T` in any place, each at most once.
-use Rattle.std.specs.Prelude.{List, [], ◌∷◌, Bool, true, false, Option, Some, None, codes, if◌then◌else◌, option_and_then, option_map}
+-- What the program's words ask for. The first word names a command; the words behind it are read as
+-- those of one simple command: positional words in order, options as `--at T` or `--at=T` in any
+-- place, each at most once.
+use Rattle.std.specs.Prelude.{List, [], ◌∷◌, Bool, true, false, Option, Some, None, codes}
+use Rattle.std.specs.Prelude.{if◌then◌else◌, option_and_then, option_map}
 use Rattle.std.specs.Str.{bytes_eq}
-use Rattle.clap.specs.Words.{App, Kinds, Row, Rule, Text, fault_of, first_of, matches_of, new_app, new_rule, with_rule}
+use Rattle.clap.specs.Words.{App, Kinds, Row, Rule, Text, fault_of, first_of, matches_of, new_app}
+use Rattle.clap.specs.Words.{new_rule, with_rule}
 use Rattle.clap.specs.Simple.{on_top}
 use Rattle.clap.specs.declared.builder.action.ArgAction.TheVariants.{Set}
 use Rattle.reg_words.specs.Numbers.{connections_in, port_in, seed_in, size_in}
@@ -52,11 +55,14 @@ sample = with_word (codes "size") (with_word (codes "seed") (bare (codes "sample
 
 -- what `members` asks, by what it found
 abbrev pub members_in : List Row → Option Task
-members_in rows = option_map (λ name. task.Ask (question.Members name (first_of (codes "at") rows))) (first_of (codes "name") rows)
+members_in rows =
+    option_map (λ name. task.Ask (question.Members name (first_of (codes "at") rows)))
+    (first_of (codes "name") rows)
 
 -- what `history` asks
 abbrev pub history_in : List Row → Option Task
-history_in rows = option_map (λ name. task.Ask (question.History name)) (first_of (codes "name") rows)
+history_in rows =
+    option_map (λ name. task.Ask (question.History name)) (first_of (codes "name") rows)
 
 -- what `load` asks
 abbrev pub load_in : List Row → Option Task
@@ -64,19 +70,29 @@ load_in rows = option_map (λ job. task.Load job) (first_of (codes "job") rows)
 
 -- what `sample` asks, by its words
 abbrev pub sample_of : Text → Text → Option Task
-sample_of seed size = option_and_then (λ seed. option_map (λ size. task.Sample seed size) (size_in size)) (seed_in seed)
+sample_of seed size =
+    option_and_then (λ seed. option_map (λ size. task.Sample seed size) (size_in size))
+    (seed_in seed)
 
 -- the same by what it found
 abbrev pub sample_in : List Row → Option Task
-sample_in rows = option_and_then (λ seed. option_and_then (λ size. sample_of seed size) (first_of (codes "size") rows)) (first_of (codes "seed") rows)
+sample_in rows =
+    option_and_then (λ seed.
+    option_and_then (λ size. sample_of seed size) (first_of (codes "size") rows))
+    (first_of (codes "seed") rows)
 
 -- what `serve` asks, by its words
 abbrev pub serve_of : Text → Option Text → Option Task
-serve_of port connections = option_and_then (λ port. option_map (λ connections. task.Serve port connections) (connections_in connections)) (port_in port)
+serve_of port connections =
+    option_and_then (λ port.
+    option_map (λ connections. task.Serve port connections) (connections_in connections))
+    (port_in port)
 
 -- the same by what it found
 abbrev pub serve_in : List Row → Option Task
-serve_in rows = option_and_then (λ port. serve_of port (first_of (codes "connections") rows)) (first_of (codes "port") rows)
+serve_in rows =
+    option_and_then (λ port. serve_of port (first_of (codes "connections") rows))
+    (first_of (codes "port") rows)
 
 abbrev pub is_none : Kinds → Bool
 is_none [] = true
@@ -84,7 +100,8 @@ is_none (k ∷ ks) = false
 
 -- what a command makes of the words, where it takes them
 unfoldable pub read_by : App → (List Row → Option Task) → List Text → Option Task
-read_by app asked words = if is_none (fault_of app words) then asked (matches_of app words) else None
+read_by app asked words =
+    if is_none (fault_of app words) then asked (matches_of app words) else None
 
 -- a command that takes no words behind its own
 abbrev pub read_bare : Text → Task → List Text → Option Task

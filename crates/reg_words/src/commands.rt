@@ -1,7 +1,9 @@
 // Simple commands for `clap`: how they are made, and what they find.
 ghost use Rattle.std.specs.Prelude.{◌≡◌, ◌≢◌, [], true, IfOk, MatchOption, map, string_bytes};
-ghost use Rattle.clap.specs.Words.{app_of, fault_of, first_of, found_of, is_simple_and_free, matches_of, rows_of};
-ghost use Rattle.reg_words.specs.Words.{bare, with_word, with_option, members, history, serve, load, sample};
+ghost use Rattle.clap.specs.Words.{app_of, fault_of, first_of, found_of, is_simple_and_free};
+ghost use Rattle.clap.specs.Words.{matches_of, rows_of};
+ghost use Rattle.reg_words.specs.Words.{bare, with_word, with_option, members, history, serve};
+ghost use Rattle.reg_words.specs.Words.{load, sample};
 
 use clap::error::ErrorKind;
 use clap::{Arg, ArgAction, ArgMatches, Command};
@@ -89,9 +91,11 @@ pub fn found<'a>(
     words: &'a [String],
 ) -> Result<Option<ArgMatches<'a>>, AllocError>
     requires { is_simple_and_free (app_of command) ≡ true }
-    ensures { IfOk result (λ o. MatchOption o (fault_of (app_of command.entry) (map string_bytes words.entry.now) ≢ [])
+    ensures { IfOk result (λ o.
+        MatchOption o (fault_of (app_of command.entry) (map string_bytes words.entry.now) ≢ [])
         (λ m. (fault_of (app_of command.entry) (map string_bytes words.entry.now) ≡ [])
-        × (rows_of (found_of m) ≡ matches_of (app_of command.entry) (map string_bytes words.entry.now)))) }
+        × (rows_of (found_of m) ≡ matches_of (app_of command.entry)
+        (map string_bytes words.entry.now)))) }
 {
     match command.try_get_matches_from(words) {
         Ok(matches) => Ok(Some(matches)),

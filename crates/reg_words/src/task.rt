@@ -67,7 +67,8 @@ pub enum Task {
     Check,
     /// Answer one question.
     Ask(Question),
-    /// Run a job over a table, which is the input. Whether the job's text is a name isn't asked yet.
+    /// Run a job over a table, which is the input. Whether the job's text is a name isn't asked
+    /// yet.
     Load { job: Text },
     /// Put the requests of a seed and a size to a registry that keeps nothing.
     Sample { seed: u64, size: Size },

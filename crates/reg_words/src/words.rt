@@ -1,7 +1,9 @@
 // From the words to what they ask for.
 ghost use Rattle.std.specs.Prelude.{◌≡◌, IfOk, map, string_bytes};
 ghost use Rattle.clap.specs.Words.{found_of, rows_of};
-ghost use Rattle.reg_words.specs.Words.{history, history_in, load, load_in, members, members_in, read_bare, read_by, sample, sample_in, sample_of, serve, serve_in, serve_of, task_by, task_of};
+ghost use Rattle.reg_words.specs.Words.{history, history_in, load, load_in, members, members_in};
+ghost use Rattle.reg_words.specs.Words.{read_bare, read_by, sample, sample_in, sample_of, serve};
+ghost use Rattle.reg_words.specs.Words.{serve_in, serve_of, task_by, task_of};
 
 use crate::commands::{bare, found, history, load, members, sample, serve, value};
 use crate::numbers::{connections_in, port_in, seed_in, size_in};
@@ -103,7 +105,8 @@ fn serve_in(alloc: Global, matches: &ArgMatches) -> Result<Option<Task>, AllocEr
 
 /// Reads the words of `members NAME [--at T]`.
 fn read_members(alloc: Global, words: &[String]) -> Result<Option<Task>, AllocError>
-    ensures { IfOk result (λ asked. asked ≡ read_by members members_in (map string_bytes words.now)) }
+    ensures { IfOk result (λ asked. asked
+        ≡ read_by members members_in (map string_bytes words.now)) }
 {
     let command = members(alloc)?;
     match found(command, words)? {
@@ -114,7 +117,8 @@ fn read_members(alloc: Global, words: &[String]) -> Result<Option<Task>, AllocEr
 
 /// Reads the words of `history NAME`.
 fn read_history(alloc: Global, words: &[String]) -> Result<Option<Task>, AllocError>
-    ensures { IfOk result (λ asked. asked ≡ read_by history history_in (map string_bytes words.now)) }
+    ensures { IfOk result (λ asked. asked
+        ≡ read_by history history_in (map string_bytes words.now)) }
 {
     let command = history(alloc)?;
     match found(command, words)? {

@@ -13,9 +13,10 @@ const USAGE: u8 = 2;
 /// The exit status where there was no memory.
 const NO_MEMORY: u8 = 3;
 
-/// The null file. A file that is opened takes the lowest descriptor that is free, which is a standard
-/// stream's where the caller closed it: three of these leave none of them to the journal, over which
-/// replies would be written. What is read of such a stream is empty, and a write to it fails.
+/// The null file. A file that is opened takes the lowest descriptor that is free, which is a
+/// standard stream's where the caller closed it: three of these leave none of them to the journal,
+/// over which replies would be written. What is read of such a stream is empty, and a write to it
+/// fails.
 fn null(rt: &HostRuntime) -> Option<File> {
     OpenOptions::new().read(true).open(rt, "/dev/null").ok()
 }

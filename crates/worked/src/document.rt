@@ -10,9 +10,9 @@ fn play_section(alloc: Global, section: &str, report: &mut String) -> Result<(),
     example.report(report)
 }
 
-/// Plays the examples of a document, and gives a line for each, with what was wrong below it. A line
-/// that begins with `## `, not the first of all, begins an example. What stands before the first one,
-/// and each line that isn't indented, is for readers. The only error is out of memory.
+/// Plays the examples of a document, and gives a line for each, with what was wrong below it. A
+/// line that begins with `## `, not the first of all, begins an example. What stands before the
+/// first one, and each line that isn't indented, is for readers. The only error is out of memory.
 pub fn play(alloc: Global, text: &str) -> Result<String, AllocError> {
     let mut report = String::new(alloc);
     for section in text.split("\n## ").skip(1) {
