@@ -15,8 +15,8 @@ use reg_http::turns_exclude_each_other;
 /// moments to come and the messages.
 pub fn replies_are_one()
     ensures { (before after : Point) (calls : List Call) (a : Answered before calls after)
-        → IfSome before.moments (λ coming. All (λ told. told
-        ≢ reply.NoMemory) (replies_of a.answers)
+        → IfSome before.moments (λ coming.
+        All (λ told. told ≢ reply.NoMemory) (replies_of a.answers)
         → (replies_of a.answers ≡ replies before.state coming calls)
         × (after.state ≡ last_state before.state coming calls)) }
 {}

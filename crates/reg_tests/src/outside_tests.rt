@@ -4,13 +4,18 @@ use reg_outside::{
     write_whole,
 };
 use std::cell::Cell;
-use std::fs::remove_file;
+use std::fs::{exists, remove_file};
 use std::io::{self, ErrorKind, Read, Write};
+use std::os::unix::fs::symlink;
 use std::rt;
 use std::test::Fail;
 use std::time::Duration;
 
 const FILE: &str = "file_disk_test";
+
+const LINK: &str = "file_disk_link";
+
+const LINKED: &str = "file_disk_linked";
 
 #[test]
 fn a_file_reads_what_was_written_and_is_locked(rt: HostRuntime) -> Result<(), Fail> {
@@ -37,6 +42,23 @@ fn a_file_in_no_folder_and_a_write_past_all_files_fail(rt: HostRuntime) -> Resul
     let mut absent = FileDisk::new(&rt, "no_folder/file_disk_test");
     assert!(rt; absent.sync() == Err(Failed));
     assert!(rt; absent.write_at((1 << 63) - 1, b"f") == Err(Failed));
+    Ok(())
+}
+
+#[test]
+fn a_file_behind_a_link_is_opened_and_not_made(rt: HostRuntime) -> Result<(), Fail> {
+    let _ = remove_file(&rt, LINK);
+    let _ = remove_file(&rt, LINKED);
+    assert!(rt; symlink(&rt, LINKED, LINK).is_ok());
+    let mut behind = FileDisk::new(&rt, LINK);
+    assert!(rt; behind.write_at(0, b"a") == Err(Failed));
+    assert!(rt; matches!(exists(&rt, LINKED), Ok(false)));
+    let mut disk = FileDisk::new(&rt, LINKED);
+    assert!(rt; disk.write_at(0, b"ab") == Ok(()));
+    drop(disk);
+    assert!(rt; behind.len() == Ok(2));
+    assert!(rt; remove_file(&rt, LINK).is_ok());
+    assert!(rt; remove_file(&rt, LINKED).is_ok());
     Ok(())
 }
 
