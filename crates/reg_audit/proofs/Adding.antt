@@ -13,7 +13,7 @@ use Rattle.reg_pit.specs.Grants.{has_grant}
 use Rattle.reg_pit.specs.Past.{assigns_at, last_assign, was_member, was_granted, wheel_at, NotedBy}
 use Rattle.reg_priv.specs.Grants.{grants}
 use Rattle.reg_priv.specs.May.{wheel}
-use Rattle.reg_priv.specs.Touched.{is_listed}
+use Rattle.reg_priv.specs.Touched.{is_listed, KnowsTouched}
 use Rattle.reg_audit.specs.Assigning.{all_changed, last_after_all}
 use Rattle.reg_audit.specs.Audit.{IsAudit}
 use Rattle.reg_audit.specs.Consumers.{places_after}
@@ -23,7 +23,6 @@ use Rattle.reg_audit.specs.Lines.{turn_line}
 use Rattle.reg_audit.specs.Lives.{begun, ended, first_life, life_of, leaving, all_gone, groups_of, gone_of, last_name, gone_name, last_named, gone_named}
 use Rattle.reg_audit.specs.Notes.{StepNotes, acted_notes, notes_of}
 use Rattle.reg_audit.specs.Steps.{Step, FollowsOn, facts_of, consumers_by}
-use Rattle.reg_audit.specs.Touched.{KnowsTouched}
 use Rattle.reg_audit.specs.declared.audit.Audit.{Audit}
 use Rattle.reg_audit.specs.declared.gone.Gone.{Gone}
 use Rattle.reg_audit.proofs.Consuming.{all_events}

@@ -14,11 +14,10 @@ use Rattle.reg_pit.specs.Past.{assigns_at, last_assign, was_granted, wheel_at, N
 use Rattle.reg_pit.specs.declared.past.Past.{Past}
 use Rattle.reg_priv.specs.Grants.{grants}
 use Rattle.reg_priv.specs.May.{wheel}
-use Rattle.reg_priv.specs.Touched.{is_listed}
+use Rattle.reg_priv.specs.Touched.{is_listed, KnowsTouched}
 use Rattle.reg_audit.specs.Assigning.{AreNew, all_changed, assign_changes, last_after_all}
 use Rattle.reg_audit.specs.Audit.{IsAudit}
 use Rattle.reg_audit.specs.Steps.{Step, FollowsOn, last_by, last_facts, facts_of, facts_by}
-use Rattle.reg_audit.specs.Touched.{KnowsTouched}
 use Rattle.reg_audit.specs.declared.audit.Audit.{Audit}
 use Rattle.reg_audit.proofs.Changing.{events_changed, events_last, events_new}
 use Rattle.reg_audit.proofs.Stepping.{all_seen, last_by_more, last_more}

@@ -1,7 +1,6 @@
 pub mod Steps
 pub mod Assigning
 pub mod Objects
-pub mod Touched
 pub mod Lines
 pub mod Lives
 pub mod Definitions

@@ -19,7 +19,7 @@ ghost use Rattle.reg_audit.specs.Lives.{life_of, gone_of, gone_name, gone_named}
 ghost use Rattle.reg_audit.specs.Notes.{acted_notes, notes_of};
 ghost use Rattle.reg_audit.specs.Steps.{Step, FollowsOn, consumers_by, facts_by, live_by};
 ghost use Rattle.reg_audit.specs.Steps.{last_moment};
-ghost use Rattle.reg_audit.specs.Touched.{KnowsTouched};
+ghost use Rattle.reg_priv.specs.Touched.{KnowsTouched};
 
 use crate::Notes;
 use crate::noting::note_past;

@@ -74,7 +74,7 @@ pub fn is_missing_object<K: Kept>(
 pub fn is_missing<K: Kept>(facts: &Facts, kept: &K, who: &Who, entity: &Entity) -> bool
     ensures { result ≡ is_missing (K.held kept.now) facts.now who.now entity.now }
 {
-    !is_internal(entity) && is_hidden(facts, kept, who, &facts.entity_object(entity))
+    is_missing_member(facts, kept, who, entity, &facts.member_of(entity))
 }
 
 /// The object that a member is.

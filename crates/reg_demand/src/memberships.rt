@@ -25,19 +25,19 @@ fn row_add<K: Kept>(
     by: &Entity,
     who: &Who,
     group: &Name,
-    id: Option<GroupId>,
+    id: &Option<GroupId>,
     member: &Entity,
     found: &Option<Member>,
     _from: Option<Moment>,
     _until: Option<Moment>,
 ) -> Result<Option<Refusal>, AllocError>
-    requires group { id ≡ group_id group.now facts.now }
+    requires group { id.now ≡ group_id group.now facts.now }
     requires member { found.now ≡ member_of member.now facts.now }
     ensures { IfOk result (λ refusal. refusal
         ≡ first_of (barred (K.held kept.now) facts.now by.now who.now
         (MemberAdd group.now member.now _from _until))) }
 {
-    if is_unseen(facts, kept, who, &id) {
+    if is_unseen(facts, kept, who, id) {
         return not_found(alloc, group.as_str());
     }
     if is_missing_member(facts, kept, who, member, found) {
@@ -48,7 +48,7 @@ fn row_add<K: Kept>(
     } else {
         Privilege::Update
     };
-    if lacks_on_group(facts, kept, who, &id, privilege) {
+    if lacks_on_group(facts, kept, who, id, privilege) {
         return denied(alloc, group.as_str(), privilege);
     }
     if let Entity::Group(name) = member {
@@ -79,7 +79,7 @@ pub fn member_add<K: Kept>(
     let id = facts.group_id(group.as_str());
     let found = facts.member_of(member);
     row_add(
-        alloc, facts, kept, by, who, group, id, member, &found, from, until,
+        alloc, facts, kept, by, who, group, &id, member, &found, from, until,
     )
 }
 
@@ -92,13 +92,13 @@ pub fn refused_member<K: Kept>(
     kept: &K,
     by: &Entity,
     group: &Name,
-    id: Option<GroupId>,
+    id: &Option<GroupId>,
     member: &Entity,
     found: &Option<Member>,
     from: Option<Moment>,
     until: Option<Moment>,
 ) -> Result<Option<Refusal>, AllocError>
-    requires group { id ≡ group_id group.now facts.now }
+    requires group { id.now ≡ group_id group.now facts.now }
     requires member { found.now ≡ member_of member.now facts.now }
     ensures { IfOk result (λ refusal. refusal
         ≡ refused (K.held kept.now) facts.now by.now (MemberAdd group.now member.now from until)) }

@@ -22,16 +22,16 @@ use Rattle.reg_audit.specs.Definitions.{all_attributes, attributes_made, definit
 use Rattle.reg_audit.specs.Steps.{Step}
 use Rattle.reg_effect.specs.Deltas as deltas
 use Rattle.reg_rules.specs.Settling.{settle}
-use Rattle.reg_machine.specs.Dates.{date_passed, due, ending, pair_gone, pass, without_ended}
+use Rattle.reg_current.specs.Dates.{date_passed, due, ending, pair_gone, pass, without_ended}
 use Rattle.reg_machine.specs.Defining.{AreDefined}
 use Rattle.reg_machine.specs.History.{State, acted, facts}
-use Rattle.reg_machine.specs.Holding.{AllHold}
+use Rattle.reg_current.specs.Holding.{AllHold}
 use Rattle.reg_machine.specs.Invariant.{IsBy}
-use Rattle.reg_machine.specs.Live.{live}
+use Rattle.reg_current.specs.Live.{live}
 use Rattle.reg_machine.specs.Past.{command_step, date_step, def_of, steps}
 use Rattle.reg_machine.proofs.Lived.{facts_earlier, none_before, none_within}
 use Rattle.reg_machine.proofs.Moments.{facts_push, next_comes, none_comes}
-use Rattle.reg_machine.proofs.Due.{due_some}
+use Rattle.reg_current.proofs.Due.{due_some}
 use Rattle.reg_machine.proofs.Settled.{settle_is}
 use Rattle.reg_machine.proofs.StepByStep.{no_steps, steps_next, steps_none, steps_push}
 use Rattle.reg_machine.proofs.Stood.{all_suit}

@@ -21,11 +21,12 @@ use Rattle.reg_effect.specs.Deltas.{ended}
 use Rattle.reg_rules.specs.declared.actions.Action.TheVariants.{Removed, Ended}
 use Rattle.reg_rules.specs.Actions.{all_done, done, with_end}
 use Rattle.reg_rules.specs.Settling.{acting, settle}
-use Rattle.reg_machine.specs.Dates.{date_passed, ends_at, without_ended}
+use Rattle.reg_current.specs.Dates.{date_passed, ends_at, without_ended}
 use Rattle.reg_machine.specs.Formed.{AreFormed, IsFormed}
 use Rattle.reg_machine.specs.History.{State, facts}
-use Rattle.reg_machine.specs.Invariant.{IsInStep, Now}
-use Rattle.reg_machine.specs.Live.{live}
+use Rattle.reg_current.specs.Invariant.{Now}
+use Rattle.reg_machine.specs.Invariant.{IsInStep}
+use Rattle.reg_current.specs.Live.{live}
 use Rattle.reg_machine.specs.Recording.{settled_after}
 use Rattle.reg_machine.proofs.Settled.{acting_keeps, settle_keeps}
 

@@ -26,10 +26,10 @@ use Rattle.reg_effect.specs.Member.{combine, gives, in_rows, in_factors, member_
 use Rattle.reg_effect.specs.Order.{has_live_row}
 use Rattle.reg_effect.proofs.LiveOf.{rows_on_has}
 use Rattle.reg_rules.specs.Settling.{settle}
-use Rattle.reg_machine.specs.Dates.{date_passed, due, pass, without_ended}
+use Rattle.reg_current.specs.Dates.{date_passed, due, pass, without_ended}
 use Rattle.reg_machine.specs.History.{acted, facts}
 use Rattle.reg_machine.specs.Invariant.{IsBy}
-use Rattle.reg_machine.specs.Live.{live}
+use Rattle.reg_current.specs.Live.{live}
 use Rattle.reg_machine.specs.Past.{AreKnown}
 use Rattle.reg_machine.proofs.Lived.{facts_earlier, none_before, none_within, still}
 use Rattle.reg_machine.proofs.Moments.{facts_push, next_comes, none_comes}

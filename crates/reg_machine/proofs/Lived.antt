@@ -15,14 +15,14 @@ use Rattle.reg_effect.specs.declared.live.Live.{Live}
 use Rattle.reg_effect.specs.Member.{member}
 use Rattle.std.specs.Option.{option_or}
 use Rattle.reg_audit.specs.Steps.{Step, last_by, last_of, last_facts, last_moment, facts_of, facts_by, left_by, live_by}
-use Rattle.reg_machine.specs.Dates.{due, pass}
+use Rattle.reg_current.specs.Dates.{due, pass}
 use Rattle.reg_machine.specs.History.{facts, facts_after, up_to}
 use Rattle.reg_machine.specs.Invariant.{IsBy, IsFrom}
-use Rattle.reg_machine.specs.Live.{live}
+use Rattle.reg_current.specs.Live.{live}
 use Rattle.reg_machine.specs.Past.{IsStepBy, AreLived, command_step, date_step, steps, was_member}
-use Rattle.reg_machine.proofs.Due.{due_none, due_none_from, due_some}
+use Rattle.reg_current.proofs.Due.{due_none, due_none_from, due_some}
 use Rattle.reg_machine.proofs.Moments.{facts_push, next_comes, none_comes}
-use Rattle.reg_machine.proofs.Passing.{live_stays}
+use Rattle.reg_current.proofs.Passing.{live_stays}
 use Rattle.reg_machine.proofs.StepByStep.{no_steps, steps_next, steps_none, steps_push}
 
 -- ---- the last step up to a moment

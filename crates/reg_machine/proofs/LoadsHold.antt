@@ -9,8 +9,8 @@ use Rattle.reg_terms.specs.declared.rows.PersonRow.{PersonRow}
 use Rattle.reg_facts.specs.Events.{all_happened, grants_added, group_events, groups_events, happened, load_events, new_groups_grants, row_comes, row_goes, row_named, rows_events, with_groups}
 use Rattle.reg_facts.specs.Lists.{Lists}
 use Rattle.reg_facts.specs.Suiting.{AllSuit}
-use Rattle.reg_machine.specs.Circles.{ClosesNone}
-use Rattle.reg_machine.specs.Holding.{AllHold, EndsLater}
+use Rattle.reg_current.specs.Circles.{ClosesNone}
+use Rattle.reg_current.specs.Holding.{AllHold, EndsLater}
 
 -- an event closes no circle, whatever the facts, and no row ends early by it
 record IsCalm (at : ℕ) (e : Event) : Type 0 where

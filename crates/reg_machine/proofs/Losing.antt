@@ -16,9 +16,9 @@ use Rattle.reg_rules.specs.Live.{row_on}
 use Rattle.reg_rules.specs.Lost.{has_removal}
 use Rattle.reg_rules.specs.Settling.{settle}
 use Rattle.reg_audit.specs.Steps.{Step}
-use Rattle.reg_machine.specs.Dates.{date_passed, due, pass, without_ended}
+use Rattle.reg_current.specs.Dates.{date_passed, due, pass, without_ended}
 use Rattle.reg_machine.specs.History.{acted, up_to}
-use Rattle.reg_machine.specs.Live.{live}
+use Rattle.reg_current.specs.Live.{live}
 use Rattle.reg_machine.specs.Losing.{TakesLost}
 use Rattle.reg_machine.specs.Past.{command_step, date_step, dates_passed, dates_passed_in, steps, steps_after}
 use Rattle.reg_machine.proofs.Settled.{settle_is}

@@ -19,17 +19,18 @@ use Rattle.reg_audit.specs.Audit.{IsAudit}
 use Rattle.reg_audit.specs.Steps.{Step, FollowsOn, left_by}
 use Rattle.reg_effect.specs.Deltas.{ended}
 use Rattle.reg_rules.specs.Settling.{settle}
-use Rattle.reg_machine.specs.Dates.{date_passed, due, ending, pair_gone, without_ended}
+use Rattle.reg_current.specs.Dates.{date_passed, due, ending, pair_gone, without_ended}
 use Rattle.reg_machine.specs.History.{facts}
-use Rattle.reg_machine.specs.Holding.{AllHold}
-use Rattle.reg_machine.specs.Invariant.{IsInStep, Now}
-use Rattle.reg_machine.specs.Live.{live}
+use Rattle.reg_current.specs.Holding.{AllHold}
+use Rattle.reg_current.specs.Invariant.{Now}
+use Rattle.reg_machine.specs.Invariant.{IsInStep}
+use Rattle.reg_current.specs.Live.{live}
 use Rattle.reg_machine.specs.Past.{AreKnown, AreLived, command_step, date_step, steps}
 use Rattle.reg_machine.specs.Recording.{IsRecorded, Recording, Records, carried_step, settled_after}
 use Rattle.reg_machine.specs.Refusals.{refusal}
 use Rattle.reg_machine.specs.Standing.{AreStood}
 use Rattle.reg_machine.proofs.Defined.{defined_later, defined_next, defined_push, defined_start}
-use Rattle.reg_machine.proofs.Due.{due_some}
+use Rattle.reg_current.proofs.Due.{due_some}
 use Rattle.reg_machine.proofs.Formed.{carried_formed, date_formed, start_formed}
 use Rattle.reg_machine.proofs.InStep.{command_in_step, later_in_step, next_in_step}
 use Rattle.reg_machine.proofs.KnownPersons.{known_later, known_next, known_push, known_start}

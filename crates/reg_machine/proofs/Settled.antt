@@ -23,7 +23,7 @@ use Rattle.reg_rules.specs.declared.actions.Action.TheVariants.{Removed, Ended}
 use Rattle.reg_rules.specs.Actions.{days_later, removal, ending, action_of, with_end, done, all_done}
 use Rattle.reg_rules.specs.Live.{live, begun, row_on}
 use Rattle.reg_rules.specs.Settling.{listed, acting, rule_actions, round_actions, settling_in, settling, settle}
-use Rattle.reg_machine.specs.Invariant.{IsOpen}
+use Rattle.reg_current.specs.Invariant.{IsOpen}
 use Rattle.reg_machine.specs.Owners.{owns, may_lose}
 
 -- ---- nothing changes but rows

@@ -12,14 +12,14 @@ use Rattle.reg_effect.specs.declared.live.Live.{Live}
 use Rattle.reg_effect.specs.Deltas.{ended}
 use Rattle.reg_rules.specs.Settling.{settle, settling}
 use Rattle.reg_audit.specs.Steps.{Step}
-use Rattle.reg_machine.specs.Dates.{date_passed, due, ending, pair_gone, pass, without_ended}
+use Rattle.reg_current.specs.Dates.{date_passed, due, ending, pair_gone, pass, without_ended}
 use Rattle.reg_machine.specs.History.{acted, facts, facts_after}
 use Rattle.reg_machine.specs.Invariant.{IsBy}
-use Rattle.reg_machine.specs.Live.{live}
+use Rattle.reg_current.specs.Live.{live}
 use Rattle.reg_machine.specs.Past.{date_step, command_step, dates_passed_in, dates_passed, steps_after, steps}
-use Rattle.reg_machine.proofs.Due.{due_some, due_up_to, due_from, due_nowhere}
+use Rattle.reg_current.proofs.Due.{due_some, due_up_to, due_from, due_nowhere}
 use Rattle.reg_machine.proofs.Moments.{all_up_to, by_later, by_more, facts_of}
-use Rattle.reg_machine.proofs.Passing.{by_dates, date_passed_falls, date_passed_from, dates_in, dates_most, live_stays, pass_none, pass_some}
+use Rattle.reg_current.proofs.Passing.{by_dates, date_passed_falls, date_passed_from, dates_in, dates_most, live_stays, pass_none, pass_some}
 
 -- ---- as many dates as are due, and from there on no more
 

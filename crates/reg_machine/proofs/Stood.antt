@@ -23,14 +23,14 @@ use Rattle.reg_audit.specs.Steps.{Step}
 use Rattle.reg_audit.proofs.Stepping.{life_more}
 use Rattle.reg_effect.specs.Deltas as deltas
 use Rattle.reg_rules.specs.Settling.{settle}
-use Rattle.reg_machine.specs.Dates.{date_passed, due, ending, pair_gone, pass, without_ended}
+use Rattle.reg_current.specs.Dates.{date_passed, due, ending, pair_gone, pass, without_ended}
 use Rattle.reg_machine.specs.History.{State, acted, facts}
-use Rattle.reg_machine.specs.Holding.{AllHold}
+use Rattle.reg_current.specs.Holding.{AllHold}
 use Rattle.reg_machine.specs.Invariant.{IsBy}
-use Rattle.reg_machine.specs.Live.{live}
+use Rattle.reg_current.specs.Live.{live}
 use Rattle.reg_machine.specs.Past.{command_step, date_step, life, steps}
 use Rattle.reg_machine.specs.Standing.{lives_at, stands, was_made, LifeBy, IsLived, AreStood}
-use Rattle.reg_machine.proofs.Due.{due_some}
+use Rattle.reg_current.proofs.Due.{due_some}
 use Rattle.reg_machine.proofs.LivesOn.{Life, events_lived, rest_still, step_life}
 use Rattle.reg_machine.proofs.Lived.{facts_earlier, none_before, none_within}
 use Rattle.reg_machine.proofs.Moments.{facts_push, next_comes, none_comes}

@@ -28,7 +28,7 @@ use Rattle.reg_rules.specs.Veto.{first_veto, vetoes}
 use Rattle.reg_machine.specs.Checks.{all_load_checks, checks, load_of_checks, member_add_checks, row_veto, rows_veto, veto_on}
 use Rattle.reg_machine.specs.History.{facts}
 use Rattle.reg_machine.specs.Invariant.{IsLegal}
-use Rattle.reg_machine.specs.Live.{live}
+use Rattle.reg_current.specs.Live.{live}
 use Rattle.reg_machine.specs.Refusals.{refusal}
 use Rattle.reg_machine.specs.Vetoes.{AllLet, IsLet, Lets}
 use Rattle.reg_machine.proofs.Allowed.{AllFail, all_fail, rest_none}

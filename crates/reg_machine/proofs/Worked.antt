@@ -21,11 +21,11 @@ use Rattle.reg_effect.specs.Member.{member}
 use Rattle.reg_rules.specs.Settling.{settling}
 use Rattle.reg_load.specs.LoadChecks.{load_checks}
 use Rattle.reg_machine.specs.Checks.{all_load_checks, folder_delete_checks, group_delete_checks, job_list_checks, job_simple_checks}
-use Rattle.reg_machine.specs.Invariant.{Now}
-use Rattle.reg_machine.specs.Live.{live}
+use Rattle.reg_current.specs.Invariant.{Now}
+use Rattle.reg_current.specs.Live.{live}
 use Rattle.reg_machine.specs.Recording.{carried_steps}
 use Rattle.reg_machine.specs.Refusals.{first_of}
-use Rattle.reg_machine.specs.Steps.{changes_of}
+use Rattle.reg_current.specs.Steps.{changes_of}
 
 -- an immediate membership since the moment 5
 row : ℕ → Member → MemberRow

@@ -30,7 +30,7 @@ use Rattle.reg_loader.specs.declared.tables.TableFault.{TableFault}
 use Rattle.reg_loader.specs.declared.tables.TableFault.TheVariants as table
 use Rattle.reg_loader.specs.declared.tables.TableRow.{TableRow}
 use Rattle.reg_machine.specs.History.{facts}
-use Rattle.reg_machine.specs.Live.{live}
+use Rattle.reg_current.specs.Live.{live}
 use Rattle.reg_machine.specs.Past.{present_name}
 use Rattle.reg_machine.specs.Refusals.{refusal}
 

@@ -31,9 +31,9 @@ use Rattle.reg_pit.specs.Grants.{has_grant}
 use Rattle.reg_pit.specs.Spans.{spans_until}
 use Rattle.reg_priv.specs.Grants.{grants}
 use Rattle.reg_table.specs.Keyed.{in_order}
-use Rattle.reg_machine.specs.Dates.{date_actions, date_passed, due, ending, pair_gone, pass}
+use Rattle.reg_current.specs.Dates.{date_actions, date_passed, due, ending, pair_gone, pass}
 use Rattle.reg_machine.specs.History.{acted, command_actions, facts, up_to}
-use Rattle.reg_machine.specs.Live.{live}
+use Rattle.reg_current.specs.Live.{live}
 
 -- ---- steps
 

@@ -15,11 +15,12 @@ use Rattle.reg_audit.specs.Steps.{Step, FollowsOn}
 use Rattle.reg_audit.specs.declared.audit.Audit.{Audit}
 use Rattle.reg_machine.specs.Defining.{AreDefined}
 use Rattle.reg_machine.specs.Formed.{AreFormed}
-use Rattle.reg_machine.specs.Invariant.{IsInStep, Now}
-use Rattle.reg_machine.specs.Live.{live}
+use Rattle.reg_current.specs.Invariant.{Now}
+use Rattle.reg_machine.specs.Invariant.{IsInStep}
+use Rattle.reg_current.specs.Live.{live}
 use Rattle.reg_machine.specs.Past.{AreKnown, AreLived, steps}
 use Rattle.reg_machine.specs.Standing.{AreStood}
-use Rattle.reg_machine.specs.Steps.{events_steps}
+use Rattle.reg_current.specs.Steps.{events_steps}
 
 -- facts at a moment, and the record of the steps up to it
 pub record Recording : Type 0 where

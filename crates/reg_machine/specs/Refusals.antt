@@ -7,7 +7,7 @@ use Rattle.reg_terms.specs.declared.refusal.Refusal.{Refusal}
 use Rattle.reg_demand.specs.Refusing.{refused}
 use Rattle.reg_machine.specs.Checks.{Check, checks}
 use Rattle.reg_machine.specs.History.{facts}
-use Rattle.reg_machine.specs.Live.{live}
+use Rattle.reg_current.specs.Live.{live}
 use Rattle.reg_machine.specs.Past.{log}
 
 -- the first refusal whose test holds

@@ -7,7 +7,7 @@ use Rattle.reg_terms.specs.declared.rows.PersonRow.{PersonRow}
 use Rattle.reg_terms.specs.declared.rows.RuleRow.{RuleRow}
 use Rattle.reg_facts.specs.Lists.{Lists}
 use Rattle.reg_effect.specs.Member.{member}
-use Rattle.reg_machine.specs.Live.{live}
+use Rattle.reg_current.specs.Live.{live}
 
 -- a rule lets a person be added to a group at a moment: where it is a veto on the group, the person
 -- is an effective member of its condition

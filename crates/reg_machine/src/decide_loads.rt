@@ -4,7 +4,7 @@ ghost use Rattle.reg_load.specs.LoadChecks.{added_rows, first_fault, load_checks
 ghost use Rattle.reg_machine.specs.Checks.{all_load_checks, load_of_checks, load_refusal};
 ghost use Rattle.reg_machine.specs.Checks.{load_room_checks, row_veto, rows_veto};
 ghost use Rattle.reg_machine.specs.History.{now_facts};
-ghost use Rattle.reg_machine.specs.Live.{live};
+ghost use Rattle.reg_current.specs.Live.{live};
 ghost use Rattle.reg_machine.specs.Refusals.{first_of};
 
 use crate::Machine;

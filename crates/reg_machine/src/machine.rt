@@ -17,12 +17,13 @@ ghost use Rattle.reg_load.specs.LoadChecks.{added_rows};
 ghost use Rattle.reg_effect.specs.Order.{has_live_row};
 ghost use Rattle.reg_terms.specs.Forms.{has_form};
 ghost use Rattle.reg_machine.specs.Checks as checks;
-ghost use Rattle.reg_machine.specs.Dates.{due, is_on, pass_steps};
+ghost use Rattle.reg_current.specs.Circles as circles;
+ghost use Rattle.reg_current.specs.Dates.{due, is_on, pass_steps};
 ghost use Rattle.reg_machine.specs.Formed.{AreFormed};
 ghost use Rattle.reg_machine.specs.History.{State, acted, appended, start};
 ghost use Rattle.reg_machine.specs.Refusals.{refusal, first_of};
-ghost use Rattle.reg_machine.specs.Holding.{AllHold};
-ghost use Rattle.reg_machine.specs.Live.{live};
+ghost use Rattle.reg_current.specs.Holding.{AllHold};
+ghost use Rattle.reg_current.specs.Live.{live};
 ghost use Rattle.reg_machine.specs.Losing.{TakesLost};
 ghost use Rattle.reg_machine.specs.Vetoes.{AllLet, IsLet};
 ghost use Rattle.reg_terms.specs.declared.command.Command.TheVariants.{Load, MemberAdd};
@@ -172,7 +173,7 @@ impl<K: Kept> Machine<K> {
 
     /// Whether a row of the group that names the other, or a factor, would lead back.
     pub(crate) fn leads_back(&self, group: GroupId, other: GroupId) -> Result<bool, AllocError>
-        ensures { IfOk result (λ b. b ≡ checks.leads_back group other (now_facts self.now)) }
+        ensures { IfOk result (λ b. b ≡ circles.leads_back group other (now_facts self.now)) }
     {
         self.recorded.current().leads_back(group, other)
     }

@@ -10,7 +10,7 @@ ghost use Rattle.reg_demand.specs.Refusing.{refused};
 ghost use Rattle.reg_load.specs.Loading.{AreNames};
 ghost use Rattle.reg_loader.specs.Plan.{GroupStands, counts_of, is_composite_target};
 ghost use Rattle.reg_machine.specs.History.{now_facts};
-ghost use Rattle.reg_machine.specs.Live.{live};
+ghost use Rattle.reg_current.specs.Live.{live};
 ghost use Rattle.reg_machine.specs.Loads.{AreGroupsNamed, IsReady, command_of, is_list};
 ghost use Rattle.reg_machine.specs.Loads.{job_outcome, load_outcome, planned_outcome};
 ghost use Rattle.reg_machine.specs.Loads.{table_outcome, too_many};

@@ -1,5 +1,5 @@
 -- Which objects' grants, direct and inherited, an event may change.
-use Rattle.std.specs.Prelude.{◌||◌, ℕ, zero, suc, List, Bool, false, Option, None, Some}
+use Rattle.std.specs.Prelude.{◌≡◌, ◌||◌, ℕ, zero, suc, List, Bool, false, Option, None, Some}
 use Rattle.std.specs.List.{list_any}
 use Rattle.reg_terms.specs.declared.event.Event.{Event}
 use Rattle.reg_terms.specs.declared.event.Event.TheVariants.{FolderMade, FolderMoved, FolderGone}
@@ -15,7 +15,7 @@ use Rattle.reg_terms.specs.Kinds.{same_object}
 use Rattle.reg_facts.specs.Lists.{Lists}
 use Rattle.reg_facts.specs.Naming.{Placed, lies_in}
 use Rattle.reg_names.specs.Scopes.{in_scope}
-use Rattle.reg_priv.specs.Grants.{reaches}
+use Rattle.reg_priv.specs.Grants.{grants, reaches}
 
 -- whether an event, at the facts before it, may change the grants on an object: what is made, moved
 -- or goes, what gets or loses a grant, what an inherit that is added or removed reaches, and all
@@ -47,3 +47,9 @@ abbrev pub place_below : ℕ → ℕ → Option Placed → Lists → Bool
 place_below zero d place f = false
 place_below (suc n) d None f = false
 place_below (suc n) d (Some p) f = lies_in n p.folder d f.folders
+
+-- all objects on which there are other grants after than before, direct or inherited, are among
+-- these
+abbrev pub KnowsTouched : Lists → Lists → List Object → Type 0
+KnowsTouched before after touched =
+    (o : Object) → is_listed o touched ≡ false → grants o after ≡ grants o before

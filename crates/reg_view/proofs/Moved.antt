@@ -8,7 +8,7 @@ use Rattle.reg_facts.specs.Lists.{Lists}
 use Rattle.reg_effect.specs.declared.live.Live.{Live}
 use Rattle.reg_effect.specs.Member.{member}
 use Rattle.reg_machine.specs.History.{facts}
-use Rattle.reg_machine.specs.Live.{live}
+use Rattle.reg_current.specs.Live.{live}
 use Rattle.reg_view.specs.AtClock.{asked_at, view}
 use Rattle.reg_view.specs.Past.{Past, past}
 use Rattle.reg_view.specs.Show.{show}

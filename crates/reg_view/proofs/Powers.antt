@@ -25,7 +25,7 @@ use Rattle.reg_priv.specs.declared.who.Who.{Who}
 use Rattle.reg_priv.specs.declared.who.Who.TheVariants as who
 use Rattle.reg_priv.specs.Holders.{holders}
 use Rattle.reg_priv.specs.May.{is_root, judged, may, privileges_of, visible, who_of}
-use Rattle.reg_machine.specs.Live.{live}
+use Rattle.reg_current.specs.Live.{live}
 use Rattle.reg_machine.specs.Standing.{stands}
 use Rattle.reg_view.specs.Answers as answers
 use Rattle.reg_view.specs.Past.{Past, moment_of}

@@ -13,7 +13,7 @@ use Rattle.reg_facts.specs.Sound.{IsHeld, IsSound}
 use Rattle.reg_effect.specs.declared.live.Live.{Live}
 use Rattle.reg_effect.specs.Member.{member}
 use Rattle.reg_priv.specs.declared.who.Who.{Who}
-use Rattle.reg_machine.specs.Live.{live}
+use Rattle.reg_current.specs.Live.{live}
 use Rattle.reg_view.specs.Answers.{answer_of}
 use Rattle.reg_view.specs.AtClock.{asked_at}
 use Rattle.reg_view.specs.Past.{Past}

@@ -6,7 +6,7 @@ use Rattle.reg_terms.specs.declared.query.Query.{Query}
 use Rattle.reg_terms.specs.declared.query.Query.TheVariants as query
 use Rattle.reg_terms.specs.declared.query.Answer.{Answer}
 use Rattle.reg_machine.specs.History.{facts}
-use Rattle.reg_machine.specs.Live.{live}
+use Rattle.reg_current.specs.Live.{live}
 use Rattle.reg_view.specs.Past.{moment_of, past}
 use Rattle.reg_view.specs.Show.{show}
 use Rattle.reg_view.specs.View.{View, view_of}

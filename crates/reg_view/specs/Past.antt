@@ -18,7 +18,7 @@ use Rattle.reg_facts.specs.Members.{texts_where}
 use Rattle.reg_effect.specs.declared.live.Live.{Live}
 use Rattle.reg_machine.specs.History as given
 use Rattle.reg_machine.specs.History.{State}
-use Rattle.reg_machine.specs.Live.{live}
+use Rattle.reg_current.specs.Live.{live}
 use Rattle.reg_machine.specs.Past as machine
 
 -- ---- what is told

@@ -11,7 +11,7 @@ use Rattle.reg_effect.specs.declared.live.Live.{Live}
 use Rattle.reg_priv.specs.declared.who.Who.{Who}
 use Rattle.reg_priv.specs.declared.who.Who.TheVariants as who
 use Rattle.reg_priv.specs.May.{granted, is_root, judged}
-use Rattle.reg_machine.specs.Live.{live}
+use Rattle.reg_current.specs.Live.{live}
 use Rattle.reg_machine.specs.Standing.{stands}
 
 -- whether someone stands; the registry itself always does

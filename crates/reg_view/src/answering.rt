@@ -1,7 +1,7 @@
 // Answers over the facts and the effective memberships.
 ghost use Rattle.std.specs.Prelude.{◌≡◌, ℕ, List, Err, IfOk};
 ghost use Rattle.reg_machine.specs.History as given;
-ghost use Rattle.reg_machine.specs.Live.{live};
+ghost use Rattle.reg_current.specs.Live.{live};
 ghost use Rattle.reg_view.specs.Answers.{answer_of};
 ghost use Rattle.reg_view.specs.AtClock.{asked_at};
 ghost use Rattle.reg_view.specs.Past.{past_at};

@@ -2,7 +2,7 @@
 ghost use Rattle.std.specs.Prelude.{◌≡◌, ℕ, List, Err, IfOk};
 ghost use Rattle.reg_terms.specs.declared.command.Stamped.{Stamped};
 ghost use Rattle.reg_machine.specs.History.{facts};
-ghost use Rattle.reg_machine.specs.Live.{live};
+ghost use Rattle.reg_current.specs.Live.{live};
 ghost use Rattle.reg_view.specs.AtClock.{asked_at, view};
 ghost use Rattle.reg_view.specs.Past.{past_at};
 ghost use Rattle.reg_view.specs.Show.{show};

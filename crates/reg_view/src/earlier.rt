@@ -4,7 +4,7 @@ ghost use Rattle.std.specs.List.{list_any};
 ghost use Rattle.reg_terms.specs.Privileges.{all_privileges, gives};
 ghost use Rattle.reg_facts.specs.Lists.{Lists};
 ghost use Rattle.reg_priv.specs.May.{holds, is_root, judged, privileges_of};
-ghost use Rattle.reg_machine.specs.Live.{live};
+ghost use Rattle.reg_current.specs.Live.{live};
 ghost use Rattle.reg_machine.specs.Past.{was_member};
 ghost use Rattle.reg_machine.specs.Standing.{stands};
 ghost use Rattle.reg_view.specs.Held.{fits, held_of};

@@ -1,5 +1,5 @@
 use Rattle.std.proofs.Common.{refl}
-use Rattle.reg_machine.specs.Live.{live}
+use Rattle.reg_current.specs.Live.{live}
 use Rattle.reg_machine.proofs.recorded.carried.Goals as goal
 
 pub returns-clause-notes : goal.returns-clause-notes

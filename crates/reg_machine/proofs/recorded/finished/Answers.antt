@@ -2,8 +2,8 @@ use Rattle.std.proofs.Common.{◌≡◌, ◌∙◌, ap}
 use Rattle.reg_facts.specs.Lists.{Lists}
 use Rattle.reg_effect.specs.Deltas.{ended}
 use Rattle.reg_rules.specs.Settling.{settling}
-use Rattle.reg_machine.specs.Invariant.{Now}
-use Rattle.reg_machine.specs.Live.{live}
+use Rattle.reg_current.specs.Invariant.{Now}
+use Rattle.reg_current.specs.Live.{live}
 use Rattle.reg_machine.specs.Recording.{settled_step}
 use Rattle.reg_machine.proofs.Acting.{notes_are, settled_now, settled_touches, turns_are}
 use Rattle.reg_machine.proofs.recorded.finished.Goals as goal

@@ -1,8 +1,8 @@
 use Rattle.std.proofs.Common.{◌∙◌, ap, refl}
 use Rattle.reg_facts.specs.Lists.{Lists}
 use Rattle.reg_audit.specs.Notes.{notes_of}
-use Rattle.reg_machine.specs.Live.{live}
-use Rattle.reg_machine.proofs.Due.{due_some}
+use Rattle.reg_current.specs.Live.{live}
+use Rattle.reg_current.proofs.Due.{due_some}
 use Rattle.reg_machine.proofs.recorded.passed.Goals as goal
 
 pub ending-requires : goal.ending-requires

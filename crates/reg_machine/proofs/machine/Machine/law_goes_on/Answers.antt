@@ -5,7 +5,7 @@ use Rattle.reg_facts.specs.Lists.{Lists}
 use Rattle.reg_pit.specs.Grants.{has_grant}
 use Rattle.reg_priv.specs.Grants.{grants}
 use Rattle.reg_machine.specs.History.{facts}
-use Rattle.reg_machine.specs.Live.{live}
+use Rattle.reg_current.specs.Live.{live}
 use Rattle.reg_machine.proofs.Lived.{facts_before}
 use Rattle.reg_machine.proofs.machine.Machine.law_goes_on.Goals as goal
 

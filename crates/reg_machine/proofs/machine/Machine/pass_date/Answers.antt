@@ -1,6 +1,6 @@
 use Rattle.reg_machine.specs.Recording.{recording}
 use Rattle.std.proofs.Common.{◌≡◌, Some}
-use Rattle.reg_machine.specs.Dates.{due}
+use Rattle.reg_current.specs.Dates.{due}
 use Rattle.reg_machine.specs.Past.{date_step, steps}
 use Rattle.reg_machine.proofs.InStep.{date_steps, due_now}
 use Rattle.reg_machine.proofs.Recording.{next_follows, next_recorded}

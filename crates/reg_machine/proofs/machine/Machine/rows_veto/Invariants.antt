@@ -1,7 +1,7 @@
 use Rattle.std.proofs.Common.{◌≡◌, drop}
 use Rattle.reg_machine.specs.Checks.{rows_veto}
 use Rattle.reg_machine.specs.History.{now_facts}
-use Rattle.reg_machine.specs.Live.{live}
+use Rattle.reg_current.specs.Live.{live}
 use Rattle.reg_machine.proofs.machine.Machine.rows_veto.Given as goal
 
 -- none so far, so it is that of one of the rest

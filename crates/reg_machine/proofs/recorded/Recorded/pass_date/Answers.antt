@@ -2,12 +2,12 @@ use Rattle.std.proofs.Common.{◌≡◌, ◌≤◌, ◌+◌, ◌∙◌, map, ap,
 use Rattle.std.proofs.lemmas.Result.{IfOk-weaker}
 use Rattle.reg_effect.specs.declared.live.Live.{Live}
 use Rattle.reg_audit.specs.Notes.{notes_of}
-use Rattle.reg_machine.specs.Dates.{ending, pair_gone, without_ended}
-use Rattle.reg_machine.specs.Invariant.{Now}
-use Rattle.reg_machine.specs.Live.{live}
+use Rattle.reg_current.specs.Dates.{ending, pair_gone, without_ended}
+use Rattle.reg_current.specs.Invariant.{Now}
+use Rattle.reg_current.specs.Live.{live}
 use Rattle.reg_machine.specs.Recording.{settled_step, Records}
 use Rattle.reg_machine.proofs.Acting.{settled_now, steps_of_rules}
-use Rattle.reg_machine.proofs.RowFound.{on_ok}
+use Rattle.reg_current.proofs.RowFound.{on_ok}
 use Rattle.reg_machine.proofs.recorded.Recorded.pass_date.Goals as goal
 
 pub returns-clause-moved : goal.returns-clause-moved

@@ -1,0 +1,196 @@
+-- The least date of rows after one moment and up to another: what it tells of each row, and from and up to which other moments it is the same.
+use Rattle.std.proofs.Common.{◌≡◌, ◌<◌, ◌≤◌, ◌⊎◌, ◌==◌, ◌&&◌, ◌||◌, ℕ, suc, List, [], ◌∷◌, Bool, true, false, Option, Some, None, IfSome, min, nat_lt, nat_le, arith, refl, ◌∙◌, ap, inl, inr, eq-eqb, ne_eqb}
+use Rattle.std.proofs.lemmas.Bool.{cases_Bool, cases_lt, or_parts, or_from, or_left, or_right, and_parts, and_from, both_ways, ltb-true, leb-true, lt-ltb, le-leb}
+use Rattle.std.specs.List.{list_any, AllByRecursion}
+use Rattle.reg_terms.specs.declared.rows.MemberRow.{MemberRow}
+use Rattle.reg_current.specs.Dates.{begins_at, ends_at, earlier, with_date, with_end, due}
+
+-- whether a date is one of a row's
+abbrev pub is_dated : ℕ → MemberRow → Bool
+is_dated d row = begins_at d row || ends_at d row
+
+-- whether one of the rows has a date
+abbrev pub has_date : List MemberRow → ℕ → Bool
+has_date rows d = list_any (is_dated d) rows
+
+-- no date after one moment and up to another
+abbrev pub IsFree : ℕ → ℕ → (ℕ → Bool) → Type 0
+IsFree a b has = (d : ℕ) → a < d → d ≤ b → has d ≡ false
+
+-- the least date after one moment and up to another
+pub record IsLeast (a b : ℕ) (has : ℕ → Bool) (d : ℕ) : Type 0 where
+  pub later : a < d
+  pub within : d ≤ b
+  pub dated : has d ≡ true
+  pub none_before : (e : ℕ) → a < e → e < d → has e ≡ false
+
+-- what is found of dates: none, or the least
+abbrev pub Finds : ℕ → ℕ → (ℕ → Bool) → Option ℕ → Type 0
+Finds a b has None = IsFree a b has
+Finds a b has (Some d) = IsLeast a b has d
+
+-- a date more
+abbrev pub with_one : ℕ → (ℕ → Bool) → ℕ → Bool
+with_one d has e = (d == e) || has e
+
+-- a date that lies between the moments
+inside : (a b d : ℕ) (has : ℕ → Bool) (found : Option ℕ) → a < d → d ≤ b → Finds a b has found → Finds a b (with_one d has) (earlier d found)
+inside a b d has None l w h = record {
+  later = l;
+  within = w;
+  dated = or_left (d == d) (has d) (eq-eqb d d refl);
+  none_before = λ e p q. or_from (d == e) (has e) (ne_eqb d e (λ (s : d ≡ e). omega arith)) (h e p (omega arith));
+}
+inside a b d has (Some c) l w h = elim (cases_lt c d) [
+  | inl s ↦
+      let e : min d c ≡ c = omega arith in
+      rw e (record {
+        later = h.later;
+        within = h.within;
+        dated = or_right (d == c) (has c) h.dated;
+        none_before = λ x p q. or_from (d == x) (has x) (ne_eqb d x (λ (t : d ≡ x). omega arith)) (h.none_before x p q);
+      })
+  | inr s ↦
+      let e : min d c ≡ d = omega arith in
+      rw e (record {
+        later = l;
+        within = w;
+        dated = or_left (d == d) (has d) (eq-eqb d d refl);
+        none_before = λ x p q. or_from (d == x) (has x) (ne_eqb d x (λ (t : d ≡ x). omega arith)) (h.none_before x p (omega arith));
+      })
+]
+
+-- a date that lies elsewhere
+outside : (a b d : ℕ) (has : ℕ → Bool) (found : Option ℕ) → ((a < d) → (d ≤ b) → ⊥) → Finds a b has found → Finds a b (with_one d has) found
+outside a b d has None o h = λ e p q. or_from (d == e) (has e) (ne_eqb d e (λ (t : d ≡ e). o (omega arith) (omega arith))) (h e p q)
+outside a b d has (Some c) o h = record {
+  later = h.later;
+  within = h.within;
+  dated = or_right (d == c) (has c) h.dated;
+  none_before = λ e p q. or_from (d == e) (has e) (ne_eqb d e (λ (t : d ≡ e). let w = h.within in o (omega arith) (omega arith))) (h.none_before e p q);
+}
+
+one_more : (a b d : ℕ) (has : ℕ → Bool) (found : Option ℕ) → Finds a b has found → Finds a b (with_one d has) (with_date a b d found)
+one_more a b d has found h = elim (cases_Bool (nat_lt a d && nat_le d b)) [
+  | inl y ↦ let p = and_parts (nat_lt a d) (nat_le d b) y in rw y (inside a b d has found (ltb-true a d p.0) (leb-true d b p.1) h)
+  | inr n ↦ rw n (outside a b d has found (λ p q. both_ways (nat_lt a d && nat_le d b) n (and_from (nat_lt a d) (nat_le d b) (lt-ltb a d p) (le-leb d b q))) h)
+]
+
+-- what is found goes by the dates alone
+finds_same : (a b : ℕ) (has other : ℕ → Bool) (found : Option ℕ) → ((d : ℕ) → other d ≡ has d) → Finds a b has found → Finds a b other found
+finds_same a b has other None s h = λ d p q. s d ∙ h d p q
+finds_same a b has other (Some c) s h = record { later = h.later; within = h.within; dated = s c ∙ h.dated; none_before = λ e p q. s e ∙ h.none_before e p q }
+
+-- the dates of a row more
+row_more : (a b : ℕ) (row : MemberRow) (has : ℕ → Bool) (found : Option ℕ) → Finds a b has found → Finds a b (λ d. is_dated d row || has d) (with_date a b row.from (with_end a b row.until found))
+row_more a b row has found h = go row.until
+  where
+    go : (until : Option ℕ) → Finds a b (λ d. ((row.from == d) || elim until [ None ↦ false | Some u ↦ u == d ]) || has d) (with_date a b row.from (with_end a b until found))
+    go None = finds_same a b (with_one row.from has) _ (with_date a b row.from found) (λ d. once (row.from == d) (has d)) (one_more a b row.from has found h)
+      where
+        once : (x y : Bool) → ((x || false) || y) ≡ (x || y)
+        once true y = refl
+        once false y = refl
+    go (Some u) = finds_same a b (with_one row.from (with_one u has)) _ (with_date a b row.from (with_date a b u found)) (λ d. over (row.from == d) (u == d) (has d)) (one_more a b row.from (with_one u has) (with_date a b u found) (one_more a b u has found h))
+      where
+        over : (x y z : Bool) → ((x || y) || z) ≡ (x || (y || z))
+        over true y z = refl
+        over false y z = refl
+
+-- what is due is none, or the least date of the rows
+pub due_finds : (a b : ℕ) (rows : List MemberRow) → Finds a b (has_date rows) (due a b rows)
+due_finds a b [] = λ d p q. refl
+due_finds a b (row ∷ rows) = row_more a b row (has_date rows) (due a b rows) (due_finds a b rows)
+
+pub due_none : (a b : ℕ) (rows : List MemberRow) → due a b rows ≡ None → IsFree a b (has_date rows)
+due_none a b rows e = rw e at (due_finds a b rows)
+
+pub due_some : (a b d : ℕ) (rows : List MemberRow) → due a b rows ≡ Some d → IsLeast a b (has_date rows) d
+due_some a b d rows e = rw e at (due_finds a b rows)
+
+-- no two are found
+found_one : (a b : ℕ) (has : ℕ → Bool) (x y : Option ℕ) → Finds a b has x → Finds a b has y → x ≡ y
+found_one a b has None None h k = refl
+found_one a b has None (Some d) h k = absurd (both_ways (has d) (h d k.later k.within) k.dated)
+found_one a b has (Some c) None h k = absurd (both_ways (has c) (k c h.later h.within) h.dated)
+found_one a b has (Some c) (Some d) h k = elim (cases_lt c d) [
+  | inl s ↦ absurd (both_ways (has c) (k.none_before c h.later s) h.dated)
+  | inr s ↦ elim (cases_lt d c) [
+    | inl t ↦ absurd (both_ways (has d) (h.none_before d k.later t) k.dated)
+    | inr t ↦ let e : c ≡ d = omega arith in ap (λ n. Some n) e
+  ]
+]
+
+-- and so what is none or the least is due
+pub due_none_from : (a b : ℕ) (rows : List MemberRow) → IsFree a b (has_date rows) → due a b rows ≡ None
+due_none_from a b rows h = found_one a b (has_date rows) (due a b rows) None (due_finds a b rows) h
+
+pub due_some_from : (a b d : ℕ) (rows : List MemberRow) → IsLeast a b (has_date rows) d → due a b rows ≡ Some d
+due_some_from a b d rows h = found_one a b (has_date rows) (due a b rows) (Some d) (due_finds a b rows) h
+
+-- ---- other moments
+
+pub due_nowhere : (a : ℕ) (rows : List MemberRow) → due a a rows ≡ None
+due_nowhere a rows = due_none_from a a rows (λ d p q. absurd (omega arith))
+
+-- the least stays the least up to any other moment that it doesn't come after
+pub due_up_to : (a b c d : ℕ) (rows : List MemberRow) → due a b rows ≡ Some d → d ≤ c → due a c rows ≡ Some d
+due_up_to a b c d rows e w = let h = due_some a b d rows e in due_some_from a c d rows (record { later = h.later; within = w; dated = h.dated; none_before = h.none_before })
+
+-- where none is due up to a moment, it is the same to begin there
+pub due_from : (a b c : ℕ) (rows : List MemberRow) → due a b rows ≡ None → a ≤ b → due b c rows ≡ due a c rows
+due_from a b c rows e p = found_one a c (has_date rows) (due b c rows) (due a c rows) (go (due b c rows) (due_finds b c rows)) (due_finds a c rows)
+  where
+    free : IsFree a b (has_date rows)
+    free = due_none a b rows e
+
+    go : (found : Option ℕ) → Finds b c (has_date rows) found → Finds a c (has_date rows) found
+    go None h = λ d l w. elim (cases_lt b d) [ inl s ↦ h d s w | inr s ↦ free d l s ]
+    go (Some d) h = let l = h.later in record {
+      later = omega arith;
+      within = h.within;
+      dated = h.dated;
+      none_before = λ x k w. elim (cases_lt b x) [ inl s ↦ h.none_before x s w | inr s ↦ free x k s ];
+    }
+
+-- ---- by begins and ends
+
+-- ---- row by row
+
+-- a date doesn't lie between two moments
+abbrev pub IsApart : ℕ → ℕ → ℕ → Type 0
+IsApart a b d = (d ≤ a) ⊎ (b ≤ d)
+
+-- a row neither begins nor ends between two moments
+pub record IsStill (a b : ℕ) (row : MemberRow) : Type 0 where
+  pub begins : IsApart a b row.from
+  pub ends : IfSome row.until (IsApart a b)
+
+apart_from : (a b d : ℕ) → (a < d → d < b → ⊥) → IsApart a b d
+apart_from a b d never = elim (cases_lt a d) [
+  | inl p ↦ elim (cases_lt d b) [ inl q ↦ absurd (never p q) | inr q ↦ inr q ]
+  | inr p ↦ inl p
+]
+
+still_row : (a b : ℕ) (row : MemberRow) → ((d : ℕ) → a < d → d < b → is_dated d row ≡ false) → IsStill a b row
+still_row a b row none = record {
+  begins = apart_from a b row.from (λ p q. both_ways (row.from == row.from) (or_parts (row.from == row.from) (ends_at row.from row) (none row.from p q)).0 (eq-eqb row.from row.from refl));
+  ends = ending row.until (λ d p q. (or_parts (row.from == d) (ends_at d row) (none d p q)).1);
+}
+  where
+    ending : (until : Option ℕ) → ((d : ℕ) → a < d → d < b → elim until [ None ↦ false | Some u ↦ u == d ] ≡ false) → IfSome until (IsApart a b)
+    ending None h = tt
+    ending (Some u) h = apart_from a b u (λ p q. both_ways (u == u) (h u p q) (eq-eqb u u refl))
+
+-- such a date is one of no row, and conversely
+pub still_rows : (a b : ℕ) (rows : List MemberRow) → ((d : ℕ) → a < d → d < b → has_date rows d ≡ false) → AllByRecursion (IsStill a b) rows
+still_rows a b [] none = tt
+still_rows a b (row ∷ rows) none = (still_row a b row (λ d p q. (or_parts (is_dated d row) (has_date rows d) (none d p q)).0), still_rows a b rows (λ d p q. (or_parts (is_dated d row) (has_date rows d) (none d p q)).1))
+
+-- where none is due no row begins or ends, and conversely
+pub none_still : (a b : ℕ) (rows : List MemberRow) → due a b rows ≡ None → AllByRecursion (IsStill a (suc b)) rows
+none_still a b rows e = let h = due_none a b rows e in still_rows a (suc b) rows (λ d p q. h d p (omega arith))
+
+-- nor before what is due
+pub some_still : (a b d : ℕ) (rows : List MemberRow) → due a b rows ≡ Some d → AllByRecursion (IsStill a d) rows
+some_still a b d rows e = still_rows a d rows (due_some a b d rows e).none_before

@@ -1,0 +1,7 @@
+use Rattle.std.proofs.lemmas.Result.{IfOk-weaker}
+use Rattle.reg_current.specs.Dates.{begins_at}
+use Rattle.reg_current.proofs.DatesGone.{dated_are}
+use Rattle.reg_current.proofs.dates.Dates.beginning.Goals as goal
+
+pub returns : goal.returns
+returns c = IfOk-weaker c.at.result _ _ (λ found are clock rows finds up. dated_are c.args.self.now.begins begins_at clock c.args.date rows found.items finds.begins are up) c.at.ensures

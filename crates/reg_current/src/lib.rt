@@ -1,0 +1,16 @@
+//! What stands at a moment: the facts, and beside them the effective memberships, the graph of what
+//! is nested, and the dates to come; and how events, dates and rules change all of that.
+#![tactic(auto)]
+
+mod changes;
+mod current;
+mod dated_rows;
+mod dates;
+mod edges;
+mod ending;
+mod redating;
+mod settling;
+mod touching;
+
+pub use current::Current;
+pub use settling::settled;
