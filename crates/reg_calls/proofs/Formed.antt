@@ -7,7 +7,7 @@ use Rattle.reg_base.specs.Names.{is_extension, is_name, is_person, name_of}
 use Rattle.reg_base.specs.Entities.{entity_of, group_entity, person_entity}
 use Rattle.reg_base.specs.declared.entity.Entity.{Entity}
 use Rattle.reg_base.specs.declared.entity.Entity.TheVariants.{Person, Group, System, Everyone}
-use Rattle.reg_terms.specs.Forms.{is_entity, is_folder_text, is_object_text, is_optional_moment, query_has_form}
+use Rattle.reg_ops.specs.Forms.{is_entity, is_folder_text, is_object_text, is_optional_moment, query_has_form}
 use Rattle.reg_terms.specs.Limits.{max_moment}
 use Rattle.reg_terms.specs.declared.query.Query.TheVariants.{GroupGet, FolderList, Members, Rows, Groups, Grants, May, Attributes, History, Log, Admin}
 

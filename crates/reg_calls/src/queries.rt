@@ -5,8 +5,8 @@ ghost use Rattle.reg_json.specs.Fields.{name_from, folder_from, extension_from, 
 ghost use Rattle.reg_json.specs.Fields.{entity_from, moment_from};
 ghost use Rattle.reg_base.specs.MomentText.{moment_of};
 ghost use Rattle.reg_terms.specs.declared.refusal.Refusal.TheVariants as refusal;
-ghost use Rattle.reg_terms.specs.Forms.{is_entity, is_folder_text, is_object_text};
-ghost use Rattle.reg_terms.specs.Forms.{is_optional_moment, query_has_form};
+ghost use Rattle.reg_ops.specs.Forms.{is_entity, is_folder_text, is_object_text};
+ghost use Rattle.reg_ops.specs.Forms.{is_optional_moment, query_has_form};
 ghost use Rattle.reg_http.specs.declared.route.Route.TheVariants as route;
 ghost use Rattle.reg_calls.specs.Unread.{Gives};
 ghost use Rattle.reg_calls.specs.Queries.{query_by, entity_text, number_from};
@@ -14,7 +14,8 @@ ghost use Rattle.reg_calls.specs.Queries.{query_by, entity_text, number_from};
 use crate::unread::{Unread, bad, bad_moment, bad_name};
 use reg_base::{Entity, Moment, Name, Text, is_extension};
 use reg_http::{Parameters, Route};
-use reg_terms::{Query, is_folder_text, is_object_text};
+use reg_ops::{is_folder_text, is_object_text};
+use reg_terms::Query;
 use std::alloc::Global;
 
 /// The name that a field's text is.

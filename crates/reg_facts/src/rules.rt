@@ -4,7 +4,6 @@ ghost use Rattle.std.specs.Option.{option_copied};
 ghost use Rattle.reg_base.specs.NameParts.{extension_of};
 ghost use Rattle.reg_base.specs.declared.entity.Entity.{Entity};
 ghost use Rattle.reg_base.specs.declared.privilege.Privilege.TheVariants.{StemAdmin};
-ghost use Rattle.reg_terms.specs.Forms.{has_form};
 ghost use Rattle.reg_terms.specs.Limits.{max_folders, max_groups, max_grants};
 ghost use Rattle.reg_terms.specs.declared.command.Command.TheVariants.{FolderAdd, GroupAdd};
 ghost use Rattle.reg_terms.specs.declared.kinds.Object.TheVariants as object;
@@ -66,14 +65,6 @@ impl Facts {
 
     /// The rule that a command makes, if it makes one and its holder stands; a name that isn't
     /// there counts as the number 0. It takes no memory.
-    pub fn form_of(&self, command: &Command) -> Option<RuleForm>
-        requires { has_form command.now ≡ true }
-        ensures { result ≡ form_of command.now self.now }
-    {
-        self.rule_form(command)
-    }
-
-    /// The same of a command whose days are few.
     pub(crate) fn rule_form(&self, command: &Command) -> Option<RuleForm>
         requires { HasDays command.now }
         ensures { result ≡ form_of command.now self.now }

@@ -10,7 +10,7 @@ use Rattle.serde_json.specs.Read.{read}
 use Rattle.serde_json.specs.View.{items_of}
 use Rattle.serde_json.specs.Written.{compact_text}
 use Rattle.reg_base.specs.declared.privilege.Privilege.{Privilege}
-use Rattle.reg_terms.specs.Forms.{is_i64, is_moment, is_optional_moment}
+use Rattle.reg_ops.specs.Forms.{is_i64, is_moment, is_optional_moment}
 use Rattle.reg_terms.specs.EntryWords.{word_of, kind_worded}
 use Rattle.reg_terms.specs.declared.entry_kinds.EntryKind.{EntryKind}
 use Rattle.reg_terms.specs.declared.entry_kinds.EntryKind.TheVariants as entry

@@ -4,7 +4,7 @@ use Rattle.std.specs.Str.{bytes_eq}
 use Rattle.std.proofs.lemmas.Slice.Eq.{bytes_eq-Decides}
 use Rattle.serde_json.specs.Data.{Data, Items, no_items, item}
 use Rattle.serde_json.specs.Find.{as_str}
-use Rattle.reg_terms.specs.Forms.{suits_some}
+use Rattle.reg_ops.specs.Forms.{suits_some}
 use Rattle.reg_terms.specs.declared.kinds.Owners.{Owners}
 use Rattle.reg_json.specs.Taking.{all_of}
 use Rattle.reg_json.specs.Attributes.{stands, are_owners, owners_among, owners_named, with_owner}

@@ -12,13 +12,13 @@ use Rattle.reg_base.specs.Entities.{entity_of}
 use Rattle.reg_base.specs.MomentText.{moment_of}
 use Rattle.reg_base.specs.declared.entity.Entity.TheVariants.{Person, Group}
 use Rattle.reg_terms.specs.Limits.{max_display, max_moment}
-use Rattle.reg_terms.specs.Forms.{is_display, is_entity, is_folder_text, is_object_text, is_optional_moment, is_value, suits_some, is_field, has_form, query_has_form, op_has_form}
-use Rattle.reg_terms.specs.Parts.{field_kind}
-use Rattle.reg_terms.specs.Table.{row_of, field_kinds, made, op_fields, IsMade}
-use Rattle.reg_terms.specs.declared.field.FieldKind.{FieldKind}
-use Rattle.reg_terms.specs.declared.field.FieldKind.TheVariants as kind
-use Rattle.reg_terms.specs.declared.field.Field.{Field}
-use Rattle.reg_terms.specs.declared.table.OpKind.{OpKind}
+use Rattle.reg_ops.specs.Forms.{is_display, is_entity, is_folder_text, is_object_text, is_optional_moment, is_value, suits_some, is_field, has_form, query_has_form, op_has_form}
+use Rattle.reg_ops.specs.Parts.{field_kind}
+use Rattle.reg_ops.specs.Table.{row_of, field_kinds, made, op_fields, IsMade}
+use Rattle.reg_ops.specs.declared.field.FieldKind.{FieldKind}
+use Rattle.reg_ops.specs.declared.field.FieldKind.TheVariants as kind
+use Rattle.reg_ops.specs.declared.field.Field.{Field}
+use Rattle.reg_ops.specs.declared.table.OpKind.{OpKind}
 use Rattle.reg_terms.specs.declared.refusal.Refusal.{Refusal}
 use Rattle.reg_terms.specs.declared.refusal.Refusal.TheVariants.{BadMoment, BadName, BadRequest}
 use Rattle.reg_terms.specs.declared.request.Op.{Op}

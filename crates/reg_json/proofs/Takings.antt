@@ -7,7 +7,7 @@ use Rattle.std.specs.Str.{IsUtf8, is_utf8}
 use Rattle.std.proofs.lemmas.Str.{IsUtf8-from_is_utf8, is_utf8-from_IsUtf8}
 use Rattle.serde_json.specs.Data.{Data, Items, no_items, item}
 use Rattle.serde_json.specs.Read.{read}
-use Rattle.reg_terms.specs.Parts.{◌>>=◌}
+use Rattle.reg_ops.specs.Parts.{◌>>=◌}
 use Rattle.reg_terms.specs.declared.reply.Reply.{Reply}
 use Rattle.reg_json.specs.Replies.{text}
 use Rattle.reg_json.specs.Taking.{all_of, reply_from, reply_of}

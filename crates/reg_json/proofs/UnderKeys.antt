@@ -10,7 +10,7 @@ use Rattle.reg_base.specs.MomentText.{text_of}
 use Rattle.reg_base.proofs.Texts.{text_of_reads}
 use Rattle.reg_base.specs.declared.privilege.Privilege.{Privilege}
 use Rattle.reg_base.specs.declared.privilege.Privilege.TheVariants.{Admin, Update, Read, View, Optin, Optout, GroupAttrRead, GroupAttrUpdate, StemAdmin, Create, StemAttrRead, StemAttrUpdate, AttrAdmin, AttrUpdate, AttrRead, AttrView}
-use Rattle.reg_terms.specs.Forms.{is_moment, is_optional_moment}
+use Rattle.reg_ops.specs.Forms.{is_moment, is_optional_moment}
 use Rattle.reg_terms.specs.Privileges.{line_of, privilege_named}
 use Rattle.reg_json.specs.Flat.{moment_data}
 use Rattle.reg_json.specs.Replies.{strings}

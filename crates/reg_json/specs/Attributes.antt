@@ -6,7 +6,7 @@ use Rattle.std.specs.List.{list_any}
 use Rattle.std.specs.Str.{bytes_eq}
 use Rattle.serde_json.specs.Data.{Data}
 use Rattle.serde_json.specs.Find.{get, as_bool, as_i64, as_number, as_str}
-use Rattle.reg_terms.specs.Forms.{is_value, suits_some}
+use Rattle.reg_ops.specs.Forms.{is_value, suits_some}
 use Rattle.reg_terms.specs.declared.kinds.DefKind.{DefKind}
 use Rattle.reg_terms.specs.declared.kinds.DefKind.TheVariants.{Marker, Integer, Text, Timestamp}
 use Rattle.reg_terms.specs.declared.kinds.Owners.{Owners}

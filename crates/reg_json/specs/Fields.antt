@@ -12,9 +12,9 @@ use Rattle.reg_base.specs.Entities.{entity_of}
 use Rattle.reg_base.specs.MomentText.{moment_of}
 use Rattle.reg_base.specs.declared.entity.Entity.{Entity}
 use Rattle.reg_base.specs.declared.privilege.Privilege.{Privilege}
-use Rattle.reg_terms.specs.Forms.{is_display, is_folder_text, is_object_text}
+use Rattle.reg_ops.specs.Forms.{is_display, is_folder_text, is_object_text}
 use Rattle.reg_terms.specs.Privileges.{privilege_named}
-use Rattle.reg_terms.specs.declared.field.FieldKind.{FieldKind}
+use Rattle.reg_ops.specs.declared.field.FieldKind.{FieldKind}
 use Rattle.reg_terms.specs.declared.kinds.InheritKind.{InheritKind}
 use Rattle.reg_terms.specs.declared.kinds.InheritKind.TheVariants.{Folder, Group, Definition}
 use Rattle.reg_terms.specs.declared.kinds.Scope.{Scope}

@@ -1,7 +1,7 @@
 -- What holds of a request that was read: the op's fields have their forms. Who asks may be any
 -- text.
 use Rattle.std.specs.Prelude.{◌≡◌, true}
-use Rattle.reg_terms.specs.Forms.{op_has_form}
+use Rattle.reg_ops.specs.Forms.{op_has_form}
 use Rattle.reg_terms.specs.declared.request.Request.{Request}
 use Rattle.reg_terms.specs.declared.request.Op.{Op}
 

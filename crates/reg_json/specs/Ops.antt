@@ -3,15 +3,15 @@
 use Rattle.std.specs.Prelude.{ℕ, List, [], ◌∷◌, Bool, true, Result, Ok, Err, ok_or}
 use Rattle.serde_json.specs.Data.{Data}
 use Rattle.serde_json.specs.Find.{as_object}
-use Rattle.reg_terms.specs.declared.field.FieldKind.{FieldKind}
-use Rattle.reg_terms.specs.declared.field.FieldKind.TheVariants as kind
-use Rattle.reg_terms.specs.declared.field.Field.{Field}
-use Rattle.reg_terms.specs.declared.field.Field.TheVariants as field
-use Rattle.reg_terms.specs.declared.table.OpKind.{OpKind}
+use Rattle.reg_ops.specs.declared.field.FieldKind.{FieldKind}
+use Rattle.reg_ops.specs.declared.field.FieldKind.TheVariants as kind
+use Rattle.reg_ops.specs.declared.field.Field.{Field}
+use Rattle.reg_ops.specs.declared.field.Field.TheVariants as field
+use Rattle.reg_ops.specs.declared.table.OpKind.{OpKind}
 use Rattle.reg_terms.specs.declared.request.Op.{Op}
 use Rattle.reg_terms.specs.declared.refusal.Refusal.{Refusal}
 use Rattle.reg_terms.specs.declared.refusal.Refusal.TheVariants.{BadRequest}
-use Rattle.reg_terms.specs.Table.{row_of, made}
+use Rattle.reg_ops.specs.Table.{row_of, made}
 use Rattle.reg_json.specs.declared.fields.Carrier.{Carrier}
 use Rattle.reg_json.specs.Steps.{◌>>=◌}
 use Rattle.reg_json.specs.Attributes.{owners_at, flag_at, def_kind_at, value_at}

@@ -7,11 +7,11 @@ use Rattle.serde_json.specs.Data.{Data}
 use Rattle.serde_json.specs.Read.{read}
 use Rattle.serde_json.specs.Find.{as_object}
 use Rattle.reg_terms.specs.declared.request.Request.{Request}
-use Rattle.reg_terms.specs.declared.table.OpKind.{OpKind}
+use Rattle.reg_ops.specs.declared.table.OpKind.{OpKind}
 use Rattle.reg_terms.specs.declared.refusal.Refusal.{Refusal}
 use Rattle.reg_terms.specs.declared.refusal.Refusal.TheVariants.{BadRequest, TooLong}
 use Rattle.reg_terms.specs.Limits.{max_line}
-use Rattle.reg_terms.specs.Table.{kind_named}
+use Rattle.reg_ops.specs.Table.{kind_named}
 use Rattle.reg_json.specs.declared.fields.Carrier.TheVariants.{Line, Body}
 use Rattle.reg_json.specs.Steps.{◌>>=◌}
 use Rattle.reg_json.specs.Fields.{text_at}

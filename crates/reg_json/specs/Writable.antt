@@ -3,7 +3,7 @@ use Rattle.std.specs.Prelude.{◌≡◌, ℕ, Bool, true, ◌&&◌, nat_lt, Opti
 use Rattle.std.specs.List.{list_all}
 use Rattle.std.specs.Str.{IsUtf8}
 use Rattle.reg_base.specs.Names.{is_name}
-use Rattle.reg_terms.specs.Forms.{is_i64, is_moment, is_optional_moment}
+use Rattle.reg_ops.specs.Forms.{is_i64, is_moment, is_optional_moment}
 use Rattle.reg_terms.specs.declared.admin_shown.ConsumerShown.{ConsumerShown}
 use Rattle.reg_terms.specs.declared.admin_shown.FormShown.{FormShown}
 use Rattle.reg_terms.specs.declared.admin_shown.FormShown.TheVariants as form

@@ -2,7 +2,7 @@
 ghost use Rattle.std.specs.Prelude.{◌≡◌, true, Some, None, option_and_then, if◌then◌else◌};
 ghost use Rattle.serde_json.specs.Find.{as_str};
 ghost use Rattle.serde_json.specs.View.{view, items_view};
-ghost use Rattle.reg_terms.specs.Forms.{is_value, suits_some};
+ghost use Rattle.reg_ops.specs.Forms.{is_value, suits_some};
 ghost use Rattle.reg_terms.specs.declared.kinds.Value.TheVariants as value;
 ghost use Rattle.reg_json.specs.Steps.{Gives};
 ghost use Rattle.reg_json.specs.Taking.{all_of};

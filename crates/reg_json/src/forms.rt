@@ -6,7 +6,7 @@ ghost use Rattle.reg_json.specs.Fields.{object_from, entity_from, moment_from};
 
 use crate::fault::{ReadFault, bad_moment, bad_name};
 use reg_base::{Entity, Moment, Name, Text, is_extension, is_source};
-use reg_terms::{is_folder_text, is_object_text};
+use reg_ops::{is_folder_text, is_object_text};
 use std::alloc::Global;
 
 /// The name that a field's text is.

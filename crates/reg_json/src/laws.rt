@@ -8,7 +8,7 @@ ghost use Rattle.reg_json.specs.Forms.{IsFormed};
 ghost use Rattle.reg_json.specs.Orders.{HoldsObject, Swapped};
 ghost use Rattle.reg_json.specs.Reading.{reading_of};
 
-use reg_terms::law_ops;
+use reg_ops::law_ops;
 
 /// The fields of a request that is read have their forms.
 pub fn law_read_is_formed()

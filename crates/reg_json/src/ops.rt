@@ -14,7 +14,8 @@ use crate::forms::{
     entity_from, extension_from, folder_from, moment_from, name_from, object_from, source_from,
 };
 use reg_base::{Bytes, Text};
-use reg_terms::{Field, FieldKind, Op, OpKind, made, row_of};
+use reg_ops::{Field, FieldKind, OpKind, made, row_of};
+use reg_terms::Op;
 use serde_json::Value;
 use std::alloc::Global;
 use std::collections::VecDeque;

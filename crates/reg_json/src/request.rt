@@ -10,7 +10,8 @@ use crate::fault::{ReadFault, bad};
 use crate::fields::{Carrier, text_at};
 use crate::ops::asked_in;
 use reg_base::Bytes;
-use reg_terms::{MAX_LINE, OpKind, Refusal, Request, kind_named, law_ops};
+use reg_ops::{OpKind, kind_named, law_ops};
+use reg_terms::{MAX_LINE, Refusal, Request};
 use serde_json::Value;
 use std::alloc::{AllocError, Global};
 

@@ -9,7 +9,7 @@ use Rattle.std.proofs.lemmas.List.{length-map}
 use Rattle.std.proofs.lemmas.Slice.Eq.{bytes_eq-Decides}
 use Rattle.reg_base.specs.Names.{is_extension, is_name, is_person}
 use Rattle.reg_base.specs.declared.entity.Entity.{Entity}
-use Rattle.reg_terms.specs.Forms.{are_few, are_load_rows, are_names, has_form, is_load_row}
+use Rattle.reg_ops.specs.Forms.{are_few, are_load_rows, are_names, has_form, is_load_row}
 use Rattle.reg_terms.specs.Limits.{max_groups, max_records, max_rows}
 use Rattle.reg_terms.specs.declared.command.Command.TheVariants.{Load}
 use Rattle.reg_terms.specs.declared.command.Stamped.{Stamped}

@@ -5,7 +5,7 @@ use Rattle.std.specs.Prelude.{Result, Ok, Err, length, nat_le, codes, ifâ—Œthenâ
 use Rattle.std.specs.List.{AllByRecursion}
 use Rattle.reg_base.specs.Names.{is_name}
 use Rattle.reg_base.specs.declared.entity.Entity.{Entity}
-use Rattle.reg_terms.specs.Forms.{has_form}
+use Rattle.reg_ops.specs.Forms.{has_form}
 use Rattle.reg_terms.specs.Limits.{max_groups, max_history, max_records, max_rows}
 use Rattle.reg_terms.specs.declared.command.Command.{Command}
 use Rattle.reg_terms.specs.declared.command.Command.TheVariants.{Load}

@@ -15,7 +15,7 @@ ghost use Rattle.reg_facts.specs.Jobs.{job_by};
 ghost use Rattle.reg_facts.specs.Suiting.{CanEdit};
 ghost use Rattle.reg_load.specs.LoadChecks.{added_rows};
 ghost use Rattle.reg_effect.specs.Order.{has_live_row};
-ghost use Rattle.reg_terms.specs.Forms.{has_form};
+ghost use Rattle.reg_ops.specs.Forms.{has_form};
 ghost use Rattle.reg_machine.specs.Checks as checks;
 ghost use Rattle.reg_current.specs.Circles as circles;
 ghost use Rattle.reg_current.specs.Dates.{due, is_on, pass_steps};

@@ -1,7 +1,7 @@
 // What a request to load a table comes to.
 ghost use Rattle.std.specs.Prelude.{◌≡◌, ℕ, List, [], None, Ok, Some, true, IfOk};
 ghost use Rattle.reg_base.specs.Names.{is_extension};
-ghost use Rattle.reg_terms.specs.Forms.{has_form};
+ghost use Rattle.reg_ops.specs.Forms.{has_form};
 ghost use Rattle.reg_terms.specs.declared.command.Command.TheVariants.{Load};
 ghost use Rattle.reg_terms.specs.declared.refusal.Refusal.TheVariants.{IsComposite};
 ghost use Rattle.reg_terms.specs.declared.rows.JobRow.{JobRow};

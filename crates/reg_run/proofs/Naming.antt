@@ -3,7 +3,7 @@ use Rattle.std.proofs.Common.{◌≡◌, List, ℕ, Bool, Option, Some, None, tr
 use Rattle.std.specs.Prelude.{if◌then◌else◌}
 use Rattle.reg_base.specs.Names.{is_name, name_of}
 use Rattle.reg_terms.specs.declared.query.Query.TheVariants as query
-use Rattle.reg_terms.specs.Forms.{is_optional_moment, query_has_form}
+use Rattle.reg_ops.specs.Forms.{is_optional_moment, query_has_form}
 
 pub name_is : (text name : List ℕ) → Some name ≡ name_of text → is_name name ≡ true
 name_is text name e = by_test (is_name text) refl e

@@ -2,7 +2,7 @@
 ghost use Rattle.std.specs.Prelude.{◌≡◌, Ok, true, IfOk, codes};
 ghost use Rattle.reg_base.specs.Names.{is_name};
 ghost use Rattle.reg_terms.specs.declared.refusal.Refusal.{Refusal};
-ghost use Rattle.reg_terms.specs.Forms.{is_optional_moment, query_has_form};
+ghost use Rattle.reg_ops.specs.Forms.{is_optional_moment, query_has_form};
 ghost use Rattle.reg_session.specs.Pending.{ReadsAs, AsksFormed};
 
 use reg_base::{Bytes, Moment, Name, Text};

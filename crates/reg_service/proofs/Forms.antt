@@ -9,7 +9,7 @@ use Rattle.reg_base.specs.declared.entity.Entity.{Entity}
 use Rattle.reg_base.specs.declared.entity.Entity.TheVariants.{Person, Group, System, Everyone}
 use Rattle.reg_terms.specs.declared.command.Command.{Command}
 use Rattle.reg_terms.specs.declared.request.Op.TheVariants as op
-use Rattle.reg_terms.specs.Forms.{is_entity, has_form, op_has_form}
+use Rattle.reg_ops.specs.Forms.{is_entity, has_form, op_has_form}
 
 -- a command that is asked has its form
 pub command_form : (command : Command) → op_has_form (op.Command command) ≡ true → has_form command ≡ true

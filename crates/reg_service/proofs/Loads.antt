@@ -12,7 +12,7 @@ use Rattle.reg_terms.specs.declared.reply.LoadCounts.{LoadCounts}
 use Rattle.reg_terms.specs.declared.reply.Reply.{Reply}
 use Rattle.reg_terms.specs.declared.reply.Reply.TheVariants as reply
 use Rattle.reg_terms.specs.declared.request.Op.TheVariants as op
-use Rattle.reg_terms.specs.Forms.{op_has_form}
+use Rattle.reg_ops.specs.Forms.{op_has_form}
 use Rattle.reg_machine.specs.History.{State, appended}
 use Rattle.reg_machine.specs.Loads.{ListsFew, load_outcome}
 use Rattle.reg_machine.specs.Refusals.{refusal}

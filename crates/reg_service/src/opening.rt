@@ -5,7 +5,7 @@ ghost use Rattle.std.specs.Prelude.{IsErrOf};
 ghost use Rattle.reg_machine.specs.History.{start, appended};
 ghost use Rattle.reg_machine.specs.Refusals.{refusal};
 ghost use Rattle.reg_keep.specs.declared.open.OpenFault.TheVariants.{Damaged};
-ghost use Rattle.reg_terms.specs.Forms.{has_form};
+ghost use Rattle.reg_ops.specs.Forms.{has_form};
 ghost use Rattle.reg_service.specs.Opening.{judged, or_place, accepted, after_stamped};
 ghost use Rattle.reg_service.specs.Opening.{after_payload};
 

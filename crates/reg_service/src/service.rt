@@ -10,7 +10,7 @@ ghost use Rattle.reg_keep.specs.declared.open.OpenFault.TheVariants.{Damaged};
 ghost use Rattle.reg_base.specs.Names.{is_extension};
 ghost use Rattle.reg_terms.specs.declared.command.Stamped.{Stamped};
 ghost use Rattle.reg_terms.specs.declared.reply.LoadCounts.{LoadCounts};
-ghost use Rattle.reg_terms.specs.Forms.{is_entity, has_form};
+ghost use Rattle.reg_ops.specs.Forms.{is_entity, has_form};
 ghost use Rattle.reg_wire.specs.Payload.{IsWritable};
 ghost use Rattle.reg_service.specs.Opening.{payloads_of, judged, FrontsReopen, IsServed};
 ghost use Rattle.reg_service.specs.Kept.{KeepsNext, KeptOn, IsAcknowledged, IsLoaded, LeavesKeeper};

@@ -1,6 +1,6 @@
 // The machine for a caller that counts no steps.
 ghost use Rattle.std.specs.Prelude.{◌≡◌, ◌≤◌, ◌<◌, IfOk, None, true};
-ghost use Rattle.reg_terms.specs.Forms.{has_form};
+ghost use Rattle.reg_ops.specs.Forms.{has_form};
 ghost use Rattle.reg_machine.specs.History.{appended};
 ghost use Rattle.reg_machine.specs.Refusals.{refusal};
 

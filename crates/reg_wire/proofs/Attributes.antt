@@ -9,7 +9,7 @@ use Rattle.reg_terms.specs.declared.kinds.DefKind.TheVariants.{Marker, Integer, 
 use Rattle.reg_terms.specs.declared.kinds.Owners.{Owners}
 use Rattle.reg_terms.specs.declared.kinds.Value.{Value}
 use Rattle.reg_terms.specs.declared.kinds.Value.TheVariants as value
-use Rattle.reg_terms.specs.Forms.{is_display, is_i64, is_value, suits_some}
+use Rattle.reg_ops.specs.Forms.{is_display, is_i64, is_value, suits_some}
 use Rattle.reg_wire.specs.Fields.{text_bytes, owners_code, owners_bytes, flag_bytes, def_kind_bytes, int_bytes, value_bytes}
 use Rattle.reg_wire.specs.Reading.{byte_at, number_at, display_at, owners_of, owners_at, flag_at, def_kind_at, int_at, value_at}
 use Rattle.reg_wire.proofs.Exact.{IsExact, always, bind_some, number_takes, number_again, wide64, tested_exact}

@@ -15,14 +15,14 @@ use Rattle.reg_terms.specs.declared.kinds.Value.{Value}
 use Rattle.reg_terms.specs.declared.lists.LoadRow.{LoadRow}
 use Rattle.reg_terms.specs.declared.command.Command.{Command}
 use Rattle.reg_terms.specs.declared.command.Command.TheVariants.{ConsumerAck}
-use Rattle.reg_terms.specs.declared.table.CommandKind.{CommandKind}
-use Rattle.reg_terms.specs.declared.field.FieldKind.{FieldKind}
-use Rattle.reg_terms.specs.declared.field.FieldKind.TheVariants as kind
-use Rattle.reg_terms.specs.declared.field.Field.{Field}
-use Rattle.reg_terms.specs.declared.field.Field.TheVariants as field
-use Rattle.reg_terms.specs.Forms.{is_folder_text, is_display, is_object_text, is_field, has_form}
-use Rattle.reg_terms.specs.Parts.{◌>>=◌, field_kind}
-use Rattle.reg_terms.specs.Table.{command_row, field_kinds, commands, coded, kind_of, fields_of, code_of, made_command, IsMadeCommand, IsApart}
+use Rattle.reg_ops.specs.declared.table.CommandKind.{CommandKind}
+use Rattle.reg_ops.specs.declared.field.FieldKind.{FieldKind}
+use Rattle.reg_ops.specs.declared.field.FieldKind.TheVariants as kind
+use Rattle.reg_ops.specs.declared.field.Field.{Field}
+use Rattle.reg_ops.specs.declared.field.Field.TheVariants as field
+use Rattle.reg_ops.specs.Forms.{is_folder_text, is_display, is_object_text, is_field, has_form}
+use Rattle.reg_ops.specs.Parts.{◌>>=◌, field_kind}
+use Rattle.reg_ops.specs.Table.{command_row, field_kinds, commands, coded, kind_of, fields_of, code_of, made_command, IsMadeCommand, IsApart}
 use Rattle.reg_wire.specs.Fields.{field_bytes}
 use Rattle.reg_wire.specs.Payload.{fields_bytes, command_bytes}
 use Rattle.reg_wire.specs.Reading.{byte_at, names_at, load_rows_at, name_at, folder_at, extension_at, source_at, display_at, entity_at, object_at, optional_moment_at, ranged_at, set_op_at, inherit_kind_at, scope_at, privilege_at, owners_at, flag_at, def_kind_at, value_at, stands, field_at, fields_at, command_at, command_of}

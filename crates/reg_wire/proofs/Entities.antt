@@ -11,8 +11,8 @@ use Rattle.reg_base.specs.Names.{is_name, is_person}
 use Rattle.reg_base.specs.Entities.{group_entity, person_entity, entity_of}
 use Rattle.reg_base.specs.declared.entity.Entity.{Entity}
 use Rattle.reg_base.specs.declared.entity.Entity.TheVariants.{Person, Group, System, Everyone}
-use Rattle.reg_terms.specs.Forms.{is_entity}
-use Rattle.reg_terms.specs.Parts.{◌>>=◌}
+use Rattle.reg_ops.specs.Forms.{is_entity}
+use Rattle.reg_ops.specs.Parts.{◌>>=◌}
 use Rattle.reg_wire.specs.Fields.{entity_text, text_bytes}
 use Rattle.reg_wire.specs.Reading.{text_at, entity_at}
 use Rattle.reg_wire.proofs.Texts.{name_short, person_short}

@@ -9,9 +9,9 @@ use Rattle.std.proofs.lemmas.Nat.{le_bytes_2, le_bytes_4, le_bytes_8, from_le_by
 use Rattle.std.proofs.lemmas.Option.{cond_some, same_Some}
 use Rattle.reg_terms.specs.declared.kinds.SetOp.{SetOp}
 use Rattle.reg_terms.specs.declared.kinds.SetOp.TheVariants.{Intersection, Complement}
-use Rattle.reg_terms.specs.Forms.{is_moment, is_optional_moment}
+use Rattle.reg_ops.specs.Forms.{is_moment, is_optional_moment}
 use Rattle.reg_terms.specs.Limits.{max_moment}
-use Rattle.reg_terms.specs.Parts.{◌>>=◌}
+use Rattle.reg_ops.specs.Parts.{◌>>=◌}
 use Rattle.reg_wire.specs.Fields.{text_bytes, moment_bytes, number_bytes, optional_moment_bytes, set_op_bytes}
 use Rattle.reg_wire.specs.Reading.{is_byte, number_at, text_at, tested_at, moment_at, ranged_at, optional_moment_at, set_op_at}
 

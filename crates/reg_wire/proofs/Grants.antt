@@ -10,7 +10,7 @@ use Rattle.reg_terms.specs.declared.kinds.InheritKind.TheVariants.{Folder, Group
 use Rattle.reg_terms.specs.declared.kinds.Scope.{Scope}
 use Rattle.reg_terms.specs.declared.kinds.Scope.TheVariants.{One, Sub}
 use Rattle.reg_terms.specs.Privileges.{code, all_privileges, privilege_coded}
-use Rattle.reg_terms.specs.Parts.{◌>>=◌}
+use Rattle.reg_ops.specs.Parts.{◌>>=◌}
 use Rattle.reg_wire.specs.Fields.{inherit_kind_bytes, scope_bytes, privilege_bytes}
 use Rattle.reg_wire.specs.Reading.{byte_at, inherit_kind_at, scope_at, privilege_at}
 use Rattle.reg_wire.proofs.Exact.{IsExact, always, bind_some}

@@ -4,7 +4,7 @@ use Rattle.std.specs.Int.{w32, to_le_bytes}
 use Rattle.std.specs.List.{flat_map, list_all}
 use Rattle.std.proofs.lemmas.Bool.{and_from, and_parts, lt-ltb, ltb-true}
 use Rattle.std.proofs.lemmas.Option.{same_Some}
-use Rattle.reg_terms.specs.Parts.{◌>>=◌}
+use Rattle.reg_ops.specs.Parts.{◌>>=◌}
 use Rattle.reg_wire.specs.declared.fault.ReadFault.{ReadFault}
 use Rattle.reg_wire.specs.declared.fault.ReadFault.TheVariants.{Memory, Malformed}
 use Rattle.reg_wire.specs.Fields.{list_bytes}

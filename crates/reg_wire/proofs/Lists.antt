@@ -4,9 +4,9 @@ use Rattle.std.specs.List.{list_all, flat_map}
 use Rattle.std.proofs.lemmas.Bool.{and_parts}
 use Rattle.std.proofs.lemmas.Grind.{flat_map-append}
 use Rattle.std.proofs.lemmas.List.Folds.{list_all-append}
-use Rattle.reg_terms.specs.declared.parts.FieldRef.{FieldRef}
-use Rattle.reg_terms.specs.Forms.{is_field}
-use Rattle.reg_terms.specs.Parts.{seen, seen_all}
+use Rattle.reg_ops.specs.declared.parts.FieldRef.{FieldRef}
+use Rattle.reg_ops.specs.Forms.{is_field}
+use Rattle.reg_ops.specs.Parts.{seen, seen_all}
 use Rattle.reg_wire.specs.Fields.{field_bytes}
 
 -- the bytes of a field and those behind it

@@ -6,8 +6,8 @@ use Rattle.std.proofs.lemmas.List.{length-append}
 use Rattle.std.proofs.lemmas.Option.{same_Some}
 use Rattle.reg_base.specs.Names.{is_name, is_person}
 use Rattle.reg_terms.specs.declared.lists.LoadRow.{LoadRow}
-use Rattle.reg_terms.specs.Forms.{are_names, are_load_rows, is_load_row}
-use Rattle.reg_terms.specs.Parts.{◌>>=◌}
+use Rattle.reg_ops.specs.Forms.{are_names, are_load_rows, is_load_row}
+use Rattle.reg_ops.specs.Parts.{◌>>=◌}
 use Rattle.reg_wire.specs.Fields.{text_bytes, list_bytes, load_row_bytes}
 use Rattle.reg_wire.specs.Reading.{name_at, person_at, names_at, load_row_at, load_rows_at}
 use Rattle.reg_wire.proofs.Texts.{name_short, person_brief}

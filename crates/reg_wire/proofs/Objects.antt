@@ -8,7 +8,7 @@ use Rattle.reg_base.specs.Entities.{entity_of}
 use Rattle.reg_base.specs.declared.entity.Entity.{Entity}
 use Rattle.reg_base.specs.declared.entity.Entity.TheVariants.{Person, Group, System, Everyone}
 use Rattle.reg_base.proofs.Persons.{name_utf8, person_utf8}
-use Rattle.reg_terms.specs.Forms.{is_entity, is_folder_text, is_object_text}
+use Rattle.reg_ops.specs.Forms.{is_entity, is_folder_text, is_object_text}
 use Rattle.reg_wire.specs.Fields.{entity_text}
 use Rattle.reg_wire.proofs.Texts.{bytes_utf8, folder_short, folder_utf8}
 use Rattle.reg_wire.proofs.Entities.{chosen, entity_takes, entity_short}

@@ -17,11 +17,11 @@ use Rattle.reg_terms.specs.declared.kinds.SetOp.{SetOp}
 use Rattle.reg_terms.specs.declared.kinds.SetOp.TheVariants.{Intersection, Complement}
 use Rattle.reg_terms.specs.declared.kinds.Value.{Value}
 use Rattle.reg_terms.specs.declared.kinds.Value.TheVariants as value
-use Rattle.reg_terms.specs.declared.field.Field.{Field}
-use Rattle.reg_terms.specs.declared.field.Field.TheVariants as field
-use Rattle.reg_terms.specs.Forms.{is_moment, is_entity, is_field, is_value, has_form}
-use Rattle.reg_terms.specs.Parts.{◌>>=◌}
-use Rattle.reg_terms.specs.Table.{fields_of, code_of}
+use Rattle.reg_ops.specs.declared.field.Field.{Field}
+use Rattle.reg_ops.specs.declared.field.Field.TheVariants as field
+use Rattle.reg_ops.specs.Forms.{is_moment, is_entity, is_field, is_value, has_form}
+use Rattle.reg_ops.specs.Parts.{◌>>=◌}
+use Rattle.reg_ops.specs.Table.{fields_of, code_of}
 use Rattle.reg_wire.specs.Fields.{entity_text, moment_bytes, field_bytes}
 use Rattle.reg_wire.specs.Reading.{moment_at, entity_at, command_of}
 use Rattle.reg_wire.specs.Payload.{listed, AreFew, fields_bytes, command_bytes, IsWritable, payload, stamped_at, stamped_of}

@@ -10,7 +10,7 @@ use Rattle.std.proofs.lemmas.Str.{IsUtf8-from_ascii, IsUtf8-from_is_utf8, is_utf
 use Rattle.std.proofs.lemmas.Str.Ascii.{IsAscii-nil, IsAscii-cons}
 use Rattle.reg_base.specs.Names.{is_extension_byte, is_extension, is_name, is_person_byte, is_part, is_person_at, is_person, is_source}
 use Rattle.reg_base.proofs.Persons.{name_utf8}
-use Rattle.reg_terms.specs.Forms.{is_folder_text, is_display}
+use Rattle.reg_ops.specs.Forms.{is_folder_text, is_display}
 use Rattle.reg_terms.specs.Limits.{max_display}
 
 bytes_ascii : (test : ℕ → Bool) → ((b : ℕ) → test b ≡ true → b < 128) → (text : List ℕ) → list_all test text ≡ true → IsAscii text

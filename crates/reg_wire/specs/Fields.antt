@@ -18,8 +18,8 @@ use Rattle.reg_terms.specs.declared.kinds.SetOp.TheVariants.{Intersection, Compl
 use Rattle.reg_terms.specs.declared.kinds.Value.{Value}
 use Rattle.reg_terms.specs.declared.kinds.Value.TheVariants as value
 use Rattle.reg_terms.specs.declared.lists.LoadRow.{LoadRow}
-use Rattle.reg_terms.specs.declared.field.Field.{Field}
-use Rattle.reg_terms.specs.declared.field.Field.TheVariants as field
+use Rattle.reg_ops.specs.declared.field.Field.{Field}
+use Rattle.reg_ops.specs.declared.field.Field.TheVariants as field
 use Rattle.reg_terms.specs.Privileges.{code}
 
 -- the text that names an entity

@@ -6,10 +6,10 @@ use Rattle.std.specs.List.{flat_map}
 use Rattle.reg_terms.specs.declared.command.Command.{Command}
 use Rattle.reg_terms.specs.declared.command.Command.TheVariants.{Load}
 use Rattle.reg_terms.specs.declared.command.Stamped.{Stamped}
-use Rattle.reg_terms.specs.Forms.{is_moment, is_entity, has_form}
+use Rattle.reg_ops.specs.Forms.{is_moment, is_entity, has_form}
 use Rattle.reg_terms.specs.Limits.{max_groups, max_records, max_rows}
-use Rattle.reg_terms.specs.Parts.{◌>>=◌}
-use Rattle.reg_terms.specs.Table.{fields_of, code_of}
+use Rattle.reg_ops.specs.Parts.{◌>>=◌}
+use Rattle.reg_ops.specs.Table.{fields_of, code_of}
 use Rattle.reg_wire.specs.Fields.{entity_text, field_bytes, moment_bytes, text_bytes}
 use Rattle.reg_wire.specs.Reading.{entity_at, moment_at, command_of}
 

@@ -22,15 +22,15 @@ use Rattle.reg_terms.specs.declared.kinds.Value.{Value}
 use Rattle.reg_terms.specs.declared.kinds.Value.TheVariants as value
 use Rattle.reg_terms.specs.declared.lists.LoadRow.{LoadRow}
 use Rattle.reg_terms.specs.declared.command.Command.{Command}
-use Rattle.reg_terms.specs.declared.table.CommandKind.{CommandKind}
-use Rattle.reg_terms.specs.declared.field.FieldKind.{FieldKind}
-use Rattle.reg_terms.specs.declared.field.FieldKind.TheVariants as kind
-use Rattle.reg_terms.specs.declared.field.Field.{Field}
-use Rattle.reg_terms.specs.declared.field.Field.TheVariants as field
-use Rattle.reg_terms.specs.Forms.{is_folder_text, is_display, is_object_text, is_moment}
-use Rattle.reg_terms.specs.Parts.{◌>>=◌}
+use Rattle.reg_ops.specs.declared.table.CommandKind.{CommandKind}
+use Rattle.reg_ops.specs.declared.field.FieldKind.{FieldKind}
+use Rattle.reg_ops.specs.declared.field.FieldKind.TheVariants as kind
+use Rattle.reg_ops.specs.declared.field.Field.{Field}
+use Rattle.reg_ops.specs.declared.field.Field.TheVariants as field
+use Rattle.reg_ops.specs.Forms.{is_folder_text, is_display, is_object_text, is_moment}
+use Rattle.reg_ops.specs.Parts.{◌>>=◌}
 use Rattle.reg_terms.specs.Privileges.{privilege_coded}
-use Rattle.reg_terms.specs.Table.{command_row, field_kinds, commands, coded, made_command}
+use Rattle.reg_ops.specs.Table.{command_row, field_kinds, commands, coded, made_command}
 
 -- a byte is a number below 256
 abbrev pub is_byte : ℕ → Bool

@@ -8,7 +8,8 @@ use crate::fault::ReadFault;
 use crate::fields::{entity_at, moment_at};
 use crate::reading::command_of;
 use reg_base::Moment;
-use reg_terms::{Stamped, law_commands};
+use reg_ops::law_commands;
+use reg_terms::Stamped;
 use std::alloc::{AllocError, Global};
 
 #[tactic(auto, unfolding(crate::specs::Payload::stamped_at))]

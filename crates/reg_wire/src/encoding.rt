@@ -2,10 +2,10 @@
 ghost use Rattle.std.specs.Prelude.{◌≡◌, ◌++◌, ◌<◌, ◌≤◌, ◌^◌, true, codes, length, IfOk, OnOk};
 ghost use Rattle.std.specs.List.{flat_map, list_all};
 ghost use Rattle.std.specs.Int.{w32, to_le_bytes};
-ghost use Rattle.reg_terms.specs.Forms.{are_load_rows, are_names, is_entity, is_field, is_load_row};
-ghost use Rattle.reg_terms.specs.Forms.{is_value, has_form};
-ghost use Rattle.reg_terms.specs.Parts.{seen, seen_all};
-ghost use Rattle.reg_terms.specs.Table.{code_of};
+ghost use Rattle.reg_ops.specs.Forms.{are_load_rows, are_names, is_entity, is_field, is_load_row};
+ghost use Rattle.reg_ops.specs.Forms.{is_value, has_form};
+ghost use Rattle.reg_ops.specs.Parts.{seen, seen_all};
+ghost use Rattle.reg_ops.specs.Table.{code_of};
 ghost use Rattle.reg_wire.specs.Fields.{entity_text, field_bytes, text_bytes, moment_bytes};
 ghost use Rattle.reg_wire.specs.Fields.{number_bytes, optional_moment_bytes, set_op_bytes};
 ghost use Rattle.reg_wire.specs.Fields.{inherit_kind_bytes, scope_bytes, privilege_bytes};
@@ -18,10 +18,8 @@ use crate::fields::{
     TEXT_VALUE, TEXTS, TIMESTAMPS,
 };
 use reg_base::{Entity, Moment, Name, Privilege};
-use reg_terms::{
-    Command, DefKind, FieldRef, InheritKind, LoadRow, LoadRows, Names, Owners, Scope, SetOp,
-    Stamped, Value, command_row, fields_of, kind_of, law_commands, privilege_code,
-};
+use reg_ops::{FieldRef, command_row, fields_of, kind_of, law_commands};
+use reg_terms::{Command, DefKind, InheritKind, LoadRow, LoadRows, Names, Owners, Scope, SetOp, Stamped, Value, privilege_code};
 use std::alloc::{AllocError, Global};
 
 fn put_text(out: &mut Vec<u8>, text: &[u8]) -> Result<(), AllocError>
@@ -280,7 +278,7 @@ fn code_of(command: &Command) -> u8
     command_row(kind_of(command)).code
 }
 
-#[tactic(auto, unfolding(reg_terms::specs::Forms::has_form, crate::specs::Payload::fields_bytes))]
+#[tactic(auto, unfolding(reg_ops::specs::Forms::has_form, crate::specs::Payload::fields_bytes))]
 fn put_fields_of(out: &mut Vec<u8>, command: &Command) -> Result<(), AllocError>
     requires { has_form command.now ≡ true }
     ensures { OnOk result (out.new.items ≡ out.old.items ++ fields_bytes command.now) }

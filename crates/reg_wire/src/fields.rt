@@ -12,10 +12,8 @@ ghost use Rattle.reg_wire.specs.Reading.{value_at};
 
 use crate::fault::ReadFault;
 use reg_base::{Entity, Moment, Name, Privilege, Text, is_extension, is_person, is_source};
-use reg_terms::{
-    DefKind, InheritKind, MAX_DISPLAY, Owners, Scope, SetOp, Value, is_folder_text, is_object_text,
-    privilege_coded,
-};
+use reg_ops::{is_folder_text, is_object_text};
+use reg_terms::{DefKind, InheritKind, MAX_DISPLAY, Owners, Scope, SetOp, Value, privilege_coded};
 use std::alloc::Global;
 
 // how composites are made, one byte each

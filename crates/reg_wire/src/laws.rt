@@ -4,7 +4,7 @@ ghost use Rattle.std.specs.Prelude.{◌≡◌, ◌<◌, ◌^◌, ℕ, List, Some
 ghost use Rattle.reg_terms.specs.declared.command.Stamped.{Stamped};
 ghost use Rattle.reg_wire.specs.Payload.{payload, stamped_of, AreFew, IsWritable};
 
-use reg_terms::law_commands;
+use reg_ops::law_commands;
 
 /// The payload of a writable command reads back as that command.
 pub fn payload_reads_back()

@@ -10,7 +10,8 @@ use crate::fields::{
     set_op_at, source_at, value_at,
 };
 use crate::load_lists::{load_rows_at, names_at};
-use reg_terms::{Command, CommandKind, Field, FieldKind, command_coded, command_row, made_command};
+use reg_ops::{CommandKind, Field, FieldKind, command_coded, command_row, made_command};
+use reg_terms::Command;
 use std::alloc::Global;
 use std::collections::VecDeque;
 

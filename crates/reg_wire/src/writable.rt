@@ -1,9 +1,10 @@
 // Which stamped commands have a payload.
 ghost use Rattle.std.specs.Prelude.{◌≡◌, ◌&&◌};
-ghost use Rattle.reg_terms.specs.Forms.{is_entity, is_moment, has_form};
+ghost use Rattle.reg_ops.specs.Forms.{is_entity, is_moment, has_form};
 
 use reg_base::{Entity, Moment, is_name, is_person};
-use reg_terms::{Stamped, has_form};
+use reg_ops::has_form;
+use reg_terms::Stamped;
 
 fn is_moment(moment: Moment) -> bool
     ensures { result ≡ is_moment moment }

@@ -1,6 +1,6 @@
 use Rattle.std.proofs.Common.{ap, ◌∙◌}
-use Rattle.reg_terms.specs.declared.table.CommandKind.{CommandKind}
-use Rattle.reg_terms.specs.Table.{command_row}
+use Rattle.reg_ops.specs.declared.table.CommandKind.{CommandKind}
+use Rattle.reg_ops.specs.Table.{command_row}
 use Rattle.reg_wire.proofs.encoding.code_of.Goals as goal
 
 pub returns : goal.returns

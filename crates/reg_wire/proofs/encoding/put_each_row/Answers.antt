@@ -1,4 +1,4 @@
-use Rattle.reg_terms.specs.Forms.{is_load_row}
+use Rattle.reg_ops.specs.Forms.{is_load_row}
 use Rattle.reg_wire.proofs.Lists.{each_passes}
 use Rattle.reg_wire.proofs.encoding.put_each_row.Goals as goal
 

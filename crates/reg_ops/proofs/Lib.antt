@@ -1,0 +1,4 @@
+mod Makes
+mod Seen
+mod Displays
+mod LoadWord

@@ -1,5 +1,0 @@
-use Rattle.std.proofs.Common.{length}
-use Rattle.reg_terms.proofs.table.+coded.Given as goal
-
-abbrev pub decreases-coded : goal.decreases-coded
-decreases-coded l = length l.kinds.now
