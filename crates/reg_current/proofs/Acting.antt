@@ -7,7 +7,7 @@ use Rattle.reg_terms.specs.declared.event.Event.TheVariants.{RowRemoved, RowReda
 use Rattle.reg_terms.specs.declared.kinds.Member.{Member}
 use Rattle.reg_terms.specs.declared.kinds.Member.TheVariants.{Person}
 use Rattle.reg_terms.specs.declared.rows.MemberRow.{MemberRow}
-use Rattle.reg_facts.specs.Edits.{is_row}
+use Rattle.reg_terms.specs.Rows.{is_row}
 use Rattle.reg_facts.specs.Lists.{Lists}
 use Rattle.reg_effect.specs.declared.live.Change.TheVariants.{RowOff}
 use Rattle.reg_effect.specs.Bound.{most_steps_of}

@@ -7,7 +7,8 @@ use Rattle.std.proofs.lemmas.Bool.Decides.{nat_tests}
 use Rattle.std.proofs.lemmas.List.Folds.{list_any-append}
 use Rattle.reg_terms.specs.declared.kinds.Member.{Member}
 use Rattle.reg_terms.specs.declared.rows.MemberRow.{MemberRow}
-use Rattle.reg_facts.specs.Edits.{is_row, has_row, windowed}
+use Rattle.reg_facts.specs.Edits.{windowed}
+use Rattle.reg_terms.specs.Rows.{is_row, has_row}
 use Rattle.reg_facts.specs.Sound.{AreRowsOnce}
 use Rattle.reg_effect.proofs.Edits.{row_is}
 use Rattle.reg_current.specs.declared.dated_rows.DatedRows.{DatedRows}

@@ -10,8 +10,8 @@ use Rattle.std.specs.List.Sorted.{IsStrictlySortedBy, IsPermutation}
 use Rattle.reg_terms.specs.declared.kinds.Member.{Member}
 use Rattle.reg_terms.specs.declared.kinds.Member.TheVariants.{Group}
 use Rattle.reg_terms.specs.declared.rows.MemberRow.{MemberRow}
-use Rattle.reg_facts.specs.Edits as facts
-use Rattle.reg_facts.specs.Edits.{is_composite}
+use Rattle.reg_terms.specs.Rows as terms
+use Rattle.reg_terms.specs.Rows.{is_composite}
 use Rattle.reg_facts.specs.Lists.{Lists}
 use Rattle.reg_facts.specs.Sound.{AreRowsOnce, IsSound}
 use Rattle.reg_graph.specs.Edges.{has_edge, IsAcyclic}
@@ -163,7 +163,7 @@ turns a d row l p o = record { ended = ended; begun = begun; is_on = is_on }
 
 -- ---- rows of which each stands once: what tests find of one group's member
 abbrev finds : (MemberRow → Bool) → ℕ → Member → List MemberRow → Bool
-finds test g m rows = list_any (λ (row : MemberRow). test row && facts.is_row g m row) rows
+finds test g m rows = list_any (λ (row : MemberRow). test row && terms.is_row g m row) rows
 
 none : (b : Bool) → (b && false) ≡ false
 none true = refl
@@ -177,26 +177,26 @@ alone : (b : Bool) → (b || false) ≡ b
 alone true = refl
 alone false = refl
 
-finds_none : (test : MemberRow → Bool) (g : ℕ) (m : Member) (rows : List MemberRow) → facts.has_row g m rows ≡ false → finds test g m rows ≡ false
+finds_none : (test : MemberRow → Bool) (g : ℕ) (m : Member) (rows : List MemberRow) → terms.has_row g m rows ≡ false → finds test g m rows ≡ false
 finds_none test g m [] h = refl
 finds_none test g m (r ∷ rs) h =
-    let parts = or_parts (facts.is_row g m r) (facts.has_row g m rs) h in
-    or_from (test r && facts.is_row g m r) (finds test g m rs) (ap (λ b. test r && b) parts.0 ∙ none (test r)) (finds_none test g m rs parts.1)
+    let parts = or_parts (terms.is_row g m r) (terms.has_row g m rs) h in
+    or_from (test r && terms.is_row g m r) (finds test g m rs) (ap (λ b. test r && b) parts.0 ∙ none (test r)) (finds_none test g m rs parts.1)
 
 -- where the row is first, no other is found
-finds_first : (test : MemberRow → Bool) (g : ℕ) (m : Member) (r : MemberRow) (rs : List MemberRow) → facts.is_row g m r ≡ true → facts.has_row r.group r.member rs ≡ false → finds test g m (r ∷ rs) ≡ test r
+finds_first : (test : MemberRow → Bool) (g : ℕ) (m : Member) (r : MemberRow) (rs : List MemberRow) → terms.is_row g m r ≡ true → terms.has_row r.group r.member rs ≡ false → finds test g m (r ∷ rs) ≡ test r
 finds_first test g m r rs t o =
     let w = row_is g m r.group r.member t in
     let others : finds test g m rs ≡ false = finds_none test g m rs (rw (w.0, w.1) at o) in
     ap (λ b. (test r && b) || finds test g m rs) t ∙ (ap (λ b. (test r && true) || b) others ∙ (alone (test r && true) ∙ whole (test r)))
 
-finds_later : (test : MemberRow → Bool) (g : ℕ) (m : Member) (r : MemberRow) (rs : List MemberRow) → facts.is_row g m r ≡ false → finds test g m (r ∷ rs) ≡ finds test g m rs
+finds_later : (test : MemberRow → Bool) (g : ℕ) (m : Member) (r : MemberRow) (rs : List MemberRow) → terms.is_row g m r ≡ false → finds test g m (r ∷ rs) ≡ finds test g m rs
 finds_later test g m r rs f = ap (λ b. (test r && b) || finds test g m rs) f ∙ ap (λ b. b || finds test g m rs) (none (test r))
 
 -- what holds of the tests of each row holds of what they find
 finds_each : (Q : Bool → Bool → Bool → Bool → Type 0) (p q s t : MemberRow → Bool) (g : ℕ) (m : Member) → Q false false false false → (rows : List MemberRow) → AreRowsOnce rows → AllByRecursion (λ (row : MemberRow). Q (p row) (q row) (s row) (t row)) rows → Q (finds p g m rows) (finds q g m rows) (finds s g m rows) (finds t g m rows)
 finds_each Q p q s t g m z [] o a = z
-finds_each Q p q s t g m z (r ∷ rs) o a = elim (cases_Bool (facts.is_row g m r)) [
+finds_each Q p q s t g m z (r ∷ rs) o a = elim (cases_Bool (terms.is_row g m r)) [
   | inl y ↦ at_once (finds p g m (r ∷ rs)) (finds q g m (r ∷ rs)) (finds s g m (r ∷ rs)) (finds t g m (r ∷ rs)) (p r) (q r) (s r) (t r) (finds_first p g m r rs y o.0) (finds_first q g m r rs y o.0) (finds_first s g m r rs y o.0) (finds_first t g m r rs y o.0) a.0
   | inr n ↦ at_once (finds p g m (r ∷ rs)) (finds q g m (r ∷ rs)) (finds s g m (r ∷ rs)) (finds t g m (r ∷ rs)) (finds p g m rs) (finds q g m rs) (finds s g m rs) (finds t g m rs) (finds_later p g m r rs n) (finds_later q g m r rs n) (finds_later s g m r rs n) (finds_later t g m r rs n) (finds_each Q p q s t g m z rs o.1 a.1)
 ]
@@ -207,7 +207,7 @@ finds_each Q p q s t g m z (r ∷ rs) o a = elim (cases_Bool (facts.is_row g m r
 finds_kept : (keep test : MemberRow → Bool) (g : ℕ) (m : Member) (rows : List MemberRow) → finds test g m (filter keep rows) ≡ finds (λ (row : MemberRow). keep row && test row) g m rows
 finds_kept keep test g m [] = refl
 finds_kept keep test g m (r ∷ rs) = elim (cases_Bool (keep r)) [
-  | inl t ↦ rw t (ap (λ b. (test r && facts.is_row g m r) || b) (finds_kept keep test g m rs))
+  | inl t ↦ rw t (ap (λ b. (test r && terms.is_row g m r) || b) (finds_kept keep test g m rs))
   | inr f ↦ rw f (finds_kept keep test g m rs)
 ]
 
@@ -218,13 +218,13 @@ finds_where test g m rows = where_has test g m rows [] ∙ alone (finds test g m
 pub ending_sorted : (d : ℕ) (rows : List MemberRow) → IsStrictlySortedBy row_cmp (ending d rows)
 ending_sorted d rows = where_sorted (ends_at d) rows [] (empty_sorted row_cmp)
 
-pub ending_has : (d g : ℕ) (m : Member) (rows : List MemberRow) → has_live_row g m (ending d rows) ≡ list_any (λ (row : MemberRow). ends_at d row && facts.is_row g m row) rows
+pub ending_has : (d g : ℕ) (m : Member) (rows : List MemberRow) → has_live_row g m (ending d rows) ≡ list_any (λ (row : MemberRow). ends_at d row && terms.is_row g m row) rows
 ending_has d g m rows = finds_where (ends_at d) g m rows
 
 pub beginning_sorted : (d : ℕ) (rows : List MemberRow) → IsStrictlySortedBy row_cmp (beginning d rows)
 beginning_sorted d rows = where_sorted (begins_at d) rows [] (empty_sorted row_cmp)
 
-pub beginning_has : (d g : ℕ) (m : Member) (rows : List MemberRow) → has_live_row g m (beginning d rows) ≡ list_any (λ (row : MemberRow). begins_at d row && facts.is_row g m row) rows
+pub beginning_has : (d g : ℕ) (m : Member) (rows : List MemberRow) → has_live_row g m (beginning d rows) ≡ list_any (λ (row : MemberRow). begins_at d row && terms.is_row g m row) rows
 beginning_has d g m rows = finds_where (begins_at d) g m rows
 
 pub where_none : (test : MemberRow → Bool) (rows : List MemberRow) → list_any test rows ≡ false → rows_where test rows [] ≡ []
@@ -304,8 +304,8 @@ module _ (a b d : ℕ) (f : Lists) (first : due a b f.rows ≡ Some d) (ends : A
 
   plain : (test : MemberRow → Bool) (g : ℕ) (m : Member) (rows : List MemberRow) → AllByRecursion (λ (row : MemberRow). is_composite row.group f.composites ≡ false) rows → finds test g m rows ≡ true → is_composite g f.composites ≡ false
   plain test g m [] p h = cc
-  plain test g m (r ∷ rs) p h = elim (or_cases (test r && facts.is_row g m r) (finds test g m rs) h) [
-    | inl t ↦ let w = row_is g m r.group r.member (and_parts (test r) (facts.is_row g m r) t).1 in ap (λ x. is_composite x f.composites) (sym w.0) ∙ p.0
+  plain test g m (r ∷ rs) p h = elim (or_cases (test r && terms.is_row g m r) (finds test g m rs) h) [
+    | inl t ↦ let w = row_is g m r.group r.member (and_parts (test r) (terms.is_row g m r) t).1 in ap (λ x. is_composite x f.composites) (sym w.0) ∙ p.0
     | inr u ↦ plain test g m rs p.1 u
   ]
 
@@ -318,7 +318,7 @@ module _ (a b d : ℕ) (f : Lists) (first : due a b f.rows ≡ Some d) (ends : A
   stood x y h =
       list_any-append (λ (e : ℕ × ℕ). (e.0 == x) && (e.1 == y)) (row_edges (map pair_of f.rows)) (factor_edges f.composites)
       ∙ elim (or_cases (has_edge (row_edges (map pair_of (filter stays f.rows))) x y) (has_edge (factor_edges f.composites) x y) (sym (list_any-append (λ (e : ℕ × ℕ). (e.0 == x) && (e.1 == y)) (row_edges (map pair_of (filter stays f.rows))) (factor_edges f.composites)) ∙ h)) [
-        | inl r ↦ or_left (has_edge (row_edges (map pair_of f.rows)) x y) (has_edge (factor_edges f.composites) x y) (edge_row x y (map pair_of f.rows) ∙ (row_of_facts x (Group y) f.rows ∙ of_kept (facts.is_row x (Group y)) stays f.rows (sym (row_of_facts x (Group y) (filter stays f.rows)) ∙ (sym (edge_row x y (map pair_of (filter stays f.rows))) ∙ r))))
+        | inl r ↦ or_left (has_edge (row_edges (map pair_of f.rows)) x y) (has_edge (factor_edges f.composites) x y) (edge_row x y (map pair_of f.rows) ∙ (row_of_facts x (Group y) f.rows ∙ of_kept (terms.is_row x (Group y)) stays f.rows (sym (row_of_facts x (Group y) (filter stays f.rows)) ∙ (sym (edge_row x y (map pair_of (filter stays f.rows))) ∙ r))))
         | inr c ↦ or_right (has_edge (row_edges (map pair_of f.rows)) x y) (has_edge (factor_edges f.composites) x y) c
       ]
     where

@@ -22,7 +22,7 @@ use Rattle.std.proofs.lemmas.Map.Views.{All-insert_key, All-remove_key}
 use Rattle.reg_terms.specs.declared.kinds.Member.{Member}
 use Rattle.reg_terms.specs.declared.kinds.Member.TheVariants.{Person, Group}
 use Rattle.reg_terms.specs.contracts.kinds.MemberOrd.TheImpl.{ghosts}
-use Rattle.reg_facts.specs.RowOrder.{member_cmp}
+use Rattle.reg_terms.specs.Rows.{member_cmp}
 use Rattle.reg_effect.specs.Order.{row_cmp, is_live_row, has_live_row}
 use Rattle.reg_effect.proofs.LiveOf.{row_turned}
 use Rattle.reg_current.specs.declared.dated_rows.DatedRows.{DatedRows}

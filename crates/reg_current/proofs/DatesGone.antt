@@ -4,7 +4,7 @@ use Rattle.std.specs.List.{list_any}
 use Rattle.std.proofs.lemmas.Bool.{cases_Bool, cases_lt, cases_order, eq-eqb, ne_eqb, lt-ltb, le-ltb, or_parts, both_ways, false_from_ne_true}
 use Rattle.reg_terms.specs.declared.kinds.Member.{Member}
 use Rattle.reg_terms.specs.declared.rows.MemberRow.{MemberRow}
-use Rattle.reg_facts.specs.Edits.{is_row}
+use Rattle.reg_terms.specs.Rows.{is_row}
 use Rattle.reg_effect.specs.Order.{row_cmp}
 use Rattle.reg_effect.specs.Changes.{rows_where}
 use Rattle.reg_effect.proofs.LiveOf.{one_rows, where_sorted, where_has, empty_sorted}

@@ -5,7 +5,7 @@ use Rattle.std.specs.List.{list_any}
 use Rattle.std.proofs.lemmas.Bool.{cases_Bool, cases_lt, eqb-true, eq-eqb, ltb-true, leb-true, lt-ltb, le-leb, or_left, or_right, or_cases, or_from, and_parts, and_from, both_ways, false_from_ne_true}
 use Rattle.reg_terms.specs.declared.kinds.Member.{Member}
 use Rattle.reg_terms.specs.declared.rows.MemberRow.{MemberRow}
-use Rattle.reg_facts.specs.Edits.{is_row}
+use Rattle.reg_terms.specs.Rows.{is_row}
 use Rattle.reg_effect.proofs.LiveOf.{row_self}
 use Rattle.reg_current.specs.declared.dated_rows.DatedRows.{DatedRows}
 use Rattle.reg_current.specs.declared.dates.Dates.{Dates}

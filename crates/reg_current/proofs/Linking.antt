@@ -5,7 +5,8 @@ use Rattle.std.proofs.lemmas.List.Sorted.{list_any-IsPermutation}
 use Rattle.std.specs.List.Sorted.{IsPermutation}
 use Rattle.reg_terms.specs.declared.kinds.Member.{Member}
 use Rattle.reg_terms.specs.declared.rows.MemberRow.{MemberRow}
-use Rattle.reg_facts.specs.Edits.{is_row, windowed}
+use Rattle.reg_facts.specs.Edits.{windowed}
+use Rattle.reg_terms.specs.Rows.{is_row}
 use Rattle.reg_facts.specs.Events.{happened}
 use Rattle.reg_terms.specs.declared.event.Event.TheVariants.{RowRedated}
 use Rattle.reg_facts.specs.Lists.{Lists}

@@ -8,7 +8,7 @@ use Rattle.std.specs.List.{AllByRecursion}
 use Rattle.reg_terms.specs.declared.kinds.Member.{Member}
 use Rattle.reg_terms.specs.declared.kinds.Member.TheVariants.{Person}
 use Rattle.reg_terms.specs.declared.rows.MemberRow.{MemberRow}
-use Rattle.reg_facts.specs.Edits.{is_row}
+use Rattle.reg_terms.specs.Rows.{is_row}
 use Rattle.reg_facts.specs.Lists.{Lists}
 use Rattle.reg_facts.proofs.Places.{cases_option}
 use Rattle.reg_effect.specs.declared.live.Live.{Live}

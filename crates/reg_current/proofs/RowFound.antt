@@ -5,7 +5,7 @@ use Rattle.std.specs.Prelude.{Result, Ok, Err, OnOk}
 use Rattle.std.specs.List.{find, list_any}
 use Rattle.reg_terms.specs.declared.kinds.Member.{Member}
 use Rattle.reg_terms.specs.declared.rows.MemberRow.{MemberRow}
-use Rattle.reg_facts.specs.Edits.{has_row, is_row}
+use Rattle.reg_terms.specs.Rows.{has_row, is_row}
 use Rattle.reg_current.specs.declared.dates.Dates.{Dates}
 use Rattle.reg_current.specs.Coming.{FindsDates}
 

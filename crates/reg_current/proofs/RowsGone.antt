@@ -7,7 +7,7 @@ use Rattle.std.specs.List.{list_any, AllByRecursion}
 use Rattle.std.specs.List.Sorted.{IsStrictlySortedBy}
 use Rattle.reg_terms.specs.declared.kinds.Member.{Member}
 use Rattle.reg_terms.specs.declared.rows.MemberRow.{MemberRow}
-use Rattle.reg_facts.specs.Edits as facts
+use Rattle.reg_terms.specs.Rows as terms
 use Rattle.reg_facts.specs.Events.{happened, all_happened, row_gone}
 use Rattle.reg_terms.specs.declared.event.Event.TheVariants.{RowRemoved}
 use Rattle.reg_facts.specs.RowOrder.{rows_of}
@@ -28,17 +28,17 @@ all_removed ps f = all_happened (map pair_gone ps) f
 -- each row stands when its turn comes
 abbrev pub AllStand : List (ℕ × Member) → Lists → Type 0
 AllStand [] f = Unit {0}
-AllStand (p ∷ ps) f = (facts.has_row p.0 p.1 f.rows ≡ true) × AllStand ps (happened (RowRemoved p.0 p.1) f)
+AllStand (p ∷ ps) f = (terms.has_row p.0 p.1 f.rows ≡ true) × AllStand ps (happened (RowRemoved p.0 p.1) f)
 
 -- ---- what stands when its turn comes
 -- in a list in order no row stands twice
-all_stand : (ps : List (ℕ × Member)) (f : Lists) → IsStrictlySortedBy row_cmp ps → ((g : ℕ) (m : Member) → has_live_row g m ps ≡ true → facts.has_row g m f.rows ≡ true) → AllStand ps f
+all_stand : (ps : List (ℕ × Member)) (f : Lists) → IsStrictlySortedBy row_cmp ps → ((g : ℕ) (m : Member) → has_live_row g m ps ≡ true → terms.has_row g m f.rows ≡ true) → AllStand ps f
 unfolding IsStrictlySortedBy
 all_stand [] f s h = tt
 all_stand (p ∷ ps) f s h = (
   h p.0 p.1 (or_left (is_live_row p.0 p.1 p) (has_live_row p.0 p.1 ps) (row_self p.0 p.1)),
   all_stand ps (happened (RowRemoved p.0 p.1) f) s.1 (λ g m t.
-      any-filter_same (facts.is_row g m) (λ (row : MemberRow). not (facts.is_row p.0 p.1 row)) true (λ row u. let w = row_is g m row.group row.member u in rw (w.0, w.1) (ap not (other g m t))) f.rows
+      any-filter_same (terms.is_row g m) (λ (row : MemberRow). not (terms.is_row p.0 p.1 row)) true (λ row u. let w = row_is g m row.group row.member u in rw (w.0, w.1) (ap not (other g m t))) f.rows
       ∙ h g m (or_right (is_live_row g m p) (has_live_row g m ps) t)),
 )
   where
@@ -49,11 +49,11 @@ all_stand (p ∷ ps) f s h = (
 abbrev passes : (MemberRow → Bool) → ℕ → Member → List MemberRow → Bool
 passes test g m rows = list_any (λ (row : MemberRow). test row && is_live_row g m (row.group, row.member)) rows
 
-passing_stands : (test : MemberRow → Bool) (g : ℕ) (m : Member) (rows : List MemberRow) → (passes test g m rows || false) ≡ true → facts.has_row g m rows ≡ true
+passing_stands : (test : MemberRow → Bool) (g : ℕ) (m : Member) (rows : List MemberRow) → (passes test g m rows || false) ≡ true → terms.has_row g m rows ≡ true
 passing_stands test g m [] h = h
-passing_stands test g m (row ∷ rows) h = by (λ k. passing_stands test g m rows k) (test row) (facts.is_row g m row) h
+passing_stands test g m (row ∷ rows) h = by (λ k. passing_stands test g m rows k) (test row) (terms.is_row g m row) h
   where
-    by : ((passes test g m rows || false) ≡ true → facts.has_row g m rows ≡ true) → (a b : Bool) → (((a && b) || passes test g m rows) || false) ≡ true → (b || facts.has_row g m rows) ≡ true
+    by : ((passes test g m rows || false) ≡ true → terms.has_row g m rows ≡ true) → (a b : Bool) → (((a && b) || passes test g m rows) || false) ≡ true → (b || terms.has_row g m rows) ≡ true
     by later a true k = refl
     by later true false k = later k
     by later false false k = later k
@@ -69,7 +69,7 @@ rows_hold at (p ∷ ps) f h = (record { suits = h.0; no_circle = tt; later = tt 
 -- ---- what is left
 rows_left : List (ℕ × Member) → List MemberRow → List MemberRow
 rows_left [] rows = rows
-rows_left (p ∷ ps) rows = rows_left ps (filter (λ (row : MemberRow). not (facts.is_row p.0 p.1 row)) rows)
+rows_left (p ∷ ps) rows = rows_left ps (filter (λ (row : MemberRow). not (terms.is_row p.0 p.1 row)) rows)
 
 removed_rows : (ps : List (ℕ × Member)) (f : Lists) → all_removed ps f ≡ record f { rows = rows_left ps f.rows }
 unfolding rows_left
@@ -106,8 +106,8 @@ left_unlisted : (ps : List (ℕ × Member)) (rows : List MemberRow) → rows_lef
 unfolding rows_left
 left_unlisted [] rows = sym (filter_none rows)
 left_unlisted (p ∷ ps) rows =
-    left_unlisted ps (filter (λ (row : MemberRow). not (facts.is_row p.0 p.1 row)) rows)
-    ∙ (filter_twice (λ (row : MemberRow). not (facts.is_row p.0 p.1 row)) (λ (row : MemberRow). not (has_live_row row.group row.member ps)) rows
+    left_unlisted ps (filter (λ (row : MemberRow). not (terms.is_row p.0 p.1 row)) rows)
+    ∙ (filter_twice (λ (row : MemberRow). not (terms.is_row p.0 p.1 row)) (λ (row : MemberRow). not (has_live_row row.group row.member ps)) rows
     ∙ filter_agree _ _ (λ (row : MemberRow). ap (λ b. not b && not (has_live_row row.group row.member ps)) (row_turned p.0 row.group p.1 row.member) ∙ neither (is_live_row row.group row.member p) (has_live_row row.group row.member ps)) rows)
   where
     neither : (a b : Bool) → (not a && not b) ≡ not (a || b)
@@ -115,10 +115,10 @@ left_unlisted (p ∷ ps) rows =
     neither false b = refl
 
 -- where rows stand once, a row passes a test exactly where one of its group and member does
-none_passes : (test : MemberRow → Bool) (g : ℕ) (m : Member) (rows : List MemberRow) → facts.has_row g m rows ≡ false → passes test g m rows ≡ false
+none_passes : (test : MemberRow → Bool) (g : ℕ) (m : Member) (rows : List MemberRow) → terms.has_row g m rows ≡ false → passes test g m rows ≡ false
 none_passes test g m [] h = refl
 none_passes test g m (row ∷ rows) h =
-    let parts = or_parts (facts.is_row g m row) (facts.has_row g m rows) h in
+    let parts = or_parts (terms.is_row g m row) (terms.has_row g m rows) h in
     rw (parts.0, none_passes test g m rows parts.1) (no_way (test row))
   where
     no_way : (a : Bool) → ((a && false) || false) ≡ false
@@ -137,10 +137,10 @@ each_passes test (q ∷ qs) o = (rw (row_self q.group q.member, none_passes test
     past true b = refl
     past false b = refl
 
-    later : (rs : List MemberRow) → facts.has_row q.group q.member rs ≡ false → AllByRecursion (λ (row : MemberRow). passes test row.group row.member qs ≡ test row) rs → AllByRecursion (λ (row : MemberRow). passes test row.group row.member (q ∷ qs) ≡ test row) rs
+    later : (rs : List MemberRow) → terms.has_row q.group q.member rs ≡ false → AllByRecursion (λ (row : MemberRow). passes test row.group row.member qs ≡ test row) rs → AllByRecursion (λ (row : MemberRow). passes test row.group row.member (q ∷ qs) ≡ test row) rs
     later [] h a = tt
     later (r ∷ rs) h a =
-        let parts = or_parts (facts.is_row q.group q.member r) (facts.has_row q.group q.member rs) h in
+        let parts = or_parts (terms.is_row q.group q.member r) (terms.has_row q.group q.member rs) h in
         let other : is_live_row r.group r.member (q.group, q.member) ≡ false = row_turned r.group q.group r.member q.member ∙ parts.0 in
         (rw other (past (test q) (passes test r.group r.member qs) ∙ a.0), later rs parts.1 a.1)
 

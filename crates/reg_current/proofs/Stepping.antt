@@ -12,7 +12,7 @@ use Rattle.reg_terms.specs.declared.rows.MemberRow.{MemberRow}
 use Rattle.reg_terms.specs.declared.rows.CompositeRow.{CompositeRow}
 use Rattle.reg_terms.specs.Kinds.{same_member}
 use Rattle.reg_facts.specs.Lists.{Lists}
-use Rattle.reg_facts.specs.Edits.{has_row, is_row, is_composite}
+use Rattle.reg_terms.specs.Rows.{has_row, is_row, is_composite}
 use Rattle.reg_facts.specs.Events.{happened}
 use Rattle.reg_facts.specs.Sound.{IsSound}
 use Rattle.reg_facts.specs.Suiting.{Suits}

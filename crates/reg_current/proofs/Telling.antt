@@ -6,7 +6,7 @@ use Rattle.reg_terms.specs.declared.kinds.Member.TheVariants.{Person, Group}
 use Rattle.reg_terms.specs.declared.rows.MemberRow.{MemberRow}
 use Rattle.reg_terms.specs.declared.rows.CompositeRow.{CompositeRow}
 use Rattle.reg_terms.specs.Kinds.{same_member}
-use Rattle.reg_facts.specs.Edits.{is_nested, is_factor}
+use Rattle.reg_terms.specs.Rows.{is_nested, is_factor}
 use Rattle.reg_facts.specs.Lists.{Lists}
 use Rattle.reg_graph.specs.Edges.{is_needed, reaches}
 use Rattle.reg_effect.specs.declared.live.Live.{Live}

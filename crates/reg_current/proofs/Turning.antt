@@ -6,8 +6,9 @@ use Rattle.std.specs.List.Sorted.{IsStrictlySortedBy, IsPermutation}
 use Rattle.reg_terms.specs.declared.kinds.Member.{Member}
 use Rattle.reg_terms.specs.declared.rows.MemberRow.{MemberRow}
 use Rattle.reg_terms.specs.declared.rows.CompositeRow.{CompositeRow}
-use Rattle.reg_facts.specs.Edits as facts
-use Rattle.reg_facts.specs.Edits.{is_composite, windowed}
+use Rattle.reg_terms.specs.Rows as terms
+use Rattle.reg_facts.specs.Edits.{windowed}
+use Rattle.reg_terms.specs.Rows.{is_composite}
 use Rattle.reg_graph.specs.Edges.{IsAcyclic}
 use Rattle.reg_effect.specs.declared.live.Live.{Live}
 use Rattle.reg_effect.specs.Order.{row_cmp, is_live_row, has_live_row}
@@ -68,7 +69,7 @@ module _ (from : ℕ) (until : Option ℕ) (g : ℕ) (m : Member) where
   windowed_pairs [] = refl
   windowed_pairs (r ∷ rs) =
       let rest = windowed_pairs rs in
-      elim (cases_Bool (facts.is_row g m r)) [
+      elim (cases_Bool (terms.is_row g m r)) [
         | inl t ↦ rw t (ap (λ ps. pair_of r ∷ ps) rest)
         | inr f ↦ rw f (ap (λ ps. pair_of r ∷ ps) rest)
       ]
@@ -83,7 +84,7 @@ module _ (from : ℕ) (until : Option ℕ) (g : ℕ) (m : Member) where
     is_on x n row = nat_le row.from at && is_live_row x n (row.group, row.member)
 
     -- the row itself is on where it has begun
-    own_on : (rows : List MemberRow) → list_any (is_on g m) (map (windowed from until g m) rows) ≡ (nat_le from at && facts.has_row g m rows)
+    own_on : (rows : List MemberRow) → list_any (is_on g m) (map (windowed from until g m) rows) ≡ (nat_le from at && terms.has_row g m rows)
     own_on [] = none (nat_le from at)
       where
         none : (b : Bool) → false ≡ (b && false)
@@ -91,9 +92,9 @@ module _ (from : ℕ) (until : Option ℕ) (g : ℕ) (m : Member) where
         none false = refl
     own_on (r ∷ rs) =
         let rest = own_on rs in
-        elim (cases_Bool (facts.is_row g m r)) [
-          | inl t ↦ rw (t, t, rest) (found (nat_le from at) (facts.has_row g m rs))
-          | inr f ↦ rw (f, f, rest) (past (nat_le r.from at) (nat_le from at && facts.has_row g m rs))
+        elim (cases_Bool (terms.is_row g m r)) [
+          | inl t ↦ rw (t, t, rest) (found (nat_le from at) (terms.has_row g m rs))
+          | inr f ↦ rw (f, f, rest) (past (nat_le r.from at) (nat_le from at && terms.has_row g m rs))
         ]
       where
         found : (a b : Bool) → ((a && true) || (a && b)) ≡ (a && true)
@@ -109,7 +110,7 @@ module _ (from : ℕ) (until : Option ℕ) (g : ℕ) (m : Member) where
     other_on x n other [] = refl
     other_on x n other (r ∷ rs) =
         let rest = other_on x n other rs in
-        elim (cases_Bool (facts.is_row g m r)) [
+        elim (cases_Bool (terms.is_row g m r)) [
           | inl t ↦
               let w = row_is g m r.group r.member t in
               let past : is_live_row x n (r.group, r.member) ≡ false = rw (w.0, w.1) (row_turned x g n m ∙ other) in
@@ -123,7 +124,7 @@ module _ (from : ℕ) (until : Option ℕ) (g : ℕ) (m : Member) where
         neither false true c = refl
         neither false false c = refl
 
-    windowed_has : (x : ℕ) (n : Member) (rows : List MemberRow) → facts.has_row g m rows ≡ true → has_live_row x n (rows_on at (map (windowed from until g m) rows) []) ≡ cond (is_live_row g m (x, n)) (nat_le from at) (has_live_row x n (rows_on at rows []))
+    windowed_has : (x : ℕ) (n : Member) (rows : List MemberRow) → terms.has_row g m rows ≡ true → has_live_row x n (rows_on at (map (windowed from until g m) rows) []) ≡ cond (is_live_row g m (x, n)) (nat_le from at) (has_live_row x n (rows_on at rows []))
     windowed_has x n rows stands = rows_on_has at x n (map (windowed from until g m) rows) [] ∙ elim (cases_Bool (is_live_row g m (x, n))) [
       | inl same ↦ let w = row_is g m x n same in rw (same, w.0, w.1, own_on rows, stands) (alone (nat_le from at))
       | inr other ↦ rw (other, other_on x n other rows) (sym (rows_on_has at x n rows []))
@@ -134,7 +135,7 @@ module _ (from : ℕ) (until : Option ℕ) (g : ℕ) (m : Member) where
         alone false = refl
 
     -- the live data with its other dates: it turns on or off, or stays
-    pub windowed_live : (rows : List MemberRow) (cs : List CompositeRow) → facts.has_row g m rows ≡ true → live_of at (map (windowed from until g m) rows) cs ≡ changed_by (turning (has_live_row g m (rows_on at rows [])) (nat_le from at) g m) (live_of at rows cs)
+    pub windowed_live : (rows : List MemberRow) (cs : List CompositeRow) → terms.has_row g m rows ≡ true → live_of at (map (windowed from until g m) rows) cs ≡ changed_by (turning (has_live_row g m (rows_on at rows [])) (nat_le from at) g m) (live_of at rows cs)
     windowed_live rows cs stands =
         let L : Live = live_of at rows cs in
         let sorted : IsStrictlySortedBy row_cmp L.rows = rows_on_sorted at rows [] (empty_sorted row_cmp) in
@@ -146,7 +147,7 @@ module _ (from : ℕ) (until : Option ℕ) (g : ℕ) (m : Member) where
         ∙ sym (turned_rows g m L before after)
 
     -- and that suits, where what stands closes no circle
-    pub windowed_suits : (rows : List MemberRow) (cs : List CompositeRow) (graph : List (ℕ × ℕ)) → facts.has_row g m rows ≡ true → is_composite g cs ≡ false → IsPermutation graph (standing rows cs) → IsAcyclic graph → SuitAll (turning (has_live_row g m (rows_on at rows [])) (nat_le from at) g m) (live_of at rows cs)
+    pub windowed_suits : (rows : List MemberRow) (cs : List CompositeRow) (graph : List (ℕ × ℕ)) → terms.has_row g m rows ≡ true → is_composite g cs ≡ false → IsPermutation graph (standing rows cs) → IsAcyclic graph → SuitAll (turning (has_live_row g m (rows_on at rows [])) (nat_le from at) g m) (live_of at rows cs)
     windowed_suits rows cs graph stands plain same clear =
         let L : Live = live_of at rows cs in
         turning_suits g m L (has_live_row g m L.rows) (nat_le from at) refl (composites_same g cs ∙ plain)

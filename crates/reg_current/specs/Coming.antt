@@ -8,9 +8,9 @@ use Rattle.std.specs.Ordering.{nat_cmp, ordering_then}
 use Rattle.std.specs.declared.cmp.Ordering.{Ordering}
 use Rattle.reg_terms.specs.declared.kinds.Member.{Member}
 use Rattle.reg_terms.specs.declared.rows.MemberRow.{MemberRow}
-use Rattle.reg_facts.specs.Edits.{is_row}
+use Rattle.reg_terms.specs.Rows.{is_row}
 use Rattle.reg_terms.specs.Kinds.{same_member}
-use Rattle.reg_facts.specs.RowOrder.{member_cmp}
+use Rattle.reg_terms.specs.Rows.{member_cmp}
 use Rattle.reg_effect.specs.Order.{row_cmp, has_live_row}
 use Rattle.reg_current.specs.declared.dates.Dates.{Dates}
 use Rattle.reg_current.specs.declared.dated_rows.DatedRows.{DatedRows}

@@ -2,7 +2,7 @@
 ghost use Rattle.std.specs.Prelude.{◌≡◌, ◌+◌, ◌≤◌, ◌<◌, false, map, IfOk, OnOk, None, Some};
 ghost use Rattle.std.specs.List.{AllByRecursion};
 ghost use Rattle.std.specs.List.Sorted.{IsPermutation};
-ghost use Rattle.reg_facts.specs.Edits as edits;
+ghost use Rattle.reg_terms.specs.Rows as terms;
 ghost use Rattle.reg_facts.specs.Events.{happened, all_happened};
 ghost use Rattle.reg_facts.specs.Lists.{Lists, start};
 ghost use Rattle.reg_facts.specs.Suiting.{Suits};
@@ -139,8 +139,8 @@ impl<K: Kept> Current<K> {
 
     /// Whether the group is a factor of a composite, where no row names it.
     pub fn is_factor(&self, group: GroupId) -> bool
-        requires { edits.is_nested group self.now.facts.rows ≡ false }
-        ensures { result ≡ edits.is_factor group self.now.facts.composites }
+        requires { terms.is_nested group self.now.facts.rows ≡ false }
+        ensures { result ≡ terms.is_factor group self.now.facts.composites }
     {
         self.graph.is_needed(group)
     }

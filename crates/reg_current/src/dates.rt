@@ -4,7 +4,7 @@ ghost use Rattle.std.specs.Prelude.{filter, nat_lt, ◌&&◌, ◌||◌, IfOk, On
 ghost use Rattle.std.specs.List.{find};
 ghost use Rattle.reg_terms.specs.declared.kinds.Member.{Member};
 ghost use Rattle.reg_terms.specs.declared.rows.MemberRow.{MemberRow};
-ghost use Rattle.reg_facts.specs.Edits.{is_row};
+ghost use Rattle.reg_terms.specs.Rows.{is_row};
 ghost use Rattle.reg_facts.specs.Sound.{AreRowsOnce};
 ghost use Rattle.reg_current.specs.Dates.{due, ending, beginning, IsNext};
 ghost use Rattle.reg_current.specs.Coming.{has_dated, same_dated, FindsDates, LosesDates, earliest};

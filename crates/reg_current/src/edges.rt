@@ -5,7 +5,7 @@ ghost use Rattle.reg_terms.specs.declared.event.Event.TheVariants.{RowAdded, Row
 ghost use Rattle.reg_terms.specs.declared.event.Event.TheVariants.{RowRedated, Composed};
 ghost use Rattle.reg_terms.specs.declared.event.Event.TheVariants.{Decomposed};
 ghost use Rattle.reg_terms.specs.declared.kinds.Member.TheVariants.{Group};
-ghost use Rattle.reg_facts.specs.Edits.{has_row};
+ghost use Rattle.reg_terms.specs.Rows.{has_row};
 ghost use Rattle.reg_facts.specs.Events.{happened};
 ghost use Rattle.reg_facts.specs.Suiting.{Suits};
 ghost use Rattle.reg_graph.specs.Edges.{has_edge};

@@ -1,7 +1,7 @@
 // The dates to come, under an event.
 ghost use Rattle.std.specs.Prelude.{◌≡◌, true, OnOk};
 ghost use Rattle.reg_terms.specs.declared.event.Event.TheVariants.{RowRemoved, RowRedated};
-ghost use Rattle.reg_facts.specs.Edits.{has_row};
+ghost use Rattle.reg_terms.specs.Rows.{has_row};
 ghost use Rattle.reg_facts.specs.Events.{happened};
 ghost use Rattle.reg_facts.specs.Suiting.{Suits};
 ghost use Rattle.reg_current.specs.Coming.{FindsDates};

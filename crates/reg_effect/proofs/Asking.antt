@@ -9,7 +9,7 @@ use Rattle.reg_terms.specs.declared.kinds.SetOp.TheVariants.{Intersection, Compl
 use Rattle.reg_effect.specs.declared.live.Live.{Live}
 use Rattle.reg_effect.specs.declared.live.Change.{Change}
 use Rattle.reg_effect.specs.declared.live.Change.TheVariants.{RowOn, RowOff, FactorsOn, FactorsOff}
-use Rattle.reg_facts.specs.Edits.{is_composite}
+use Rattle.reg_terms.specs.Rows.{is_composite}
 use Rattle.reg_effect.specs.Member.{combine, gives, in_rows, in_factors, level, member}
 use Rattle.reg_graph.specs.Edges.{IsAcyclic, among}
 use Rattle.reg_effect.specs.Edges.{edges}

@@ -19,7 +19,7 @@ use Rattle.reg_graph.specs.Edges.{has_edge, reaches, InputsFirst, IsAbove, IsAcy
 use Rattle.reg_graph.proofs.Reaching.{reaches_self, reaches_trans, reaches_edge, kept_along}
 use Rattle.reg_effect.specs.declared.live.Live.{Live}
 use Rattle.reg_effect.specs.declared.live.Change.TheVariants.{RowOn, RowOff, FactorsOn, FactorsOff}
-use Rattle.reg_facts.specs.Edits.{is_composite}
+use Rattle.reg_terms.specs.Rows.{is_composite}
 use Rattle.reg_effect.specs.Order.{row_cmp, composite_cmp, is_live_row, has_live_row}
 use Rattle.reg_effect.specs.Edges.{edges, edge_of, row_edges, factor_edges}
 use Rattle.reg_effect.specs.Changes.{changed}

@@ -16,10 +16,10 @@ use Rattle.reg_terms.specs.declared.kinds.Member.{Member}
 use Rattle.reg_terms.specs.declared.rows.MemberRow.{MemberRow}
 use Rattle.reg_terms.specs.declared.rows.CompositeRow.{CompositeRow}
 use Rattle.reg_terms.specs.declared.kinds.SetOp.{SetOp}
-use Rattle.reg_facts.specs.Edits as facts
+use Rattle.reg_terms.specs.Rows as terms
 use Rattle.reg_effect.specs.declared.live.Live.{Live}
 use Rattle.reg_effect.specs.declared.live.Change.TheVariants.{RowOn, RowOff, FactorsOn, FactorsOff}
-use Rattle.reg_facts.specs.Edits.{is_composite}
+use Rattle.reg_terms.specs.Rows.{is_composite}
 use Rattle.reg_effect.specs.Order.{row_cmp, composite_cmp, is_live_row, has_live_row}
 use Rattle.reg_effect.specs.Changes.{rows_on, composites_in, live_of, changed}
 use Rattle.reg_effect.proofs.Edits.{composite_added, composite_absent, group_same}
@@ -49,10 +49,10 @@ pub live_row_later : (at from g : ℕ) (m : Member) (until : Option ℕ) (rows :
 live_row_later at from g m until rows cs h = live_rows (live_of at rows cs) _ _ (row_later_more at from g m until rows h)
 
 -- ---- a row less
-pub row_on_less : (at g : ℕ) (m : Member) (rows : List MemberRow) → rows_on at (filter (λ (row : MemberRow). not (facts.is_row g m row)) rows) [] ≡ remove_key (is_live_row g m) (rows_on at rows [])
+pub row_on_less : (at g : ℕ) (m : Member) (rows : List MemberRow) → rows_on at (filter (λ (row : MemberRow). not (terms.is_row g m row)) rows) [] ≡ remove_key (is_live_row g m) (rows_on at rows [])
 row_on_less at g m rows = rows_on_less at g m rows
 
-pub live_row_less : (at g : ℕ) (m : Member) (rows : List MemberRow) (cs : List CompositeRow) → live_of at (filter (λ (row : MemberRow). not (facts.is_row g m row)) rows) cs ≡ changed (RowOff g m) (live_of at rows cs)
+pub live_row_less : (at g : ℕ) (m : Member) (rows : List MemberRow) (cs : List CompositeRow) → live_of at (filter (λ (row : MemberRow). not (terms.is_row g m row)) rows) cs ≡ changed (RowOff g m) (live_of at rows cs)
 live_row_less at g m rows cs = live_rows (live_of at rows cs) _ _ (row_on_less at g m rows)
 
 pub none_taken : {X : Type 0} (t : X → Bool) (xs : List X) → list_any t xs ≡ false → remove_key t xs ≡ xs
@@ -63,7 +63,7 @@ none_taken t (x ∷ xs) h = elim (cases_Bool (t x)) [
 ]
 
 -- a row that isn't on goes without a trace
-pub row_later_less : (at g : ℕ) (m : Member) (rows : List MemberRow) → has_live_row g m (rows_on at rows []) ≡ false → rows_on at (filter (λ (row : MemberRow). not (facts.is_row g m row)) rows) [] ≡ rows_on at rows []
+pub row_later_less : (at g : ℕ) (m : Member) (rows : List MemberRow) → has_live_row g m (rows_on at rows []) ≡ false → rows_on at (filter (λ (row : MemberRow). not (terms.is_row g m row)) rows) [] ≡ rows_on at rows []
 row_later_less at g m rows h = row_on_less at g m rows ∙ none_taken (is_live_row g m) (rows_on at rows []) h
 
 -- ---- the rows of a group less
@@ -302,8 +302,8 @@ test_stands test at rows h = sym (outside (list_any (λ (r : MemberRow). test (r
 pub test_absent : (test : ℕ × Member → Bool) (at : ℕ) (rows : List MemberRow) → list_any (λ (r : MemberRow). test (r.group, r.member)) rows ≡ false → list_any test (rows_on at rows []) ≡ false
 test_absent test at rows f = false_from_ne_true (list_any test (rows_on at rows [])) (λ t. both_ways (list_any (λ (r : MemberRow). test (r.group, r.member)) rows) f (test_stands test at rows t))
 
-pub row_stands : (at g : ℕ) (m : Member) (rows : List MemberRow) → has_live_row g m (rows_on at rows []) ≡ true → facts.has_row g m rows ≡ true
+pub row_stands : (at g : ℕ) (m : Member) (rows : List MemberRow) → has_live_row g m (rows_on at rows []) ≡ true → terms.has_row g m rows ≡ true
 row_stands at g m rows h = test_stands (is_live_row g m) at rows h
 
-pub row_absent : (at g : ℕ) (m : Member) (rows : List MemberRow) → facts.has_row g m rows ≡ false → has_live_row g m (rows_on at rows []) ≡ false
+pub row_absent : (at g : ℕ) (m : Member) (rows : List MemberRow) → terms.has_row g m rows ≡ false → has_live_row g m (rows_on at rows []) ≡ false
 row_absent at g m rows h = test_absent (is_live_row g m) at rows h

@@ -14,7 +14,7 @@ use Rattle.std.proofs.lemmas.Map.Lookups.{btree_set_from_contains}
 use Rattle.reg_terms.specs.declared.kinds.Member.{Member}
 use Rattle.reg_terms.specs.declared.kinds.Member.TheVariants.{Person, Group}
 use Rattle.reg_terms.specs.declared.rows.MemberRow.{MemberRow}
-use Rattle.reg_facts.specs.RowOrder.{member_cmp}
+use Rattle.reg_terms.specs.Rows.{member_cmp}
 use Rattle.reg_effect.specs.Order.{row_cmp, is_live_row, has_live_row}
 use Rattle.reg_effect.specs.Changes.{rows_where, rows_on}
 use Rattle.reg_effect.proofs.Edits.{any_put, row_same, row_equal, row_eq, row_is, rows_absent}

@@ -5,7 +5,7 @@ use Rattle.std.specs.List.{list_any}
 use Rattle.std.specs.BTreeMap.{is_at}
 use Rattle.std.specs.Ordering.{nat_cmp}
 use Rattle.reg_terms.specs.declared.kinds.Member.{Member}
-use Rattle.reg_facts.specs.Edits.{is_composite}
+use Rattle.reg_terms.specs.Rows.{is_composite}
 use Rattle.reg_graph.specs.Edges.{among, IsAcyclic}
 use Rattle.reg_graph.proofs.Reaching.{eq_turned}
 use Rattle.reg_effect.specs.declared.live.Live.{Live}

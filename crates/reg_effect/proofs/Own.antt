@@ -6,7 +6,7 @@ use Rattle.reg_terms.specs.declared.kinds.Member.{Member}
 use Rattle.reg_terms.specs.declared.kinds.Member.TheVariants.{Person, Group}
 use Rattle.reg_terms.specs.declared.rows.CompositeRow.{CompositeRow}
 use Rattle.reg_effect.specs.declared.live.Live.{Live}
-use Rattle.reg_facts.specs.Edits.{is_composite}
+use Rattle.reg_terms.specs.Rows.{is_composite}
 use Rattle.reg_effect.specs.Member.{combine, in_rows, in_factors, level}
 use Rattle.reg_effect.specs.Order.{has_live_row, nested}
 use Rattle.reg_effect.specs.Edges.{edges, row_edges, factor_edges}

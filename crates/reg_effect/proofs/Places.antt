@@ -21,11 +21,11 @@ use Rattle.reg_terms.specs.declared.kinds.Member.{Member}
 use Rattle.reg_terms.specs.declared.kinds.Member.TheVariants.{Person, Group}
 use Rattle.reg_terms.specs.declared.rows.CompositeRow.{CompositeRow}
 use Rattle.reg_terms.specs.contracts.kinds.MemberOrd.TheImpl.{ghosts}
-use Rattle.reg_facts.specs.RowOrder.{member_cmp}
+use Rattle.reg_terms.specs.Rows.{member_cmp}
 use Rattle.reg_effect.specs.declared.composites.Factors.{Factors}
 use Rattle.reg_effect.specs.Order.{row_cmp, composite_cmp, has_live_rows, nested, IsSmall, HaveSmallIds, groups_of}
 use Rattle.reg_effect.specs.Factors.{composite_at}
-use Rattle.reg_facts.specs.Edits.{is_composite}
+use Rattle.reg_terms.specs.Rows.{is_composite}
 
 -- ---- the order that is derived for keys is the order of rows
 member_order_is : (m n : Member) → ghosts.cmp m n ≡ member_cmp m n

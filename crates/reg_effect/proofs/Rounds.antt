@@ -9,7 +9,7 @@ use Rattle.reg_graph.specs.Edges.{among}
 use Rattle.reg_graph.proofs.Reaching.{eq_turned}
 use Rattle.reg_graph.proofs.Orders.{among_more}
 use Rattle.reg_effect.specs.declared.live.Live.{Live}
-use Rattle.reg_facts.specs.Edits.{is_composite}
+use Rattle.reg_terms.specs.Rows.{is_composite}
 use Rattle.reg_effect.specs.Member.{gives, in_rows, in_factors, level, member_in, entries, member}
 use Rattle.reg_effect.specs.Asked.{IsWell}
 use Rattle.reg_effect.specs.Deltas.{began, ended}

@@ -12,11 +12,11 @@ use Rattle.reg_terms.specs.declared.kinds.Member.TheVariants.{Person, Group}
 use Rattle.reg_terms.specs.declared.kinds.SetOp.{SetOp}
 use Rattle.reg_terms.specs.declared.rows.MemberRow.{MemberRow}
 use Rattle.reg_terms.specs.declared.rows.CompositeRow.{CompositeRow}
-use Rattle.reg_facts.specs.Edits as facts
+use Rattle.reg_terms.specs.Rows as terms
 use Rattle.reg_graph.specs.Edges.{has_edge, IsAcyclic}
 use Rattle.reg_effect.specs.declared.live.Live.{Live}
 use Rattle.reg_effect.specs.declared.live.Change.TheVariants.{RowOn, RowOff, FactorsOn, FactorsOff}
-use Rattle.reg_facts.specs.Edits.{is_composite}
+use Rattle.reg_terms.specs.Rows.{is_composite}
 use Rattle.reg_effect.specs.Order.{composite_cmp, is_live_row, has_live_row}
 use Rattle.reg_effect.specs.Edges.{edges, edge_of, row_edges, factor_edges}
 use Rattle.reg_effect.specs.Changes.{rows_on, composites_in, live_of, changed, Suits}
@@ -41,7 +41,7 @@ edge_row a b ((x, Person p) ∷ rs) = edge_row a b rs ∙ none (x == a) (has_liv
     none false d = refl
 edge_row a b ((x, Group h) ∷ rs) = ap (λ c. ((x == a) && (h == b)) || c) (edge_row a b rs)
 
-pub row_of_facts : (g : ℕ) (m : Member) (rows : List MemberRow) → has_live_row g m (map pair_of rows) ≡ facts.has_row g m rows
+pub row_of_facts : (g : ℕ) (m : Member) (rows : List MemberRow) → has_live_row g m (map pair_of rows) ≡ terms.has_row g m rows
 row_of_facts g m [] = refl
 row_of_facts g m (r ∷ rs) = ap (λ c. is_live_row g m (r.group, r.member) || c) (row_of_facts g m rs)
 
@@ -113,7 +113,7 @@ pub factors_off_suits : (g : ℕ) (L : Live) → is_composite g L.composites ≡
 factors_off_suits g L h c = record { fits = h; no_circle = acyclic_within L (changed (FactorsOff g) L) (λ test e. e) (λ test. any_removed_from (λ (d : CompositeRow). d.group == g) test L.composites) c }
 
 -- a row that comes, in facts whose edges close no circle with its own
-pub row_on_suits : (at from g : ℕ) (m : Member) (until : Option ℕ) (rows : List MemberRow) (cs : List CompositeRow) (graph : List (ℕ × ℕ)) → nat_le from at ≡ true → facts.has_row g m rows ≡ false → is_composite g cs ≡ false → IsPermutation graph (standing (rows ++ (record { group = g; member = m; from = from; until = until }) ∷ []) cs) → IsAcyclic graph → Suits (RowOn g m) (live_of at rows cs)
+pub row_on_suits : (at from g : ℕ) (m : Member) (until : Option ℕ) (rows : List MemberRow) (cs : List CompositeRow) (graph : List (ℕ × ℕ)) → nat_le from at ≡ true → terms.has_row g m rows ≡ false → is_composite g cs ≡ false → IsPermutation graph (standing (rows ++ (record { group = g; member = m; from = from; until = until }) ∷ []) cs) → IsAcyclic graph → Suits (RowOn g m) (live_of at rows cs)
 row_on_suits at from g m until rows cs graph on new plain p c =
     let N : IsAcyclic (edges (live_of at (rows ++ (record { group = g; member = m; from = from; until = until }) ∷ []) cs)) = live_acyclic at (rows ++ (record { group = g; member = m; from = from; until = until }) ∷ []) cs graph p c in
     record { fits = (row_absent at g m rows new, composites_same g cs ∙ plain); no_circle = subst (λ (L : Live). IsAcyclic (edges L)) (live_row_more at from g m until rows cs on) N }
@@ -169,24 +169,24 @@ pub factor_more_standing : (a b : ℕ) (cs : List CompositeRow) (c : CompositeRo
 factor_more_standing a b [] c = omega arith
 factor_more_standing a b (d ∷ ds) c = let e = factor_more_standing a b ds c in omega (arith, e)
 
-pub none_left_out : (g : ℕ) (m : Member) (rows : List MemberRow) → facts.has_row g m rows ≡ false → filter (λ (row : MemberRow). not (facts.is_row g m row)) rows ≡ rows
+pub none_left_out : (g : ℕ) (m : Member) (rows : List MemberRow) → terms.has_row g m rows ≡ false → filter (λ (row : MemberRow). not (terms.is_row g m row)) rows ≡ rows
 none_left_out g m [] h = refl
-none_left_out g m (r ∷ rs) h = elim (cases_Bool (facts.is_row g m r)) [
+none_left_out g m (r ∷ rs) h = elim (cases_Bool (terms.is_row g m r)) [
   | inl t ↦ let w : true ≡ false = rw t at h in cc
   | inr f ↦ rw f (ap (λ xs. r ∷ xs) (none_left_out g m rs (rw f at h)))
 ]
 
-pub row_less_standing : (a b g : ℕ) (m : Member) (rows : List MemberRow) → RowsOnce rows → facts.has_row g m rows ≡ true → copies a b (row_edges (map pair_of rows)) ≡ copies a b (edge_of g m []) + copies a b (row_edges (map pair_of (filter (λ (row : MemberRow). not (facts.is_row g m row)) rows)))
+pub row_less_standing : (a b g : ℕ) (m : Member) (rows : List MemberRow) → RowsOnce rows → terms.has_row g m rows ≡ true → copies a b (row_edges (map pair_of rows)) ≡ copies a b (edge_of g m []) + copies a b (row_edges (map pair_of (filter (λ (row : MemberRow). not (terms.is_row g m row)) rows)))
 row_less_standing a b g m [] o h = cc
-row_less_standing a b g m (r ∷ rs) o h = elim (cases_Bool (facts.is_row g m r)) [
+row_less_standing a b g m (r ∷ rs) o h = elim (cases_Bool (terms.is_row g m r)) [
   | inl t ↦
       let w = row_is g m r.group r.member t in
-      let alone : facts.has_row g m rs ≡ false = rw (w.0, w.1) at o.0 in
+      let alone : terms.has_row g m rs ≡ false = rw (w.0, w.1) at o.0 in
       rw (t, none_left_out g m rs alone, w.0, w.1) (edge_more a b g m (row_edges (map pair_of rs)))
   | inr f ↦
       let e = row_less_standing a b g m rs o.1 (rw f at h) in
       let k = edge_more a b r.group r.member (row_edges (map pair_of rs)) in
-      let l = edge_more a b r.group r.member (row_edges (map pair_of (filter (λ (row : MemberRow). not (facts.is_row g m row)) rs))) in
+      let l = edge_more a b r.group r.member (row_edges (map pair_of (filter (λ (row : MemberRow). not (terms.is_row g m row)) rs))) in
       rw f (omega (arith, e, k, l))
 ]
 
@@ -233,7 +233,7 @@ module _ (rows : List MemberRow) (cs : List CompositeRow) where
   nested_added r x graph e h = nested_more r x graph ((r.group, x) ∷ graph) e h (IsPermutation-refl ((r.group, x) ∷ graph))
 
   -- the edge of a row that stands is in the graph
-  pub nested_in : (g x : ℕ) (graph : List (ℕ × ℕ)) → RowsOnce rows → facts.has_row g (Group x) rows ≡ true → IsPermutation graph (standing rows cs) → has_edge graph g x ≡ true
+  pub nested_in : (g x : ℕ) (graph : List (ℕ × ℕ)) → RowsOnce rows → terms.has_row g (Group x) rows ≡ true → IsPermutation graph (standing rows cs) → has_edge graph g x ≡ true
   nested_in g x graph o h p =
       let k = copies_permuted g x graph (standing rows cs) p in
       let s = copies_standing g x rows cs in

@@ -8,7 +8,7 @@ use Rattle.reg_terms.specs.declared.rows.CompositeRow.{CompositeRow}
 use Rattle.reg_terms.specs.declared.kinds.SetOp.{SetOp}
 use Rattle.reg_terms.specs.declared.kinds.SetOp.TheVariants.{Intersection, Complement}
 use Rattle.reg_effect.specs.declared.live.Live.{Live}
-use Rattle.reg_facts.specs.Edits.{is_composite}
+use Rattle.reg_terms.specs.Rows.{is_composite}
 use Rattle.reg_effect.specs.Member.{combine, in_rows, in_factors, member, member_in, entries}
 use Rattle.reg_effect.specs.Deltas.{rows_top, composites_top, top, below, members_of}
 use Rattle.reg_graph.specs.Edges.{among}

@@ -6,7 +6,7 @@ use Rattle.reg_terms.specs.declared.kinds.Member.TheVariants.{Person, Group}
 use Rattle.reg_effect.specs.declared.live.Live.{Live}
 use Rattle.reg_effect.specs.declared.live.Change.{Change}
 use Rattle.reg_effect.specs.declared.live.Change.TheVariants.{RowOn, RowOff, FactorsOn, FactorsOff}
-use Rattle.reg_facts.specs.Edits.{is_composite}
+use Rattle.reg_terms.specs.Rows.{is_composite}
 use Rattle.reg_effect.specs.Order.{has_live_rows}
 
 -- for whom a row of this member asks: the person, or the members that M gives the nested group

@@ -8,7 +8,7 @@ use Rattle.reg_terms.specs.declared.kinds.Member.{Member}
 use Rattle.reg_terms.specs.declared.kinds.Member.TheVariants.{Person, Group}
 use Rattle.reg_terms.specs.declared.rows.CompositeRow.{CompositeRow}
 use Rattle.reg_terms.specs.Kinds.{same_member}
-use Rattle.reg_facts.specs.RowOrder.{member_cmp}
+use Rattle.reg_terms.specs.Rows.{member_cmp}
 
 -- by group, and then by member
 abbrev pub row_cmp : ℕ × Member → ℕ × Member → Ordering

@@ -3,7 +3,7 @@ use Rattle.std.specs.Prelude.{◌≡◌, ⊤, ℕ, List, [], ◌∷◌, ◌++◌
 use Rattle.reg_terms.specs.declared.kinds.Member.{Member}
 use Rattle.reg_terms.specs.declared.rows.MemberRow.{MemberRow}
 use Rattle.reg_terms.specs.declared.rows.CompositeRow.{CompositeRow}
-use Rattle.reg_facts.specs.Edits as facts
+use Rattle.reg_terms.specs.Rows as terms
 use Rattle.reg_effect.specs.Edges.{row_edges, factor_edges}
 
 -- a row's group and member
@@ -17,4 +17,4 @@ standing rows composites = row_edges (map pair_of rows) ++ factor_edges composit
 -- no member stands twice in one group
 abbrev pub RowsOnce : List MemberRow → Type 0
 RowsOnce [] = ⊤
-RowsOnce (row ∷ rows) = (facts.has_row row.group row.member rows ≡ false) × RowsOnce rows
+RowsOnce (row ∷ rows) = (terms.has_row row.group row.member rows ≡ false) × RowsOnce rows

@@ -7,7 +7,7 @@ ghost use Rattle.reg_effect.specs.Bound.{most_steps, most_steps_of};
 
 use crate::{Change, Kept, Turned};
 use reg_base::{GroupId, Steps};
-use reg_facts::Member;
+use reg_terms::Member;
 use std::alloc::AllocError;
 use std::sync::ledger::Ledger;
 

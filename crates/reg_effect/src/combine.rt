@@ -2,7 +2,7 @@
 ghost use Rattle.std.specs.Prelude.{◌≡◌};
 ghost use Rattle.reg_effect.specs.Member.{combine};
 
-use reg_facts::SetOp;
+use reg_terms::SetOp;
 
 /// Whether a composite has a person, by whether its left and right factor have it.
 pub(crate) fn combine(op: SetOp, left: bool, right: bool) -> bool

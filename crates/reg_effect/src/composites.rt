@@ -3,12 +3,12 @@ ghost use Rattle.std.specs.Prelude.{◌≡◌, ◌==◌, [], IfOk, OnOk, OnErr, 
 ghost use Rattle.std.specs.BTreeSet.{insert_key};
 ghost use Rattle.std.specs.List.{find};
 ghost use Rattle.std.specs.Set.{remove_key};
-ghost use Rattle.reg_facts.specs.Edits.{is_composite};
+ghost use Rattle.reg_terms.specs.Rows.{is_composite};
 ghost use Rattle.reg_effect.specs.Order.{composite_cmp};
 ghost use Rattle.reg_effect.specs.Factors.{composite_at};
 
 use reg_base::GroupId;
-use reg_facts::{CompositeRow, SetOp};
+use reg_terms::{CompositeRow, SetOp};
 use std::alloc::{AllocError, Global};
 use std::collections::BTreeMap;
 use std::marker::Model;

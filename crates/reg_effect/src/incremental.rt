@@ -19,7 +19,7 @@ use crate::uncounted::{groups, has, list};
 use crate::walk::walk;
 use crate::{Change, Delta, Kept, Live};
 use reg_base::{GroupId, Steps, SubjectId};
-use reg_facts::Member;
+use reg_terms::Member;
 use reg_graph::{Dag, Sets};
 use std::alloc::{AllocError, Global};
 use std::marker::Model;

@@ -1,14 +1,14 @@
 // Live data and their changes.
 ghost use Rattle.std.specs.Prelude.{◌≡◌, ◌==◌, [], IfOk, OnOk};
 ghost use Rattle.std.specs.List.{find};
-ghost use Rattle.reg_facts.specs.Edits.{is_composite};
+ghost use Rattle.reg_terms.specs.Rows.{is_composite};
 ghost use Rattle.reg_effect.specs.Order.{has_live_rows};
 ghost use Rattle.reg_effect.specs.Changes.{nothing, changed, group_of, Fits, rows_on};
 ghost use Rattle.reg_effect.specs.Changes.{composites_in, live_of};
 
 use crate::{Composites, Pairs, Rows};
 use reg_base::{GroupId, Moment};
-use reg_facts::{CompositeRow, Facts, Member, MemberRow, SetOp};
+use reg_terms::{CompositeRow, Member, MemberRow, RowLists, SetOp};
 use std::alloc::{AllocError, Global};
 
 /// The rows that are on at a moment, and the composites, each in order: what effective membership
@@ -57,12 +57,13 @@ impl Live {
     }
 
     /// The live data of the facts at a moment: the rows that are on, and the composites.
-    pub fn of(alloc: Global, facts: &Facts, at: Moment) -> Result<Live, AllocError>
-        ensures { IfOk result (λ l. l ≡ live_of at facts.now.rows facts.now.composites) }
+    pub fn of<F: RowLists>(alloc: Global, facts: &F, at: Moment) -> Result<Live, AllocError>
+        ensures { IfOk result (λ l. l
+            ≡ live_of at (F.rows_of facts.now) (F.composites_of facts.now)) }
     {
-        let rows = facts.rows(alloc)?;
+        let rows = facts.member_rows(alloc)?;
         let rows = rows_on(alloc, &rows, at)?;
-        let composites = facts.composites(alloc)?;
+        let composites = facts.composite_rows(alloc)?;
         let composites = composites_in(alloc, &composites)?;
         Ok(Live { rows, composites })
     }

@@ -2,7 +2,7 @@
 ghost use Rattle.std.specs.Prelude.{◌≡◌, ◌==◌, ◌&&◌, ◌||◌, ℕ, IfOk, OnOk};
 ghost use Rattle.std.specs.List.Sorted.{IsStrictlySortedBy};
 ghost use Rattle.std.specs.Ordering.{nat_cmp};
-ghost use Rattle.reg_facts.specs.Edits.{is_composite};
+ghost use Rattle.reg_terms.specs.Rows.{is_composite};
 ghost use Rattle.reg_graph.specs.Sets.{holds};
 ghost use Rattle.reg_graph.specs.Edges.{among};
 ghost use Rattle.reg_effect.specs.Order.{has_live_rows};
@@ -10,7 +10,7 @@ ghost use Rattle.reg_effect.specs.Order.{has_live_rows};
 use crate::Live;
 use crate::marks::Marks;
 use reg_base::{GroupId, SubjectId};
-use reg_facts::{CompositeRow, Member};
+use reg_terms::{CompositeRow, Member};
 use std::alloc::{AllocError, Global};
 use std::collections::BTreeSet;
 

@@ -16,7 +16,7 @@ use crate::marks::Marks;
 use crate::named::{having, named};
 use crate::{Change, Delta, Kept, Live};
 use reg_base::{GroupId, Steps, SubjectId};
-use reg_facts::{CompositeRow, Member};
+use reg_terms::{CompositeRow, Member};
 use std::alloc::{AllocError, Global};
 use std::marker::Model;
 use std::sync::ledger::Ledger;

@@ -9,7 +9,7 @@ ghost use Rattle.reg_effect.specs.Invariant.{IsCounted};
 
 use crate::{Change, Live};
 use reg_base::GroupId;
-use reg_facts::{Member, SetOp};
+use reg_terms::{Member, SetOp};
 use reg_graph::{Dag, EdgeFault};
 use std::alloc::AllocError;
 

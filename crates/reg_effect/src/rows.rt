@@ -6,7 +6,7 @@ ghost use Rattle.reg_effect.specs.Order.{row_cmp, is_live_row, has_live_row, has
 ghost use Rattle.reg_effect.specs.Order.{groups_of};
 
 use reg_base::{GroupId, SubjectId};
-use reg_facts::Member;
+use reg_terms::Member;
 use std::alloc::{AllocError, Global};
 use std::collections::BTreeSet;
 use std::marker::Model;

@@ -9,7 +9,8 @@ use Rattle.reg_terms.specs.declared.kinds.Member.TheVariants.{Person, Group}
 use Rattle.reg_terms.specs.declared.rows.MemberRow.{MemberRow}
 use Rattle.reg_terms.specs.Kinds.{same_member}
 use Rattle.reg_facts.specs.declared.nest.Nest.{Nest}
-use Rattle.reg_facts.specs.Edits.{is_row, has_row, is_nested, windowed}
+use Rattle.reg_facts.specs.Edits.{windowed}
+use Rattle.reg_terms.specs.Rows.{is_row, has_row, is_nested}
 use Rattle.reg_facts.specs.Nests.{nest_in, nest_of, nests_of, is_nest, has_nest, without_nest}
 
 turned : (a b : Bool) → (a && b) ≡ (b && a)

@@ -7,7 +7,8 @@ use Rattle.reg_terms.specs.declared.kinds.Member.{Member}
 use Rattle.reg_terms.specs.declared.kinds.Member.TheVariants.{Person, Group}
 use Rattle.reg_terms.specs.declared.rows.MemberRow.{MemberRow}
 use Rattle.reg_table.specs.Keyed.{in_order}
-use Rattle.reg_facts.specs.RowOrder.{member_cmp, member_order, place_of, place_cmp, row_order, rows_of}
+use Rattle.reg_facts.specs.RowOrder.{member_order, place_of, place_cmp, row_order, rows_of}
+use Rattle.reg_terms.specs.Rows.{member_cmp}
 
 first : (o p : Ordering) → ordering_then o p ≡ ordering_then (ordering_then o Equal) p
 first Less p = refl

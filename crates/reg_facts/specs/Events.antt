@@ -57,7 +57,8 @@ use Rattle.reg_terms.specs.declared.rows.PersonRow.{PersonRow}
 use Rattle.reg_base.specs.declared.privilege.Privilege.TheVariants.{Admin, StemAdmin, AttrAdmin}
 use Rattle.reg_terms.specs.Values.{with_value, without_value}
 use Rattle.reg_facts.specs.Attributes.{attribute_id, definition_id, value_of}
-use Rattle.reg_facts.specs.Edits.{member_of, is_row, is_composite, the_id, person_text, from_or}
+use Rattle.reg_facts.specs.Edits.{member_of, the_id, person_text, from_or}
+use Rattle.reg_terms.specs.Rows.{is_row, is_composite}
 use Rattle.reg_facts.specs.Edits.{folder_renamed, folder_moved, group_renamed, group_moved}
 use Rattle.reg_facts.specs.Edits.{subject_id, windowed, without_notes}
 use Rattle.reg_facts.specs.Consumers.{acknowledged}

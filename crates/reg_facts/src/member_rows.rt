@@ -1,7 +1,8 @@
 // The immediate memberships as contracts see them.
 ghost use Rattle.std.specs.Prelude.{◌≡◌, ◌++◌, ◌∷◌, [], not, false, filter, map, length, IfOk};
 ghost use Rattle.std.specs.List.{find};
-ghost use Rattle.reg_facts.specs.Edits.{is_row, has_row, has_rows, is_nested, windowed};
+ghost use Rattle.reg_facts.specs.Edits.{windowed};
+ghost use Rattle.reg_terms.specs.Rows.{is_row, has_row, has_rows, is_nested};
 ghost use Rattle.reg_facts.specs.RowOrder.{rows_of};
 ghost use Rattle.reg_terms.specs.declared.rows.MemberRow.{MemberRow};
 

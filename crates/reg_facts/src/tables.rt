@@ -2,7 +2,7 @@
 ghost use Rattle.std.specs.Prelude.{◌≡◌, ◌++◌, ◌∷◌, ◌<◌, [], IfOk, OnOk, List, ℕ, Some, false};
 ghost use Rattle.reg_facts.specs.Lists.{Lists, start};
 ghost use Rattle.reg_facts.specs.Attributes.{value_count};
-ghost use Rattle.reg_facts.specs.Edits.{has_row, is_composite};
+ghost use Rattle.reg_terms.specs.Rows.{has_row, is_composite};
 ghost use Rattle.reg_facts.specs.Grants.{has_grant, has_inherit};
 ghost use Rattle.reg_facts.specs.Events.{happened};
 ghost use Rattle.reg_terms.specs.declared.event.Event.TheVariants.{FolderMade, FolderRenamed};

@@ -17,7 +17,8 @@ use Rattle.reg_terms.specs.declared.rows.MemberRow.{MemberRow}
 use Rattle.reg_terms.specs.declared.lists.LoadRow.{LoadRow}
 use Rattle.reg_terms.specs.declared.rows.PersonRow.{PersonRow}
 use Rattle.reg_facts.specs.Children.{is_among}
-use Rattle.reg_facts.specs.Edits.{has_row, is_row, subject_id, the_id}
+use Rattle.reg_facts.specs.Edits.{subject_id, the_id}
+use Rattle.reg_terms.specs.Rows.{has_row, is_row}
 use Rattle.reg_facts.specs.Events.{load_events, new_groups_grants, rows_events, with_groups}
 use Rattle.reg_facts.specs.Lists.{Lists}
 use Rattle.reg_facts.specs.Naming.{group_id, resolve}

@@ -19,7 +19,8 @@ use Rattle.reg_terms.specs.declared.rows.JobRow.{JobRow}
 use Rattle.reg_terms.specs.declared.rows.MemberRow.{MemberRow}
 use Rattle.reg_terms.specs.declared.lists.LoadRow.{LoadRow}
 use Rattle.reg_facts.specs.Children.{is_among}
-use Rattle.reg_facts.specs.Edits.{is_composite, subject_id, the_id}
+use Rattle.reg_facts.specs.Edits.{subject_id, the_id}
+use Rattle.reg_terms.specs.Rows.{is_composite}
 use Rattle.reg_facts.specs.Events.{all_happened, groups_events, load_events, row_named, rows_events, with_groups}
 use Rattle.reg_facts.specs.Lists.{Lists}
 use Rattle.reg_facts.specs.Named.{AreNamed}

@@ -15,7 +15,7 @@ use Rattle.reg_terms.specs.declared.rows.GroupRow.{GroupRow}
 use Rattle.reg_terms.specs.declared.rows.MemberRow.{MemberRow}
 use Rattle.reg_terms.specs.declared.rows.SubjectRow.{SubjectRow}
 use Rattle.reg_terms.specs.declared.rows.PersonRow.{PersonRow}
-use Rattle.reg_facts.specs.Edits.{is_composite, is_row}
+use Rattle.reg_terms.specs.Rows.{is_composite, is_row}
 use Rattle.reg_facts.specs.Events.{all_happened, happened, new_row, row_comes, row_goes, rows_events}
 use Rattle.reg_facts.specs.Lists.{Lists}
 use Rattle.reg_facts.specs.Sound.{has_group, has_subject}

@@ -16,7 +16,8 @@ use Rattle.reg_terms.specs.declared.rows.MemberRow.{MemberRow}
 use Rattle.reg_terms.specs.declared.lists.LoadRow.{LoadRow}
 use Rattle.reg_terms.specs.declared.rows.PersonRow.{PersonRow}
 use Rattle.reg_facts.specs.Children.{is_among}
-use Rattle.reg_facts.specs.Edits.{is_composite, subject_id, the_id}
+use Rattle.reg_facts.specs.Edits.{subject_id, the_id}
+use Rattle.reg_terms.specs.Rows.{is_composite}
 use Rattle.reg_facts.specs.Lists.{Lists}
 use Rattle.reg_facts.specs.Naming.{group_id, home_id, resolve}
 use Rattle.reg_facts.specs.Rows.{group_row}

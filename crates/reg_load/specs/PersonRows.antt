@@ -4,7 +4,7 @@ use Rattle.std.specs.List.{list_any}
 use Rattle.reg_terms.specs.declared.kinds.Member.TheVariants.{Person}
 use Rattle.reg_terms.specs.declared.rows.MemberRow.{MemberRow}
 use Rattle.reg_terms.specs.declared.rows.PersonRow.{PersonRow}
-use Rattle.reg_facts.specs.Edits.{has_row}
+use Rattle.reg_terms.specs.Rows.{has_row}
 
 -- the two rows are one
 abbrev pub same_row : PersonRow → PersonRow → Bool

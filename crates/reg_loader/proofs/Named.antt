@@ -13,7 +13,7 @@ use Rattle.reg_terms.specs.declared.rows.GroupRow.{GroupRow}
 use Rattle.reg_terms.specs.declared.rows.JobRow.{JobRow}
 use Rattle.reg_terms.specs.declared.rows.MemberRow.{MemberRow}
 use Rattle.reg_terms.specs.Kinds.{as_group, same_object}
-use Rattle.reg_facts.specs.Edits.{is_composite}
+use Rattle.reg_terms.specs.Rows.{is_composite}
 use Rattle.reg_facts.specs.Lists.{Lists, root}
 use Rattle.reg_facts.specs.Named.{AreNamed}
 use Rattle.reg_facts.specs.Naming.{Placed, found_in, home_id, is_there, name_of, place_of, placed, resolve, step, walk}

@@ -6,7 +6,8 @@ use Rattle.reg_terms.specs.declared.kinds.Object.{Object}
 use Rattle.reg_terms.specs.declared.kinds.Object.TheVariants.{Folder, Group, Def, Attr, Subject}
 use Rattle.reg_terms.specs.declared.rows.JobRow.{JobRow}
 use Rattle.reg_terms.specs.Kinds.{as_group}
-use Rattle.reg_facts.specs.Edits.{is_composite, subject_id}
+use Rattle.reg_facts.specs.Edits.{subject_id}
+use Rattle.reg_terms.specs.Rows.{is_composite}
 use Rattle.reg_facts.specs.Lists.{Lists}
 use Rattle.reg_facts.specs.Naming.{home_id, resolve}
 use Rattle.reg_loader.specs.declared.mentions.Mention.{Mention}

@@ -1,7 +1,7 @@
 // The persons in the groups of a job.
 ghost use Rattle.std.specs.Prelude.{◌≡◌, ◌++◌, [], ◌==◌, ◌&&◌, not, IfOk, OnOk};
 ghost use Rattle.std.specs.List.{cons_option, filter_map};
-ghost use Rattle.reg_facts.specs.Edits.{is_composite};
+ghost use Rattle.reg_terms.specs.Rows.{is_composite};
 ghost use Rattle.reg_loader.specs.Plan.{person_key, persons_in, standing};
 ghost use Rattle.reg_terms.specs.declared.kinds.Object.TheVariants.{Folder};
 

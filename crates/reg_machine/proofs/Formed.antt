@@ -12,7 +12,8 @@ use Rattle.reg_terms.specs.declared.kinds.Member.TheVariants.{Person}
 use Rattle.reg_terms.specs.declared.rows.MemberRow.{MemberRow}
 use Rattle.reg_terms.specs.declared.rows.RuleRow.{RuleRow}
 use Rattle.reg_terms.specs.declared.rows.SubjectRow.{SubjectRow}
-use Rattle.reg_facts.specs.Edits.{is_row, windowed}
+use Rattle.reg_facts.specs.Edits.{windowed}
+use Rattle.reg_terms.specs.Rows.{is_row}
 use Rattle.reg_facts.specs.Events.{all_happened, happened}
 use Rattle.reg_facts.specs.Lists as the_facts
 use Rattle.reg_facts.specs.Lists.{Lists}

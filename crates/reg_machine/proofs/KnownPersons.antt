@@ -16,7 +16,7 @@ use Rattle.reg_terms.specs.declared.rows.CompositeRow.{CompositeRow}
 use Rattle.reg_terms.specs.declared.rows.MemberRow.{MemberRow}
 use Rattle.reg_terms.specs.declared.rows.SubjectRow.{SubjectRow}
 use Rattle.reg_terms.specs.Kinds.{same_member}
-use Rattle.reg_facts.specs.Edits.{is_composite, is_row}
+use Rattle.reg_terms.specs.Rows.{is_composite, is_row}
 use Rattle.reg_facts.specs.Events.{all_happened, edit, events_of, happened}
 use Rattle.reg_facts.specs.Lists.{Lists}
 use Rattle.reg_facts.specs.Sound.{has_subject, IsKnown, IsSound}

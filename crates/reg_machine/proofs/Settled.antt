@@ -12,7 +12,7 @@ use Rattle.reg_terms.specs.declared.kinds.RuleForm.TheVariants.{RemoveLost, EndL
 use Rattle.reg_terms.specs.declared.rows.MemberRow.{MemberRow}
 use Rattle.reg_terms.specs.declared.rows.RuleRow.{RuleRow}
 use Rattle.reg_terms.specs.Kinds.{same_member}
-use Rattle.reg_facts.specs.Edits.{is_row, has_row}
+use Rattle.reg_terms.specs.Rows.{is_row, has_row}
 use Rattle.reg_facts.specs.Lists.{Lists}
 use Rattle.reg_facts.specs.Sound.{AreRowsOnce}
 use Rattle.reg_facts.proofs.Joined.{rows_once_filter}

@@ -8,8 +8,9 @@ ghost use Rattle.reg_terms.specs.declared.kinds.Member.{Member};
 ghost use Rattle.reg_terms.specs.declared.lists.LoadRow.{LoadRow};
 ghost use Rattle.reg_terms.specs.declared.rows.JobRow.{JobRow};
 ghost use Rattle.reg_terms.specs.declared.rows.MemberRow.{MemberRow};
-ghost use Rattle.reg_facts.specs.Edits.{is_row};
+ghost use Rattle.reg_terms.specs.Rows.{is_row};
 ghost use Rattle.reg_facts.specs.Edits as edits;
+ghost use Rattle.reg_terms.specs.Rows as terms;
 ghost use Rattle.reg_facts.specs.Events.{events_of};
 ghost use Rattle.reg_facts.specs.Jobs.{job_by};
 ghost use Rattle.reg_facts.specs.Suiting.{CanEdit};
@@ -165,8 +166,8 @@ impl<K: Kept> Machine<K> {
 
     /// Whether the group is a factor of a composite, where no row names it.
     pub(crate) fn is_factor(&self, group: GroupId) -> bool
-        requires { edits.is_nested group (now_facts self.now).rows ≡ false }
-        ensures { result ≡ edits.is_factor group (now_facts self.now).composites }
+        requires { terms.is_nested group (now_facts self.now).rows ≡ false }
+        ensures { result ≡ terms.is_factor group (now_facts self.now).composites }
     {
         self.recorded.current().is_factor(group)
     }

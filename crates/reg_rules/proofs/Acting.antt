@@ -11,8 +11,9 @@ use Rattle.reg_terms.specs.declared.kinds.Member.TheVariants.{Person}
 use Rattle.reg_terms.specs.declared.kinds.RuleForm.{RuleForm}
 use Rattle.reg_terms.specs.declared.kinds.RuleForm.TheVariants.{RemoveLost, EndLost, Veto, OnCreate}
 use Rattle.reg_terms.specs.declared.rows.MemberRow.{MemberRow}
-use Rattle.reg_facts.specs.Edits as edits
-use Rattle.reg_facts.specs.Edits.{is_row, windowed}
+use Rattle.reg_terms.specs.Rows as terms
+use Rattle.reg_facts.specs.Edits.{windowed}
+use Rattle.reg_terms.specs.Rows.{is_row}
 use Rattle.reg_facts.specs.Events.{happened}
 use Rattle.reg_facts.specs.Lists.{Lists}
 use Rattle.reg_facts.specs.Sound.{AreRowsOnce}
@@ -147,7 +148,7 @@ found_any at g m (x ∷ rows) row h w = elim (cases_Bool (is_row g m x)) [
   | inr n ↦ or_right (nat_le x.from at && is_row g m x) _ (found_any at g m rows row (rw n at h) w)
 ]
 
-found_has : (g : ℕ) (m : Member) (rows : List MemberRow) (row : MemberRow) → find (is_row g m) rows ≡ Some row → edits.has_row g m rows ≡ true
+found_has : (g : ℕ) (m : Member) (rows : List MemberRow) (row : MemberRow) → find (is_row g m) rows ≡ Some row → terms.has_row g m rows ≡ true
 found_has g m [] row h = let clash : ⊥ = cc in absurd clash
 found_has g m (x ∷ rows) row h = elim (cases_Bool (is_row g m x)) [
   | inl y ↦ or_left _ _ y
@@ -155,7 +156,7 @@ found_has g m (x ∷ rows) row h = elim (cases_Bool (is_row g m x)) [
 ]
 
 -- so it stands, and can go from the live data
-pub on_stands : (now : Now) (g s : ℕ) → IsOn now g s → edits.has_row g (Person s) now.facts.rows ≡ true
+pub on_stands : (now : Now) (g s : ℕ) → IsOn now g s → terms.has_row g (Person s) now.facts.rows ≡ true
 on_stands now g s h = found_has g (Person s) now.facts.rows h.row (found now g s h)
 
 pub on_suits : (now : Now) (g s : ℕ) (L : Live) → L ≡ live_now now → IsAcyclic (edges L) → IsOn now g s → Suits (RowOff g (Person s)) L
@@ -175,10 +176,10 @@ unfolding most_steps_of
 off_steps g s first last L h = omega (arith, h)
 
 -- ---- an end is one window more: no row stands twice
-pub none_windowed : (from until g s : ℕ) (rows : List MemberRow) → edits.has_row g (Person s) rows ≡ false → map (windowed from (Some until) g (Person s)) rows ≡ map (with_end g s until) rows
+pub none_windowed : (from until g s : ℕ) (rows : List MemberRow) → terms.has_row g (Person s) rows ≡ false → map (windowed from (Some until) g (Person s)) rows ≡ map (with_end g s until) rows
 none_windowed from until g s [] h = refl
 none_windowed from until g s (row ∷ rows) h =
-    let w = or_parts (is_row g (Person s) row) (edits.has_row g (Person s) rows) h in
+    let w = or_parts (is_row g (Person s) row) (terms.has_row g (Person s) rows) h in
     rw w.0 (ap (λ rest. row ∷ rest) (none_windowed from until g s rows w.1))
 
 pub windowed_rows : (from until g s : ℕ) (rows : List MemberRow) (row : MemberRow) → AreRowsOnce rows → find (is_row g (Person s)) rows ≡ Some row → row.from ≡ from → map (windowed from (Some until) g (Person s)) rows ≡ map (with_end g s until) rows
@@ -187,7 +188,7 @@ windowed_rows from until g s (x ∷ rows) row once h e = elim (cases_Bool (is_ro
   | inl y ↦
       let w = row_is g (Person s) x.group x.member y in
       let begins : x.from ≡ from = from_same (rw y at h) ∙ e in
-      let gone : edits.has_row g (Person s) rows ≡ false = rw (w.0, w.1) at once.0 in
+      let gone : terms.has_row g (Person s) rows ≡ false = rw (w.0, w.1) at once.0 in
       rw (y, begins) (ap (λ rest. (record x { from = from; until = Some until }) ∷ rest) (none_windowed from until g s rows gone))
   | inr n ↦ rw n (ap (λ rest. x ∷ rest) (windowed_rows from until g s rows row once.1 (rw n at h) e))
 ]

@@ -5,7 +5,7 @@ use Rattle.std.specs.BTreeSet.{insert_key}
 use Rattle.reg_terms.specs.declared.kinds.Member.{Member}
 use Rattle.reg_terms.specs.declared.kinds.Member.TheVariants.{Person}
 use Rattle.reg_terms.specs.declared.rows.MemberRow.{MemberRow}
-use Rattle.reg_facts.specs.Edits.{is_row}
+use Rattle.reg_terms.specs.Rows.{is_row}
 use Rattle.reg_facts.specs.Lists.{Lists}
 use Rattle.reg_effect.specs.declared.live.Live.{Live}
 use Rattle.reg_effect.specs.Bound.{most_steps_of}

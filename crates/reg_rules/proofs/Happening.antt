@@ -5,7 +5,7 @@ use Rattle.std.specs.List.{find}
 use Rattle.reg_terms.specs.declared.kinds.Member.{Member}
 use Rattle.reg_terms.specs.declared.kinds.Member.TheVariants.{Person}
 use Rattle.reg_terms.specs.declared.rows.MemberRow.{MemberRow}
-use Rattle.reg_facts.specs.Edits.{is_row, has_row}
+use Rattle.reg_terms.specs.Rows.{is_row, has_row}
 use Rattle.reg_facts.specs.Events.{happened, all_happened}
 use Rattle.reg_facts.specs.Lists.{Lists}
 use Rattle.reg_facts.specs.Sound.{AreRowsOnce}

@@ -8,7 +8,7 @@ use Rattle.reg_terms.specs.declared.kinds.RuleForm.{RuleForm}
 use Rattle.reg_terms.specs.declared.kinds.RuleForm.TheVariants.{RemoveLost, EndLost, Veto, OnCreate}
 use Rattle.reg_terms.specs.declared.rows.MemberRow.{MemberRow}
 use Rattle.reg_terms.specs.declared.rows.RuleRow.{RuleRow}
-use Rattle.reg_facts.specs.Edits.{is_row}
+use Rattle.reg_terms.specs.Rows.{is_row}
 use Rattle.reg_facts.specs.Lists.{Lists}
 use Rattle.reg_effect.specs.Deltas.{ended}
 use Rattle.reg_rules.specs.declared.actions.Action.{Action}

@@ -6,3 +6,4 @@ pub mod Pieces
 pub mod Privileges
 pub mod Rules
 pub mod Values
+pub mod Rows

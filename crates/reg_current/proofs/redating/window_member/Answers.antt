@@ -1,5 +1,5 @@
 use Rattle.std.proofs.Common.{not, filter}
-use Rattle.reg_facts.specs.Edits.{is_row}
+use Rattle.reg_terms.specs.Rows.{is_row}
 use Rattle.reg_terms.specs.declared.rows.MemberRow.{MemberRow}
 use Rattle.reg_current.proofs.ComingRows.{windowed_finds}
 use Rattle.reg_current.proofs.RowFound.{on_ok}

@@ -1,7 +1,7 @@
 use Rattle.std.proofs.Common.{◌∙◌, ap, sym}
 use Rattle.std.specs.BTreeSet.{insert_key}
 use Rattle.reg_effect.specs.Order.{composite_cmp}
-use Rattle.reg_facts.specs.Edits.{is_composite}
+use Rattle.reg_terms.specs.Rows.{is_composite}
 use Rattle.reg_effect.proofs.LiveLaws.{composites_in_step, composites_in_stays}
 use Rattle.reg_effect.proofs.live.composites_in.Goals.{then-not-has+in_ok-insert, else-not-has}
 use Rattle.reg_effect.proofs.live.composites_in.Goals as goal

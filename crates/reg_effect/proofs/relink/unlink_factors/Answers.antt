@@ -1,6 +1,6 @@
 use Rattle.std.proofs.Common.{◌∙◌, sym}
 use Rattle.std.proofs.lemmas.Bool.{both_ways}
-use Rattle.reg_facts.specs.Edits.{is_composite}
+use Rattle.reg_terms.specs.Rows.{is_composite}
 use Rattle.reg_effect.proofs.Own.{no_composite}
 use Rattle.reg_effect.proofs.Graphs.{counted_factors_off, left_stands, right_stands}
 use Rattle.reg_effect.proofs.relink.unlink_factors.Goals as goal

@@ -1,7 +1,7 @@
 use Rattle.std.proofs.Common.{◌≡◌, ◌==◌, ◌&&◌, not, take, map, filter}
 use Rattle.std.specs.List.{flat_map}
 use Rattle.reg_terms.specs.declared.rows.GroupRow.{GroupRow}
-use Rattle.reg_facts.specs.Edits.{is_composite}
+use Rattle.reg_terms.specs.Rows.{is_composite}
 use Rattle.reg_loader.specs.Plan.{persons_in}
 use Rattle.reg_loader.proofs.standing.in_folder.Given as goal
 

@@ -1,7 +1,7 @@
 use Rattle.std.proofs.Common.{◌==◌, ◌∙◌, ap}
 use Rattle.std.specs.List.{list_any}
 use Rattle.reg_facts.specs.declared.nest.Nest.{Nest}
-use Rattle.reg_facts.specs.Edits.{is_nested}
+use Rattle.reg_terms.specs.Rows.{is_nested}
 use Rattle.reg_facts.proofs.Nested.{nested_any}
 use Rattle.reg_facts.proofs.member_rows.MemberRows.is_nested.Goals as goal
 

@@ -1,6 +1,6 @@
 use Rattle.std.proofs.Common.{◌≡◌, ◌∙◌, sym, ap, filter, not, rules}
 use Rattle.reg_terms.specs.declared.rows.MemberRow.{MemberRow}
-use Rattle.reg_facts.specs.Edits.{is_row}
+use Rattle.reg_terms.specs.Rows.{is_row}
 use Rattle.reg_facts.specs.Nests.{nests_of, without_nest}
 use Rattle.reg_facts.proofs.Nested.{nests_less}
 use Rattle.reg_facts.proofs.member_rows.MemberRows.remove.Goals as goal

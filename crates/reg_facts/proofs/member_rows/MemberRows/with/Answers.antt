@@ -1,6 +1,6 @@
 use Rattle.std.proofs.Common.{List, ◌++◌, ◌∙◌, sym, ap}
 use Rattle.reg_facts.specs.declared.nest.Nest.{Nest}
-use Rattle.reg_facts.specs.Edits.{has_row}
+use Rattle.reg_terms.specs.Rows.{has_row}
 use Rattle.reg_facts.specs.Nests.{nest_of, nests_of, has_nest}
 use Rattle.reg_facts.proofs.Nested.{none_nested, nests_push}
 use Rattle.reg_facts.proofs.member_rows.MemberRows.with.Goals as goal
