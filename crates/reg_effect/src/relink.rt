@@ -9,8 +9,8 @@ ghost use Rattle.reg_effect.specs.Invariant.{IsCounted};
 
 use crate::{Change, Live};
 use reg_base::GroupId;
-use reg_terms::{Member, SetOp};
 use reg_graph::{Dag, EdgeFault};
+use reg_terms::{Member, SetOp};
 use std::alloc::AllocError;
 
 /// One more edge, which closes no circle, so that only memory can be wanting. Out of memory the

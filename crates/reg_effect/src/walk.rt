@@ -16,8 +16,8 @@ use crate::Live;
 use crate::combine::combine;
 use crate::marks::Marks;
 use reg_base::{GroupId, Steps, SubjectId};
-use reg_terms::Member;
 use reg_graph::{Dag, Sets};
+use reg_terms::Member;
 use std::alloc::{AllocError, Global};
 use std::sync::ledger::Ledger;
 

@@ -6,8 +6,8 @@ ghost use Rattle.reg_ops.specs.Parts.{as_inherit_kind, as_scope, as_privilege, a
 ghost use Rattle.reg_ops.specs.Parts.{as_flag, as_def_kind, as_value, as_number, as_names};
 ghost use Rattle.reg_ops.specs.Parts.{as_load_rows, as_table};
 
-use reg_terms::{DefKind, InheritKind, LoadRows, Names, Owners, Scope, SetOp, Value};
 use reg_base::{Bytes, Entity, Moment, Name, Privilege, Text};
+use reg_terms::{DefKind, InheritKind, LoadRows, Names, Owners, Scope, SetOp, Value};
 
 /// A kind of field: which values may stand in it, and how they are written (`docs/REQUESTS.md`,
 /// `docs/JOURNAL.md`).

@@ -10,8 +10,8 @@ ghost use Rattle.reg_ops.specs.Forms.{has_form};
 ghost use Rattle.reg_ops.specs.Parts.{seen, seen_all};
 
 use crate::parts::{FieldRef, fields_of};
-use reg_terms::{Command, LoadRow, LoadRows, MAX_DISPLAY, Names, Owners, Value};
 use reg_base::{Entity, Moment, Name, Text, is_extension, is_name, is_person, is_source};
+use reg_terms::{Command, LoadRow, LoadRows, MAX_DISPLAY, Names, Owners, Value};
 
 /// Whether the text is the name of a folder, or `:` for the root.
 pub fn is_folder_text(text: &[u8]) -> bool

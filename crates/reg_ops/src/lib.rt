@@ -9,26 +9,12 @@ mod making;
 mod parts;
 mod table;
 
-pub use field::Field;
-pub use field::FieldKind;
-pub use forms::has_form;
-pub use forms::is_folder_text;
-pub use forms::is_object_text;
-pub use laws::law_commands;
-pub use laws::law_load_word;
-pub use laws::law_ops;
-pub use making::made;
-pub use making::made_command;
-pub use parts::FieldRef;
-pub use parts::fields_of;
-pub use parts::kind_of;
-pub use table::CommandKind;
-pub use table::CommandRow;
-pub use table::OpKind;
-pub use table::QueryKind;
-pub use table::Row;
-pub use table::command_coded;
-pub use table::command_row;
-pub use table::kind_named;
-pub use table::query_row;
-pub use table::row_of;
+pub use field::{Field, FieldKind};
+pub use forms::{has_form, is_folder_text, is_object_text};
+pub use laws::{law_commands, law_load_word, law_ops};
+pub use making::{made, made_command};
+pub use parts::{FieldRef, fields_of, kind_of};
+pub use table::{
+    CommandKind, CommandRow, OpKind, QueryKind, Row, command_coded, command_row, kind_named,
+    query_row, row_of,
+};

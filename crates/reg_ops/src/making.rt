@@ -12,8 +12,10 @@ ghost use Rattle.reg_ops.specs.declared.table.OpKind.TheVariants as op;
 
 use crate::field::Field;
 use crate::table::{CommandKind, OpKind, QueryKind};
-use reg_terms::{Command, DefKind, InheritKind, LoadRows, Names, Op, Owners, Query, Scope, SetOp, Value};
 use reg_base::{Bytes, Entity, Moment, Name, Privilege, Text};
+use reg_terms::{
+    Command, DefKind, InheritKind, LoadRows, Names, Op, Owners, Query, Scope, SetOp, Value,
+};
 use std::collections::VecDeque;
 
 #[tactic(auto, unfolding(crate::specs::Parts::next_as))]

@@ -5,8 +5,8 @@ ghost use Rattle.reg_ops.specs.Table.{kind_of, fields_of};
 ghost use Rattle.reg_ops.specs.declared.parts.FieldRef.TheVariants as reference;
 
 use crate::table::CommandKind;
-use reg_terms::{Command, DefKind, InheritKind, LoadRows, Names, Owners, Scope, SetOp, Value};
 use reg_base::{Entity, Moment, Name, Privilege, Text};
+use reg_terms::{Command, DefKind, InheritKind, LoadRows, Names, Owners, Scope, SetOp, Value};
 
 /// A field that stands in a command, or none.
 #[derive(Clone, Copy)]

@@ -24,95 +24,40 @@ mod shown;
 mod texts;
 mod values;
 
-pub use admin_shown::ConsumerShown;
-pub use admin_shown::ConsumersShown;
-pub use admin_shown::FormShown;
-pub use admin_shown::GoneShown;
-pub use admin_shown::GonesShown;
-pub use admin_shown::JobShown;
-pub use admin_shown::JobsShown;
-pub use admin_shown::RuleShown;
-pub use admin_shown::RulesShown;
+pub use admin_shown::{
+    ConsumerShown, ConsumersShown, FormShown, GoneShown, GonesShown, JobShown, JobsShown,
+    RuleShown, RulesShown,
+};
 pub use attr_values::AttrValues;
-pub use changes_shown::EntriesShown;
-pub use changes_shown::EntryShown;
-pub use changes_shown::SpanShown;
-pub use changes_shown::SpansShown;
-pub use command::Command;
-pub use command::Stamped;
+pub use changes_shown::{EntriesShown, EntryShown, SpanShown, SpansShown};
+pub use command::{Command, Stamped};
 pub use entry_kinds::EntryKind;
 pub use event::Event;
-pub use kinds::AttrValue;
-pub use kinds::DefKind;
-pub use kinds::Holder;
-pub use kinds::InheritKind;
-pub use kinds::Member;
-pub use kinds::Object;
-pub use kinds::Owners;
-pub use kinds::RuleForm;
-pub use kinds::Scope;
-pub use kinds::SetOp;
-pub use kinds::Value;
-pub use limits::MAX_ASSIGNS;
-pub use limits::MAX_ATTRIBUTES;
-pub use limits::MAX_CONSUMERS;
-pub use limits::MAX_DEFINITIONS;
-pub use limits::MAX_DISPLAY;
-pub use limits::MAX_FOLDERS;
-pub use limits::MAX_GRANTS;
-pub use limits::MAX_GROUPS;
-pub use limits::MAX_HISTORY;
-pub use limits::MAX_INHERITS;
-pub use limits::MAX_JOBS;
-pub use limits::MAX_LINE;
-pub use limits::MAX_NAME;
-pub use limits::MAX_RECORDS;
-pub use limits::MAX_ROWS;
-pub use limits::MAX_RULES;
-pub use limits::MAX_SUBJECTS;
-pub use limits::MAX_VALUES;
-pub use lists::LoadRow;
-pub use lists::LoadRows;
-pub use lists::Names;
-pub use privileges::all_privileges;
-pub use privileges::gives;
-pub use privileges::privilege_code;
-pub use privileges::privilege_coded;
-pub use privileges::privilege_kind;
-pub use privileges::privilege_name;
-pub use privileges::privilege_named;
-pub use privileges::same_privilege;
-pub use query::Answer;
-pub use query::Query;
+pub use kinds::{
+    AttrValue, DefKind, Holder, InheritKind, Member, Object, Owners, RuleForm, Scope, SetOp, Value,
+};
+pub use limits::{
+    MAX_ASSIGNS, MAX_ATTRIBUTES, MAX_CONSUMERS, MAX_DEFINITIONS, MAX_DISPLAY, MAX_FOLDERS,
+    MAX_GRANTS, MAX_GROUPS, MAX_HISTORY, MAX_INHERITS, MAX_JOBS, MAX_LINE, MAX_NAME, MAX_RECORDS,
+    MAX_ROWS, MAX_RULES, MAX_SUBJECTS, MAX_VALUES,
+};
+pub use lists::{LoadRow, LoadRows, Names};
+pub use privileges::{
+    all_privileges, gives, privilege_code, privilege_coded, privilege_kind, privilege_name,
+    privilege_named, same_privilege,
+};
+pub use query::{Answer, Query};
 pub use refusal::Refusal;
-pub use reply::LoadCounts;
-pub use reply::Reply;
-pub use request::Op;
-pub use request::Request;
+pub use reply::{LoadCounts, Reply};
+pub use request::{Op, Request};
 pub use row_lists::RowLists;
-pub use rows::AssignRow;
-pub use rows::AttributeRow;
-pub use rows::CompositeRow;
-pub use rows::ConsumerRow;
-pub use rows::DefinitionRow;
-pub use rows::FolderRow;
-pub use rows::GrantRow;
-pub use rows::GroupRow;
-pub use rows::InheritRow;
-pub use rows::JobRow;
-pub use rows::Made;
-pub use rows::MemberRow;
-pub use rows::PersonRow;
-pub use rows::RuleRow;
-pub use rows::SubjectRow;
+pub use rows::{
+    AssignRow, AttributeRow, CompositeRow, ConsumerRow, DefinitionRow, FolderRow, GrantRow,
+    GroupRow, InheritRow, JobRow, Made, MemberRow, PersonRow, RuleRow, SubjectRow,
+};
 pub use rules::RuleKey;
-pub use shown::AssignShown;
-pub use shown::AssignsShown;
-pub use shown::FactorsShown;
-pub use shown::GrantShown;
-pub use shown::GrantsShown;
-pub use shown::Privileges;
-pub use shown::RowShown;
-pub use shown::RowsShown;
-pub use texts::Pieces;
-pub use texts::Texts;
+pub use shown::{
+    AssignShown, AssignsShown, FactorsShown, GrantShown, GrantsShown, Privileges, RowShown,
+    RowsShown,
+};
+pub use texts::{Pieces, Texts};

@@ -19,7 +19,10 @@ use crate::fields::{
 };
 use reg_base::{Entity, Moment, Name, Privilege};
 use reg_ops::{FieldRef, command_row, fields_of, kind_of, law_commands};
-use reg_terms::{Command, DefKind, InheritKind, LoadRow, LoadRows, Names, Owners, Scope, SetOp, Stamped, Value, privilege_code};
+use reg_terms::{
+    Command, DefKind, InheritKind, LoadRow, LoadRows, Names, Owners, Scope, SetOp, Stamped, Value,
+    privilege_code,
+};
 use std::alloc::{AllocError, Global};
 
 fn put_text(out: &mut Vec<u8>, text: &[u8]) -> Result<(), AllocError>
