@@ -13,12 +13,10 @@ ghost use Rattle.reg_facts.specs.Grants.{holder_of, makers_grant};
 ghost use Rattle.reg_facts.specs.Naming.{home_id};
 ghost use Rattle.reg_facts.specs.Ruled.{AreRuled};
 ghost use Rattle.reg_facts.specs.Rules.{rule_by, rules_at, has_rule, is_ruled, is_ruled_folder};
-ghost use Rattle.reg_facts.specs.Rules.{on_create_for, form_of};
-ghost use Rattle.reg_facts.specs.Ruling.{HasDays};
 ghost use Rattle.reg_facts.specs.Suiting.{AllSuit, CanStand};
 
-use crate::{Command, Facts, RuleForm, RuleKey, RuleRow, Scope};
-use reg_base::{Entity, FolderId, GroupId, Privilege};
+use crate::{Facts, RuleForm, RuleKey, RuleRow};
+use reg_base::{FolderId, GroupId};
 use reg_table::GroupRows;
 
 impl Facts {
@@ -61,55 +59,6 @@ impl Facts {
         ensures { result ≡ is_ruled_folder folder self.now.rules }
     {
         self.tables.rule_rows.is_ruled_folder(folder)
-    }
-
-    /// The rule that a command makes, if it makes one and its holder stands; a name that isn't
-    /// there counts as the number 0. It takes no memory.
-    pub(crate) fn rule_form(&self, command: &Command) -> Option<RuleForm>
-        requires { HasDays command.now }
-        ensures { result ≡ form_of command.now self.now }
-    {
-        match command {
-            Command::RuleRemoveLost { check, owner } => Some(RuleForm::RemoveLost {
-                check: self.the_group(check),
-                owner: self.the_group(owner),
-            }),
-            Command::RuleEndLost { check, owner, days } => Some(RuleForm::EndLost {
-                check: self.the_group(check),
-                owner: self.the_group(owner),
-                days: *days as u32,
-            }),
-            Command::RuleVeto { owner, condition } => Some(RuleForm::Veto {
-                owner: self.the_group(owner),
-                condition: self.the_group(condition),
-            }),
-            Command::RuleOnCreate {
-                folder,
-                scope,
-                privilege,
-                holder,
-            } => self.on_create(self.the_folder(folder), *scope, *privilege, holder),
-            _ => None,
-        }
-    }
-
-    /// The rule that grants a privilege on new groups, if its holder stands.
-    fn on_create(
-        &self,
-        folder: FolderId,
-        scope: Scope,
-        privilege: Privilege,
-        holder: &Entity,
-    ) -> Option<RuleForm>
-        ensures { result ≡ on_create_for folder scope privilege (holder_of holder.now self.now) }
-    {
-        let holder = self.holder_of(holder)?;
-        Some(RuleForm::OnCreate {
-            folder,
-            scope,
-            privilege,
-            holder,
-        })
     }
 
     /// A law, which does nothing: the ids of rules ascend, no two say the same, and what they speak

@@ -16,6 +16,7 @@ use crate::finding::find_rows;
 use crate::row_set::comes_twice;
 use crate::standing::{all_stand, any_stands};
 use reg_base::{Entity, Name, Text};
+use reg_edit::new_groups_grants;
 use reg_facts::{Facts, GrantRow, JobRow, Object};
 use reg_terms::{LoadRow, MAX_GRANTS, MAX_GROUPS, MAX_RECORDS, MAX_ROWS, PersonRow};
 use std::alloc::{AllocError, Global};
@@ -156,7 +157,7 @@ pub(crate) fn first_grants(
     ensures { IfOk result (λ rows. rows.items ≡ first_grants by.now created.now facts.now) }
 {
     match created.first() {
-        Some(name) => facts.new_groups_grants(alloc, by, name),
+        Some(name) => new_groups_grants(facts, alloc, by, name),
         None => Ok(Vec::new(alloc)),
     }
 }

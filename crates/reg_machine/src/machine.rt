@@ -39,6 +39,7 @@ use crate::history::History;
 use crate::recorded::{Recorded, carried_on, passed_on};
 use reg_base::{Entity, GroupId, Moment, Steps};
 use reg_demand::refused;
+use reg_edit::events_of;
 use reg_effect::Kept;
 use reg_facts::{Command, Event, Facts, Refusal, Stamped};
 use reg_load::law_load;
@@ -513,7 +514,7 @@ impl<K: Kept> Machine<K> {
                 removed,
                 added,
             } => self.events_of_load(alloc, by, job, created, removed, added),
-            _ => self.facts().events_of(alloc, self.clock(), by, command),
+            _ => events_of(self.facts(), alloc, self.clock(), by, command),
         }
     }
 

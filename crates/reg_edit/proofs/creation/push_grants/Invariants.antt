@@ -1,6 +1,6 @@
 use Rattle.std.proofs.Common.{◌≡◌, ◌++◌, drop}
 use Rattle.reg_facts.specs.Events.{grants_added}
-use Rattle.reg_facts.proofs.creation.push_grants.Given as goal
+use Rattle.reg_edit.proofs.creation.push_grants.Given as goal
 
 -- the events so far, and those of the grants that are left, are all
 abbrev pub invariant-loop-row : goal.invariant-loop-row

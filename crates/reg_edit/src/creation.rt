@@ -11,10 +11,10 @@ ghost use Rattle.reg_facts.specs.Grants.{has_grant, makers_grant};
 ghost use Rattle.reg_facts.specs.Rules.{rules_at, creation_grants, not_yet};
 ghost use Rattle.reg_facts.specs.Ruling.{grant_made, entry_made, put_all};
 
-use crate::climbing::MOST_LEVELS;
-use crate::grant_rows::GrantRows;
-use crate::{Event, Facts, GrantRow, Holder, Object, RuleForm, RuleKey, Scope};
 use reg_base::{Entity, FolderId, GroupId, Name, Privilege, RuleId};
+use reg_facts::{
+    Event, Facts, GrantRow, GrantRows, Holder, MOST_LEVELS, Object, RuleForm, RuleKey, Scope,
+};
 use std::alloc::{AllocError, Global};
 use std::collections::BTreeMap;
 
@@ -103,93 +103,91 @@ pub(crate) fn push_grants(events: &mut Vec<Event>, rows: &[GrantRow]) -> Result<
     Ok(())
 }
 
-impl Facts {
-    /// The grant of a privilege on what is made to the person who makes it; the registry itself is
-    /// granted nothing. It takes no memory.
-    pub(crate) fn makers_grant(
-        &self,
-        by: &Entity,
-        object: Object,
-        privilege: Privilege,
-    ) -> Option<GrantRow>
-        ensures { option_to_list result ≡ makers_grant by.now object privilege self.now }
-    {
-        let Entity::Person(text) = by else {
-            return None;
-        };
-        let id = self.subject_id(text.as_str())?;
-        let holder = Holder::Person(id);
-        Some(GrantRow {
-            object,
-            privilege,
-            holder,
-        })
-    }
+/// The grant of a privilege on what is made to the person who makes it; the registry itself is
+/// granted nothing. It takes no memory.
+pub(crate) fn makers_grant(
+    facts: &Facts,
+    by: &Entity,
+    object: Object,
+    privilege: Privilege,
+) -> Option<GrantRow>
+    ensures { option_to_list result ≡ makers_grant by.now object privilege facts.now }
+{
+    let Entity::Person(text) = by else {
+        return None;
+    };
+    let id = facts.subject_id(text.as_str())?;
+    let holder = Holder::Person(id);
+    Some(GrantRow {
+        object,
+        privilege,
+        holder,
+    })
+}
 
-    /// Adds the grants that the rules on a folder make on a group that is made in it, or below it.
-    /// It looks at the rules on the folder alone.
-    fn gather(
-        &self,
-        found: &mut BTreeMap<RuleId, GrantRow>,
-        group: GroupId,
-        folder: FolderId,
-        home: bool,
-    ) -> Result<(), AllocError>
-        ensures { OnOk result (found.new.entries
-            ≡ put_all found.old.entries
-            (filter_map (entry_made group home) (rules_at (key.Folder folder) self.now.rules))) }
-    {
-        for row in self.rules_at(RuleKey::Folder(folder)) {
-            if let Some(grant) = grant_made(group, home, &row.form) {
-                found.insert(row.id, grant)?;
-            }
+/// Adds the grants that the rules on a folder make on a group that is made in it, or below it.
+/// It looks at the rules on the folder alone.
+fn gather(
+    facts: &Facts,
+    found: &mut BTreeMap<RuleId, GrantRow>,
+    group: GroupId,
+    folder: FolderId,
+    home: bool,
+) -> Result<(), AllocError>
+    ensures { OnOk result (found.new.entries
+        ≡ put_all found.old.entries
+        (filter_map (entry_made group home) (rules_at (key.Folder folder) facts.now.rules))) }
+{
+    for row in facts.rules_at(RuleKey::Folder(folder)) {
+        if let Some(grant) = grant_made(group, home, &row.form) {
+            found.insert(row.id, grant)?;
         }
-        Ok(())
     }
+    Ok(())
+}
 
-    /// The grants that rules make on a group that is made in a folder, by the rules' ids. It looks
-    /// at the rules on this folder and on each above it, and at nothing where there is no rule.
-    fn creation_grants(
-        &self,
-        alloc: Global,
-        group: GroupId,
-        home: FolderId,
-    ) -> Result<BTreeMap<RuleId, GrantRow>, AllocError>
-        ensures { IfOk result (λ found. values found
-            ≡ creation_grants group home self.now.folders self.now.rules) }
-    {
-        let mut found = BTreeMap::new(alloc);
-        if self.rules().is_empty() {
+/// The grants that rules make on a group that is made in a folder, by the rules' ids. It looks
+/// at the rules on this folder and on each above it, and at nothing where there is no rule.
+fn creation_grants(
+    facts: &Facts,
+    alloc: Global,
+    group: GroupId,
+    home: FolderId,
+) -> Result<BTreeMap<RuleId, GrantRow>, AllocError>
+    ensures { IfOk result (λ found. values found
+        ≡ creation_grants group home facts.now.folders facts.now.rules) }
+{
+    let mut found = BTreeMap::new(alloc);
+    if facts.rules().is_empty() {
+        return Ok(found);
+    }
+    facts.law_rules();
+    gather(facts, &mut found, group, home, true)?;
+    let mut above = facts.parent(home);
+    for _level in 0..MOST_LEVELS {
+        let Some(folder) = above else {
             return Ok(found);
-        }
-        self.law_rules();
-        self.gather(&mut found, group, home, true)?;
-        let mut above = self.parent(home);
-        for _level in 0..MOST_LEVELS {
-            let Some(folder) = above else {
-                return Ok(found);
-            };
-            self.gather(&mut found, group, folder, false)?;
-            above = self.parent(folder);
-        }
-        Ok(found)
+        };
+        gather(facts, &mut found, group, folder, false)?;
+        above = facts.parent(folder);
     }
+    Ok(found)
+}
 
-    /// The grants on a group of this name when it is made: that of its maker, and those of the
-    /// rules on the folder of the name and on each above it, by the rules' ids, each grant once.
-    pub fn new_groups_grants(
-        &self,
-        alloc: Global,
-        by: &Entity,
-        group: &Name,
-    ) -> Result<Vec<GrantRow>, AllocError>
-        requires { self.now.made.groups < max_groups }
-        ensures { IfOk result (λ rows. rows.items ≡ new_groups_grants by.now group.now self.now) }
-    {
-        let id = GroupId::new(self.made().groups + 1);
-        let first = self.makers_grant(by, Object::Group(id), Privilege::Admin);
-        let home = self.home(group).0.unwrap_or(FolderId::new(0));
-        let found = self.creation_grants(alloc, id, home)?;
-        each_once(alloc, first, &found)
-    }
+/// The grants on a group of this name when it is made: that of its maker, and those of the
+/// rules on the folder of the name and on each above it, by the rules' ids, each grant once.
+pub fn new_groups_grants(
+    facts: &Facts,
+    alloc: Global,
+    by: &Entity,
+    group: &Name,
+) -> Result<Vec<GrantRow>, AllocError>
+    requires { facts.now.made.groups < max_groups }
+    ensures { IfOk result (λ rows. rows.items ≡ new_groups_grants by.now group.now facts.now) }
+{
+    let id = GroupId::new(facts.made().groups + 1);
+    let first = makers_grant(facts, by, Object::Group(id), Privilege::Admin);
+    let home = facts.home(group).0.unwrap_or(FolderId::new(0));
+    let found = creation_grants(facts, alloc, id, home)?;
+    each_once(alloc, first, &found)
 }

@@ -1,7 +1,7 @@
 use Rattle.std.proofs.Common.{◌≡◌}
 use Rattle.std.specs.Prelude.{filter_map}
 use Rattle.reg_facts.specs.Ruling.{entry_made, put_all}
-use Rattle.reg_facts.proofs.facts.Facts.gather.Given as goal
+use Rattle.reg_edit.proofs.creation.gather.Given as goal
 
 -- with the grants of the rules that are left the same comes of it
 abbrev pub invariant-loop-row : goal.invariant-loop-row

@@ -3,8 +3,8 @@ use Rattle.std.specs.BTreeMap.{values}
 use Rattle.std.specs.Option.{option_to_list}
 use Rattle.reg_terms.specs.declared.rows.GrantRow.{GrantRow}
 use Rattle.reg_facts.specs.Rules.{not_yet}
-use Rattle.reg_facts.proofs.Creating.{alone_all, once_next, once_end}
-use Rattle.reg_facts.proofs.creation.each_once.Goals as goal
+use Rattle.reg_edit.proofs.Creating.{alone_all, once_next, once_end}
+use Rattle.reg_edit.proofs.creation.each_once.Goals as goal
 
 pub loop-row-init : goal.loop-row-init
 loop-row-init c = ap (λ (rows : List GrantRow). rows ++ not_yet rows c.into_iter-row-iterator.result) c.in_ok-rows.ensures

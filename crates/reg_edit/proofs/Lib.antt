@@ -1,0 +1,2 @@
+mod Creating
+mod RuleDays
