@@ -21,7 +21,7 @@ use Rattle.reg_facts.specs.Naming.{resolve, placed, lies_in, path, extensions, n
 use Rattle.reg_effect.specs.Changes.{live_of}
 use Rattle.reg_effect.specs.Member.{member}
 use Rattle.reg_priv.specs.declared.who.Who.TheVariants as who
-use Rattle.reg_demand.specs.Refusing.{refused, barred_attributes, first_of}
+use Rattle.reg_demand.specs.Refusing.{refused}
 
 -- the facts after some commands of the registry itself
 abbrev after : List Command → Lists → Lists
@@ -222,10 +222,6 @@ no_owner_is_not_asked = refl
 pub person_is_not_asked : of_bob noted (ValueAdd (codes "app:first") (codes "uni/ann") 1 (given.Text (codes "x"))) ≡ Some (Denied (codes "app:note") (codes "attrUpdate"))
 unfolding noted owners folders bob ann events_of object_of entity_of resolve placed lies_in member extension_of folder_of path extensions name_of
 person_is_not_asked = refl
-
-pub reading_is_asked : first_of (barred_attributes (live_of 0 noted.rows noted.composites) noted (who.Person 1) (codes "app:web:admins")) ≡ Some (Denied (codes "app:web:admins") (codes "groupAttrRead"))
-unfolding noted owners folders bob ann events_of object_of entity_of resolve placed lies_in member extension_of folder_of
-reading_is_asked = refl
 
 -- who doesn't see the definition doesn't see its attributes
 pub unseen_attribute : of_bob (after (GrantRemove (codes "app:note") privilege.AttrView bob ∷ []) noted) (AssignAdd (codes "app:first") (codes "app")) ≡ Some (NotFound (codes "app:first"))

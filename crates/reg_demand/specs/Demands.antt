@@ -131,11 +131,6 @@ on_assignment attribute object f =
     on_owner (entity_of object) object (object_of object f) StemAttrUpdate GroupAttrUpdate
     ++ on_attribute (the_id (attribute_id attribute f)) AttrUpdate f ∷ []
 
--- to be told what is assigned to what a text names
-abbrev pub on_assignments : List ℕ → Lists → List Demand
-on_assignments object f =
-    on_owner (entity_of object) object (object_of object f) StemAttrRead GroupAttrRead
-
 -- ---- commands
 
 -- what a command demands, in order

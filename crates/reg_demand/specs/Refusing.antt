@@ -42,7 +42,7 @@ use Rattle.reg_facts.specs.Naming.{folder_id, group_id, home_of}
 use Rattle.reg_effect.specs.declared.live.Live.{Live}
 use Rattle.reg_priv.specs.declared.who.Who.{Who}
 use Rattle.reg_priv.specs.May.{who_of, is_root, may, visible}
-use Rattle.reg_demand.specs.Demands.{Demand, On, Root, bare_text, demands, on_assignments}
+use Rattle.reg_demand.specs.Demands.{Demand, On, Root, bare_text, demands}
 
 -- a test, and the refusal where it holds
 abbrev pub Check : Type 0
@@ -233,8 +233,3 @@ refused_as (Some c) L f by command = first_of (barred L f by c command)
 
 abbrev pub refused : Live → Lists → Entity → Command → Option Refusal
 refused L f by command = refused_as (who_of by f) L f by command
-
--- what may refuse to tell the attributes of an object: it isn't found, and then the demands
-abbrev pub barred_attributes : Live → Lists → Who → List ℕ → List Check
-barred_attributes L f c object =
-    no_object L f c object ∷ map (denial L f c) (on_assignments object f)

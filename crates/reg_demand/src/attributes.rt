@@ -8,7 +8,7 @@ ghost use Rattle.reg_terms.specs.declared.command.Command.TheVariants.{AttrdefDe
 ghost use Rattle.reg_terms.specs.declared.command.Command.TheVariants.{AttrDelete};
 ghost use Rattle.reg_facts.specs.Naming.{name_of};
 ghost use Rattle.reg_demand.specs.Demands.{On, on_assignment, on_attribute, on_named, on_owner};
-ghost use Rattle.reg_demand.specs.Refusing.{barred, barred_attributes, denial, first_of};
+ghost use Rattle.reg_demand.specs.Refusing.{barred, denial, first_of};
 ghost use Rattle.reg_demand.specs.Refusing.{no_attribute, no_object};
 
 use crate::finding::{is_hidden, is_missing_object};
@@ -252,26 +252,4 @@ pub fn assignment<K: Kept>(
         return object_not_found(alloc, owner);
     }
     demand_to_assign(alloc, facts, kept, who, the_attribute(&id), owner, &found)
-}
-
-/// What refuses to tell a caller the attributes of an object before all else: the object isn't
-/// found or isn't seen, or the caller may not read its attributes. Of a person none is asked, and
-/// none of what can't have attributes. The only error is out of memory.
-pub fn barred_attributes<K: Kept>(
-    alloc: Global,
-    facts: &Facts,
-    kept: &K,
-    who: &Who,
-    object: &Text,
-) -> Result<Option<Refusal>, AllocError>
-    ensures { IfOk result (λ found. found
-        ≡ first_of (barred_attributes (K.held kept.now) facts.now who.now object.now)) }
-{
-    let found = facts.object_of(alloc, object)?;
-    if is_missing_object(alloc, facts, kept, who, object, &found)? {
-        return object_not_found(alloc, object);
-    }
-    let of_folder = Privilege::StemAttrRead;
-    let of_group = Privilege::GroupAttrRead;
-    demand_on_owner(alloc, facts, kept, who, object, &found, of_folder, of_group)
 }

@@ -18,6 +18,5 @@ mod refusals;
 mod rules;
 mod subjects;
 
-pub use attributes::barred_attributes;
 pub use barring::{barred, refused};
 pub use memberships::refused_member;

@@ -205,29 +205,7 @@ stand_more : (made : Made) (f : Lists) (new : GroupRow) (rows : List GrantRow) �
 stand_more made f new rows h = all_changed (λ (row : GrantRow). GrantStands made f.subjects f.groups row) (λ (row : GrantRow). GrantStands made f.subjects (f.groups ++ new ∷ []) row)
     (λ row stands. record { object = stands.object; holder = holder_of_more f.subjects f.subjects f.groups (f.groups ++ new ∷ []) row.holder (same_subjects f.subjects) (among_more f.groups new) stands.holder }) rows h
 
--- ---- a folder, a definition and a group are made
-
-pub folder_suits : (at : ℕ) (by : Entity) (folder display : List ℕ) (d : ℕ) (f : Lists) → IsHeld f → HoldersStand f → home_id folder f ≡ Some d → CanStand d (extension_of folder) 0 f → f.made.folders < max_folders
-    → length f.grants + length (makers_grant by (Folder (f.made.folders + 1)) StemAdmin f) ≤ max_grants → AllSuit (events_of at by (FolderAdd folder display) f) f
-unfolding events_of
-folder_suits at by folder display d f held holders home can few room =
-    let row = new_folder folder display f in
-    let o = Folder (f.made.folders + 1) in
-    let rows = makers_grant by o StemAdmin f in (
-      (refl, few, d, home, can),
-      added_suit rows (happened (FolderMade row) f) (makers_stand by o StemAdmin f (record f.made { folders = f.made.folders + 1 }) holders (omega arith)) (only_new o f.grants rows (none_on f o held (next_folder f.made)) (makers_first by o StemAdmin f)) room,
-    )
-
-pub definition_suits : (at : ℕ) (by : Entity) (definition : List ℕ) (owners : Owners) (several : Bool) (kind : DefKind) (many : Bool) (f : Lists) → IsHeld f → HoldersStand f → CanStand (the_id (home_id definition f)) (extension_of definition) 0 f
-    → f.made.definitions < max_definitions → length f.grants + length (makers_grant by (Def (f.made.definitions + 1)) AttrAdmin f) ≤ max_grants → AllSuit (events_of at by (AttrdefAdd definition owners several kind many) f) f
-unfolding events_of
-definition_suits at by definition owners several kind many f held holders can few room =
-    let row = new_definition definition owners several kind many f in
-    let o = Def (f.made.definitions + 1) in
-    let rows = makers_grant by o AttrAdmin f in (
-      (refl, few, can),
-      added_suit rows (happened (DefinitionMade row) f) (makers_stand by o AttrAdmin f (record f.made { definitions = f.made.definitions + 1 }) holders (omega arith)) (only_new o f.grants rows (none_on f o held (next_definition f.made)) (makers_first by o AttrAdmin f)) room,
-    )
+-- ---- a group is made
 
 pub group_suits : (at : ℕ) (by : Entity) (group display : List ℕ) (f : Lists) → IsHeld f → HoldersStand f → AreRuled f → CanStand (the_id (home_id group f)) (extension_of group) 0 f → f.made.groups < max_groups
     → length f.grants + length (new_groups_grants by group f) ≤ max_grants → AllSuit (events_of at by (GroupAdd group display) f) f

@@ -160,21 +160,4 @@ impl Facts {
     {
         self.law_sound();
     }
-
-    /// A law, which does nothing: where a new definition may stand and its maker's grant has room,
-    /// what making it brings suits the facts.
-    pub fn law_new_definition(&self)
-        ensures { (at : ℕ) (by : Entity) (definition : List ℕ) (owners : Owners) (several : Bool)
-            (kind : DefKind) (many : Bool)
-            → CanStand (the_id (home_id definition self.now)) (extension_of definition) 0 self.now
-            → self.now.made.definitions < max_definitions
-            → length self.now.grants
-            + length (makers_grant by (object.Def (self.now.made.definitions
-            + 1)) AttrAdmin self.now) ≤ max_grants
-            → AllSuit (events_of at by (AttrdefAdd definition owners several kind many) self.now)
-            self.now }
-    {
-        self.law_grants();
-        self.law_held();
-    }
 }

@@ -39,18 +39,4 @@ impl Facts {
     {
         place_in(&self.tables.consumer_rows, name)
     }
-
-    /// How many consumers there are.
-    pub fn consumer_count(&self) -> usize
-        ensures { result ≡ length self.now.consumers }
-    {
-        self.tables.consumer_rows.len()
-    }
-
-    /// A law, which does nothing: no two consumers share a name.
-    pub fn law_consumers(&self)
-        ensures { AreConsumersOnce self.now.consumers }
-    {
-        let _ = &self.tables;
-    }
 }

@@ -69,21 +69,6 @@ impl Facts {
         let _ = &self.tables;
     }
 
-    /// A law, which does nothing: where a new folder may stand and its maker's grant has room, what
-    /// making it brings suits the facts.
-    pub fn law_new_folder(&self)
-        ensures { (at : ℕ) (by : Entity) (folder display : List ℕ) (d : ℕ)
-            → home_id folder self.now ≡ Some d → CanStand d (extension_of folder) 0 self.now
-            → self.now.made.folders < max_folders
-            → length self.now.grants
-            + length (makers_grant by (object.Folder (self.now.made.folders
-            + 1)) StemAdmin self.now) ≤ max_grants
-            → AllSuit (events_of at by (FolderAdd folder display) self.now) self.now }
-    {
-        self.law_grants();
-        self.law_held();
-    }
-
     /// A law, which does nothing: where a new group may stand and the grants on it have room, what
     /// making it brings suits the facts.
     pub fn law_new_group(&self)

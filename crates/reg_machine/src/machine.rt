@@ -204,17 +204,6 @@ impl<K: Kept> Machine<K> {
         self.recorded.current().law_rows_open();
     }
 
-    /// The facts after one command more at the clock are those that it makes of the facts now. It
-    /// does nothing.
-    #[tactic(auto, using(crate::proofs::Moments::facts_push))]
-    pub fn acts(&self)
-        ensures { (by : Entity) (command : Command)
-            → facts (appended self.now by command).history self.now.clock
-            ≡ acted self.now.clock by command (now_facts self.now) }
-    {
-        let _ = &self.stamped;
-    }
-
     /// After each step of the history, a date that came or a command, who stopped being an
     /// effective member of a group by it has no membership that is on in the owner of a rule that
     /// takes it away. It does nothing.
