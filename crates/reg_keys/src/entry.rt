@@ -1,0 +1,115 @@
+// A caller's keys.
+ghost use Rattle.std.specs.Prelude.{◌≡◌, ◌<◌, ◌^◌, ◌&&◌, ℕ, List, None, Some, OnOk};
+ghost use Rattle.std.specs.Prelude.{OnErr, IfSome, if◌then◌else◌};
+ghost use Rattle.std.specs.Str.{bytes_eq};
+ghost use Rattle.reg_keys.specs.Keys.{at_key, entry_in};
+
+use std::alloc::{AllocError, Global};
+use std::collections::BTreeMap;
+
+/// What is kept of a command: its number, the id of what it made, and where its bytes are.
+#[derive(Clone, Copy)]
+pub struct Entry {
+    pub start: u64,
+    pub len: u32,
+    pub number: u32,
+    pub id: Option<u32>,
+}
+
+impl Entry {
+    /// The id of what the command made.
+    pub fn id(&self) -> Option<u64>
+        ensures { result ≡ self.now.id }
+    {
+        match self.id {
+            Some(id) => Some(u64::from(id)),
+            None => None,
+        }
+    }
+}
+
+/// The same id in 32 bits.
+fn small(id: Option<u64>) -> Option<u32>
+    requires { IfSome id (λ n. n < 2 ^ 32) }
+    ensures { result ≡ id }
+{
+    match id {
+        Some(id) => Some(id as u32),
+        None => None,
+    }
+}
+
+/// The entry of a command whose bytes begin at a place.
+pub fn entry_of(start: u64, len: u64, number: u64, id: Option<u64>) -> Entry
+    requires len { len < 2 ^ 32 }
+    requires number { number < 2 ^ 32 }
+    requires id { IfSome id (λ n. n < 2 ^ 32) }
+    ensures start { result.start ≡ start }
+    ensures len { result.len ≡ len }
+    ensures number { result.number ≡ number }
+    ensures id { result.id ≡ id }
+{
+    Entry {
+        start,
+        len: len as u32,
+        number: number as u32,
+        id: small(id),
+    }
+}
+
+/// One key more of a caller. Out of memory the keys stay as they were.
+fn add_key(
+    keys: &mut BTreeMap<Vec<u8>, Entry>,
+    key: Vec<u8>,
+    entry: Entry,
+) -> Result<(), AllocError>
+    ensures added { OnOk result ((k : List ℕ) → at_key keys.new k
+        ≡ (if bytes_eq key.items k then Some entry else at_key keys.old k)) }
+    ensures err { OnErr result ((k : List ℕ) → at_key keys.new k ≡ at_key keys.old k) }
+{
+    keys.insert(key, entry)?;
+    Ok(())
+}
+
+/// Puts an entry under a caller and a key. Out of memory each caller has the keys that it had.
+pub fn add_entry(
+    alloc: Global,
+    callers: &mut BTreeMap<Vec<u8>, BTreeMap<Vec<u8>, Entry>>,
+    by: &[u8],
+    key: &[u8],
+    entry: Entry,
+) -> Result<(), AllocError>
+    ensures added { OnOk result ((b k : List ℕ) → entry_in callers.new b k
+        ≡ (if bytes_eq by.now b && bytes_eq key.now k then Some entry
+        else entry_in callers.old b k)) }
+    ensures err { OnErr result ((b k : List ℕ) → entry_in callers.new b k
+        ≡ entry_in callers.old b k) }
+{
+    let key = Vec::from_slice(alloc, key)?;
+    if let Some(keys) = callers.get_mut(by) {
+        return add_key(keys, key, entry);
+    }
+    add_caller(alloc, callers, by, key, entry)
+}
+
+/// A caller's first key. Out of memory each caller has the keys that it had.
+fn add_caller(
+    alloc: Global,
+    callers: &mut BTreeMap<Vec<u8>, BTreeMap<Vec<u8>, Entry>>,
+    by: &[u8],
+    key: Vec<u8>,
+    entry: Entry,
+) -> Result<(), AllocError>
+    requires { at_key callers.old by.now ≡ None }
+    ensures added { OnOk result ((b k : List ℕ) → entry_in callers.new b k
+        ≡ (if bytes_eq by.now b && bytes_eq key.items k then Some entry
+        else entry_in callers.old b k)) }
+    ensures err { OnErr result ((b k : List ℕ) → entry_in callers.new b k
+        ≡ entry_in callers.old b k) }
+{
+    let by = Vec::from_slice(alloc, by)?;
+    let mut keys = BTreeMap::new(alloc);
+    add_key(&mut keys, key, entry)?;
+    callers.insert(by, keys)?;
+    Ok(())
+}

@@ -1,0 +1,8 @@
+//! Keys of requests: for each caller and key the number of the command that was kept, the id of
+//! what it made, and the command's bytes. Requests have no keys yet: this is what will find them.
+#![tactic(auto)]
+
+mod entry;
+mod keys;
+
+pub use keys::{Found, Keys};
