@@ -3,26 +3,7 @@ use Rattle.std.proofs.Common.{◌≡◌, ◌<◌, ◌≤◌, ◌⊎◌, ◌==◌
 use Rattle.std.proofs.lemmas.Bool.{cases_Bool, cases_lt, or_parts, or_from, or_left, or_right, and_parts, and_from, both_ways, ltb-true, leb-true, lt-ltb, le-leb}
 use Rattle.std.specs.List.{list_any, AllByRecursion}
 use Rattle.reg_terms.specs.declared.rows.MemberRow.{MemberRow}
-use Rattle.reg_current.specs.Dates.{begins_at, ends_at, earlier, with_date, with_end, due}
-
--- whether a date is one of a row's
-abbrev pub is_dated : ℕ → MemberRow → Bool
-is_dated d row = begins_at d row || ends_at d row
-
--- whether one of the rows has a date
-abbrev pub has_date : List MemberRow → ℕ → Bool
-has_date rows d = list_any (is_dated d) rows
-
--- no date after one moment and up to another
-abbrev pub IsFree : ℕ → ℕ → (ℕ → Bool) → Type 0
-IsFree a b has = (d : ℕ) → a < d → d ≤ b → has d ≡ false
-
--- the least date after one moment and up to another
-pub record IsLeast (a b : ℕ) (has : ℕ → Bool) (d : ℕ) : Type 0 where
-  pub later : a < d
-  pub within : d ≤ b
-  pub dated : has d ≡ true
-  pub none_before : (e : ℕ) → a < e → e < d → has e ≡ false
+use Rattle.reg_current.specs.Dates.{begins_at, ends_at, earlier, with_date, with_end, due, is_dated, has_date, IsFree, IsLeast}
 
 -- what is found of dates: none, or the least
 abbrev pub Finds : ℕ → ℕ → (ℕ → Bool) → Option ℕ → Type 0

@@ -20,9 +20,9 @@ use Rattle.reg_rules.specs.declared.actions.Action.{Action}
 use Rattle.reg_rules.specs.declared.actions.Action.TheVariants.{Removed, Ended}
 use Rattle.reg_rules.specs.Actions.{with_end, done, all_done, changes_by}
 use Rattle.reg_rules.specs.Settling.{settle, settling}
-use Rattle.reg_current.specs.Dates.{begins_at, ends_at, due, without_ended, date_actions, date_changes, date_passed, date_steps, pass_in, pass, pass_steps_in, pass_steps}
+use Rattle.reg_current.specs.Dates.{begins_at, ends_at, due, without_ended, date_actions, date_changes, date_passed, date_steps, pass_in, pass, pass_steps_in, pass_steps, is_dated, has_date}
 use Rattle.reg_current.specs.Live.{live}
-use Rattle.reg_current.proofs.Due.{is_dated, has_date, IsApart, IsStill, due_some, due_up_to, due_from, due_nowhere, none_still}
+use Rattle.reg_current.proofs.Due.{IsApart, IsStill, due_some, due_up_to, due_from, due_nowhere, none_still}
 
 -- 1 for a date after one moment and up to another, and 0 for others
 abbrev counts : ℕ → ℕ → ℕ → ℕ

@@ -1,7 +1,7 @@
 -- Dates of memberships: the moments at which they begin and end, as they come one after another.
 use Rattle.std.specs.List.{list_any}
-use Rattle.std.specs.Prelude.{◌≡◌, ◌<◌, ◌≤◌, ℕ, zero, suc, ◌+◌, ◌*◌, ◌==◌, ◌&&◌, List, [], ◌∷◌}
-use Rattle.std.specs.Prelude.{◌++◌, Bool, true, false, not, Option, Some, None, min, filter, length}
+use Rattle.std.specs.Prelude.{◌≡◌, ◌<◌, ◌≤◌, ℕ, zero, suc, ◌+◌, ◌*◌, ◌==◌, ◌&&◌, ◌||◌, List, []}
+use Rattle.std.specs.Prelude.{◌∷◌, ◌++◌, Bool, true, false, not, Option, Some, None, min, filter, length}
 use Rattle.std.specs.Prelude.{nat_lt, nat_le, if◌then◌else◌}
 use Rattle.reg_terms.specs.declared.event.Event.{Event}
 use Rattle.reg_terms.specs.declared.event.Event.TheVariants.{RowRemoved}
@@ -47,6 +47,25 @@ with_end a b (Some d) found = with_date a b d found
 abbrev pub due : ℕ → ℕ → List MemberRow → Option ℕ
 due a b [] = None
 due a b (row ∷ rows) = with_date a b row.from (with_end a b row.until (due a b rows))
+
+-- whether a date is one of a row's
+abbrev pub is_dated : ℕ → MemberRow → Bool
+is_dated d row = begins_at d row || ends_at d row
+
+-- whether one of the rows has a date
+abbrev pub has_date : List MemberRow → ℕ → Bool
+has_date rows d = list_any (is_dated d) rows
+
+-- no date after one moment and up to another
+abbrev pub IsFree : ℕ → ℕ → (ℕ → Bool) → Type 0
+IsFree a b has = (d : ℕ) → a < d → d ≤ b → has d ≡ false
+
+-- the least date after one moment and up to another
+pub record IsLeast (a b : ℕ) (has : ℕ → Bool) (d : ℕ) : Type 0 where
+  pub later : a < d
+  pub within : d ≤ b
+  pub dated : has d ≡ true
+  pub none_before : (e : ℕ) → a < e → e < d → has e ≡ false
 
 -- a later date, before which no date comes and at which no row ends
 pub record IsNext (a d : ℕ) (rows : List MemberRow) : Type 0 where

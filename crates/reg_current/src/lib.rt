@@ -8,9 +8,11 @@ mod dated_rows;
 mod dates;
 mod edges;
 mod ending;
+mod laws;
 mod redating;
 mod settling;
 mod touching;
 
 pub use current::Current;
+pub use laws::law_dates;
 pub use settling::settled;
