@@ -29,7 +29,7 @@ import time
 from types import FrameType
 from typing import Any, Callable, Optional
 
-from serving import Server, ask, init, message, needs_program
+from serving import Answers, Server, connect, init, message, needs_program
 
 HISTORIES = int(sys.argv[1]) if len(sys.argv) > 1 else 200
 FIRST = int(sys.argv[2]) if len(sys.argv) > 2 else 1
@@ -40,6 +40,8 @@ PERSONS = ["uni/p%d" % n for n in range(6)]
 AT_ONCE = 4
 # where ports for the servers begin, below those that the system gives to clients: a stopped server's stays free
 PORTS = 20000 + os.getpid() % 100 * 100
+# seconds for an answer, on a machine that is busy with other work
+PATIENCE = 60.0
 Request = dict[str, Any]
 Lists = dict[str, list[str]]
 
@@ -53,8 +55,15 @@ class World:
         self.counts: collections.Counter[str] = collections.Counter()
         self.folders, self.groups, self.last_date = [":"], [], 0.0
 
+    def ask_all(self, requests: list[Request]) -> list[dict[str, Any]]:
+        """The replies to requests that are sent at once, on one connection."""
+        with connect(self.server.port, PATIENCE) as conn:
+            answers = Answers(conn)
+            conn.sendall(b"".join(message("POST", "/requests", body=json.dumps(r).encode()) for r in requests))
+            return [json.loads(answers.next().body) for _ in requests]
+
     def ask(self, request: Request) -> dict[str, Any]:
-        return json.loads(ask(self.server.port, message("POST", "/requests", body=json.dumps(request).encode())).body)
+        return self.ask_all([request])[0]
 
     def command(self, request: Request) -> None:
         reply = self.ask(request)
@@ -66,17 +75,23 @@ class World:
             sys.exit("%r was answered %r" % (request, reply))
 
     def look(self) -> None:
-        """Looks what stands, folder by folder."""
+        """Looks what stands, one depth of folders after another."""
         self.folders, self.groups = [":"], []
-        for folder in self.folders:
-            shown = self.ask({"op": "folder.list", "folder": folder})
-            self.folders += shown["folders"]
-            self.groups += shown["groups"]
+        below = self.folders
+        while below:
+            shown = self.ask_all([{"op": "folder.list", "folder": folder} for folder in below])
+            self.groups += [group for one in shown for group in one["groups"]]
+            below = [folder for one in shown for folder in one["folders"]]
+            self.folders += below
 
     def lists(self) -> Lists:
         """The members of each group."""
         self.look()
-        return {name: self.ask({"op": "members", "group": name})["members"] for name in self.groups}
+        return self.members(self.groups)
+
+    def members(self, names: list[str]) -> Lists:
+        replies = self.ask_all([{"op": "members", "group": name} for name in names])
+        return {name: reply["members"] for name, reply in zip(names, replies)}
 
     def restart(self) -> None:
         self.server.stop()
@@ -99,11 +114,10 @@ class World:
 
     def row(self) -> Request:
         """The group and the member of a membership that stands, where one is found soon."""
-        for name in self.chance.sample(self.groups, min(4, len(self.groups))):
-            rows = self.ask({"op": "rows", "group": name})["rows"]
-            if rows:
-                return {"group": name, "member": self.chance.choice(rows)["member"]}
-        return {"group": self.group(), "member": self.person()}
+        names = self.chance.sample(self.groups, min(4, len(self.groups)))
+        replies = self.ask_all([{"op": "rows", "group": name} for name in names])
+        found = [{"group": name, "member": row["member"]} for name, reply in zip(names, replies) for row in reply["rows"]]
+        return self.chance.choice(found or [{"group": self.group(), "member": self.person()}])
 
     def folder(self) -> str:
         return self.chance.choice(self.folders)
@@ -235,7 +249,7 @@ class Program:
                 self.kill()
             return
         self.lose()
-        words = self.words() + ["--every", "%.3f" % self.world.chance.choice([0, 0.005, 0.03])]
+        words = self.words() + ["--every", "%.3f" % self.world.chance.choice([0.005, 0.03])]
         given = (words, self.place, self.death())
         self.process = multiprocessing.get_context("fork").Process(target=be_follower, args=given)
         self.process.start()
@@ -291,17 +305,17 @@ class ByEntries:
         self.groups: dict[str, set[str]] = {}
         world.command({"op": "consumer.add", "consumer": self.consumer})
 
-    def take(self, entry: dict[str, Any]) -> None:
-        if entry["kind"] == "member.begin":
-            self.groups.setdefault(entry["object"], set()).add(entry["entity"])
-        if entry["kind"] == "member.end":
-            self.groups.setdefault(entry["object"], set()).discard(entry["entity"])
+    def take(self, entries: list[dict[str, Any]]) -> None:
+        for entry in entries:
+            if entry["kind"] == "member.begin":
+                self.groups.setdefault(entry["object"], set()).add(entry["entity"])
+            if entry["kind"] == "member.end":
+                self.groups.setdefault(entry["object"], set()).discard(entry["entity"])
 
     def round(self) -> None:
         entries = self.world.ask({"op": "log", "consumer": self.consumer, "max": 1000})["entries"]
-        for entry in entries:
-            self.take(entry)
         if entries:
+            self.take(entries)
             self.world.command({"op": "consumer.ack", "consumer": self.consumer, "seq": entries[-1]["seq"]})
 
     def differs(self, lists: Lists) -> bool:
@@ -311,17 +325,16 @@ class ByEntries:
 
 
 class ByNames(ByEntries):
-    """Compares the names too, drops the lists of those that are gone, and reads those that are new."""
+    """Compares the names too, where one may have changed: drops the lists of those that are gone, and reads those that are
+    new."""
 
-    def take(self, entry: dict[str, Any]) -> None:
-        if entry["object"] in self.groups:
-            super().take(entry)
-        if entry["kind"].split(".")[0] in ("folder", "group"):
+    def take(self, entries: list[dict[str, Any]]) -> None:
+        known = set(self.groups)
+        super().take(entries)
+        if any(entry["kind"].split(".")[0] in ("folder", "group") for entry in entries):
             self.world.look()
-            self.groups = {name: self.groups[name] if name in self.groups else self.read(name) for name in self.world.groups}
-
-    def read(self, name: str) -> set[str]:
-        return set(self.world.ask({"op": "members", "group": name})["members"])
+            new = self.world.members([name for name in self.world.groups if name not in known])
+            self.groups = {name: set(new[name]) if name in new else self.groups[name] for name in self.world.groups}
 
 
 def begin(world: World) -> None:

@@ -3,13 +3,13 @@
 
     follow_log.py URL CONSUMER MIRROR [--every SECONDS] [--max ENTRIES] [--caller ENTITY] [--cacert F] [--cert F --key F]
 
-Until it has caught up, or again and again. MIRROR is a file of JSON: under `groups` the members of each group, by its
-name; under `place` the number of the entry up to which it goes. An entry shows present names, so it only says where to
-look (docs/FOLLOWING.md): the lists that may have changed are read anew, MIRROR is replaced, and then the consumer's place
-is acknowledged. Killed at any moment and started again, it goes on. Where MIRROR's place isn't the consumer's, all is
-read anew: so it begins, and so it mends what it can't know. The consumer is made where it isn't there. CONSUMER is this
-mirror's alone, and the caller has to be root. Each round that had something to do prints a line. A round that fails is
-noted on standard error and tried again after the pause; without `--every` it ends with status 1."""
+Until it has caught up, or again and again. MIRROR is a file of JSON: under `groups` the members of each group by its
+name, a line for each; under `place` the number of the entry up to which it goes. An entry shows present names, so it only
+says where to look (docs/FOLLOWING.md): the lists that may have changed are read anew, MIRROR is replaced, and then the
+consumer's place is acknowledged. Killed at any moment and started again, it goes on. Where MIRROR's place isn't the
+consumer's, all is read anew: so it begins, and so it mends what it can't know. The consumer is made where it isn't there.
+CONSUMER is this mirror's alone, and the caller has to be root. Each round that had something to do prints a line. A round
+that fails is noted on standard error and tried again after the pause; without `--every` it ends with status 1."""
 from __future__ import annotations
 
 import argparse
@@ -153,10 +153,10 @@ class Mirror:
 
     def replace(self, place: int, groups: Lists) -> None:
         """Writes the file beside, and puts it in place of the one before: a crash leaves one of the two."""
-        held = {"consumer": self.consumer, "groups": groups, "place": place}
+        lists = ("%s: %s" % (json.dumps(name), json.dumps(groups[name])) for name in sorted(groups))
         with open(self.path + ".new", "w", encoding="ascii") as file:
-            json.dump(held, file, indent=1, sort_keys=True)
-            file.write("\n")
+            file.write('{"consumer": %s, "place": %d, "groups": {\n' % (json.dumps(self.consumer), place))
+            file.write(",\n".join(lists) + "\n}}\n")
             file.flush()
             os.fsync(file.fileno())
         os.replace(self.path + ".new", self.path)
