@@ -4,7 +4,6 @@ use Rattle.std.proofs.lemmas.List.{take-append-drop, length-take-le}
 use Rattle.std.proofs.Math.Seq.{drop-append_seam, drop-append-add}
 use Rattle.httparse.specs.Grammar.{RequestHead, print_request}
 use Rattle.reg_http.specs.declared.head.Head.{Head}
-use Rattle.reg_http.specs.declared.call.Call.{Call}
 use Rattle.reg_http.specs.Heads.{call_of}
 use Rattle.reg_http.specs.Messages.{BeginsWith, IsMessage}
 use Rattle.reg_http.specs.Fronts.{IsReadOf, IsHeadAt, call_read}
