@@ -44,8 +44,8 @@ given_turn bytes calls before after (turn.Bad fault) given (same, why) =
       | inl was ↦ subst (λ f. IfSome f (HasFault before.rest)) was given.fault_is
       | inr found ↦ found.1
     ] in
-    let now : HasGiven bytes calls record { rest = before.rest; fault = Some fault } = record { messages = given.messages; fault_is = has } in
-    subst (HasGiven bytes (calls ++ [])) (sym same) (subst (λ cs. HasGiven bytes cs record { rest = before.rest; fault = Some fault }) (sym (append-nil calls)) now)
+    let now : HasGiven bytes calls record { rest = before.rest; held = before.held; fault = Some fault } = record { messages = given.messages; fault_is = has } in
+    subst (HasGiven bytes (calls ++ [])) (sym same) (subst (λ cs. HasGiven bytes cs record { rest = before.rest; held = before.held; fault = Some fault }) (sym (append-nil calls)) now)
 
 given_steps : (steps : List Step) (bytes : List ℕ) (calls : List Call) (before after : Reading) → HasGiven bytes calls before → Leads steps before after → HasGiven (bytes ++ bytes_of steps) (calls ++ calls_of steps) after
 given_steps [] bytes calls before after given same =

@@ -3,6 +3,7 @@ pub mod Digits
 pub mod Room
 pub mod Windows
 pub mod Takings
+pub mod Helds
 pub mod Excluding
 pub mod Cutting
 pub mod Added

@@ -4,25 +4,20 @@ use Rattle.std.proofs.lemmas.List.{take-append-drop, length-take-le}
 use Rattle.std.proofs.Math.Seq.{drop-append_seam, drop-append-add}
 use Rattle.httparse.specs.Grammar.{RequestHead, print_request}
 use Rattle.reg_http.specs.declared.head.Head.{Head}
-use Rattle.reg_http.specs.declared.call.Call.{Call}
 use Rattle.reg_http.specs.Heads.{call_of}
 use Rattle.reg_http.specs.Messages.{BeginsWith, IsMessage}
-use Rattle.reg_http.specs.Fronts.{IsReadOf, IsHeadAt}
+use Rattle.reg_http.specs.Fronts.{IsReadOf, IsHeadAt, call_read}
 
 -- what comes after a head
 pub after_head : (bytes : List ℕ) (head : RequestHead) (rest : List ℕ) → BeginsWith bytes head rest → drop (length (print_request head)) bytes ≡ rest
 after_head bytes head rest begins = ap (drop (length (print_request head))) begins.reads.1 ∙ drop-append_seam (print_request head) rest
 
--- the call that was read with this body
-abbrev pub read_call : Head → List ℕ → Call
-read_call read body = record { method = read.method; target = read.target; caller = read.caller; body = body; close = read.close }
-
-call_is : (read : Head) (head : RequestHead) (body : List ℕ) → IsReadOf read head → read_call read body ≡ call_of head body
+call_is : (read : Head) (head : RequestHead) (body : List ℕ) → IsReadOf read head → call_read read body ≡ call_of head body
 unfolding call_of
 call_is read head body is = rw (is.method, is.target, is.caller, is.close)
 
 pub taken_whole : (bytes : List ℕ) (read : Head) (body : List ℕ) → IsHeadAt bytes read → read.body ≤ length (drop read.length bytes) → body ≡ take read.body (drop read.length bytes)
-    → (read.length + read.body ≤ length bytes) × IsMessage bytes (read_call read body) (drop (read.length + read.body) bytes)
+    → (read.length + read.body ≤ length bytes) × IsMessage bytes (call_read read body) (drop (read.length + read.body) bytes)
 taken_whole bytes read body at whole is =
     let print = print_request at.head in
     let text = at.begins.reads.1 in

@@ -1,11 +1,10 @@
 -- What is read at the front of bytes.
-use Rattle.std.specs.Prelude.{◌≡◌, ℕ, ◌≤◌, List, length, drop, Ok, Err}
+use Rattle.std.specs.Prelude.{◌≡◌, ℕ, ◌+◌, ◌≤◌, List, length, drop, Option, Some, None, Ok, Err}
 use Rattle.httparse.specs.Grammar.{RequestHead, print_request}
 use Rattle.reg_http.specs.declared.head.Head.{Head}
 use Rattle.reg_http.specs.declared.head.Front.{Front}
 use Rattle.reg_http.specs.declared.head.Front.TheVariants as front
-use Rattle.reg_http.specs.declared.reader.Taken.{Taken}
-use Rattle.reg_http.specs.declared.reader.Taken.TheVariants as taken
+use Rattle.reg_http.specs.declared.call.Call.{Call}
 use Rattle.reg_http.specs.Heads.{body_after, caller_in, closes_after, fields_of}
 use Rattle.reg_http.specs.Messages.{BeginsWith, HasFault, AwaitsHead, AwaitsBody, IsMessage}
 
@@ -37,8 +36,19 @@ IsFront bytes (front.Head read) = IsHeadAt bytes read
 IsFront bytes front.NeedMore = AwaitsHead bytes
 IsFront bytes (front.Bad fault) = HasFault bytes fault
 
--- a message of the bytes, or none yet
-abbrev pub IsTaken : List ℕ → Taken → Type 0
-IsTaken bytes (taken.Whole call used) =
-    (used ≤ length bytes) × IsMessage bytes call (drop used bytes)
-IsTaken bytes (taken.Part read) = AwaitsBody bytes × IsHeadAt bytes read
+-- the message of the head that was read and this body
+abbrev pub call_read : Head → List ℕ → Call
+call_read read body = record {
+  method = read.method;
+  target = read.target;
+  caller = read.caller;
+  body = body;
+  close = read.close;
+}
+
+-- the body after the head that was read, or more of it has to come
+abbrev pub IsBody : List ℕ → Head → Option (List ℕ) → Type 0
+IsBody bytes read (Some body) =
+    (read.length + read.body ≤ length bytes)
+    × IsMessage bytes (call_read read body) (drop (read.length + read.body) bytes)
+IsBody bytes read None = AwaitsBody bytes

@@ -1,6 +1,7 @@
 //! The head at the front of the bytes of a connection.
 
 ghost use Rattle.std.specs.Prelude.{◌≡◌, ℕ, ◌≤◌, List, All, length, map, take, IfOk, option_map};
+ghost use Rattle.std.specs.Prelude.{IfSome, IsSome};
 ghost use Rattle.httparse.specs.Grammar.{RequestHead};
 ghost use Rattle.httparse.specs.Spans.{IsHeaderWithin, IsWithin, span_bytes, header_bytes};
 ghost use Rattle.httparse.specs.Spans.{IsRequestWithin, IsRequestAt};
@@ -10,7 +11,7 @@ ghost use Rattle.reg_http.specs.Fronts.{IsJudged, IsFront};
 
 use crate::call::HeadFault;
 use crate::fields::{Standing, closes, how_often, length_in, stands, stands_once};
-use httparse::spans::{HeaderSpan, RequestSpans, parse_request};
+use httparse::spans::{EMPTY_HEADER_SPAN, HeaderSpan, RequestSpans, parse_request};
 use httparse::{Error, Status};
 use reg_base::Bytes;
 use std::alloc::{AllocError, Global};
@@ -18,8 +19,11 @@ use std::alloc::{AllocError, Global};
 /// The most bytes of a head.
 const HEAD_LIMIT: usize = 16_384;
 
-/// The most fields of a head.
-const FIELD_LIMIT: usize = 64;
+/// The most fields of a head that is taken.
+pub(crate) const FIELD_LIMIT: usize = 64;
+
+/// The most fields that the bytes of a head can have: each takes three bytes or more.
+const FIELD_ROOM: usize = 5_462;
 
 /// The most bytes of a body.
 const BODY_LIMIT: usize = 8_388_608;
@@ -156,25 +160,43 @@ fn judge(
     }
 }
 
-/// What stands at the front of the bytes. Each field takes three bytes or more, so the room holds
-/// all that a head can have.
+/// What stands at the front of the bytes, where there are places for all fields that come.
+fn read_into(
+    alloc: Global,
+    bytes: &[u8],
+    places: &mut [HeaderSpan],
+) -> Result<Option<Front>, AllocError>
+    ensures front { IfOk result (λ front. IfSome front (IsFront bytes.now)) }
+    ensures room { 5462 ≤ length places.old → IfOk result (λ front. IsSome front) }
+{
+    let window = window_of(bytes);
+    match parse_request(window, places) {
+        Ok(Status::Complete(spans)) => Ok(Some(judge(alloc, window, &spans, places)?)),
+        Ok(Status::Partial) => if bytes.len() < HEAD_LIMIT {
+            Ok(Some(Front::NeedMore))
+        } else {
+            Ok(Some(Front::Bad(HeadFault::HeadTooLong)))
+        },
+        Err(Error::TooManyHeaders) => Ok(None),
+        Err(_) => Ok(Some(Front::Bad(HeadFault::BadHead))),
+    }
+}
+
+/// What stands at the front of the bytes. Where there are too few places for the fields, all are
+/// made that a head can need.
 pub(crate) fn read_front(
     alloc: Global,
     bytes: &[u8],
-    headers: &mut [HeaderSpan],
+    places: &mut Vec<HeaderSpan>,
 ) -> Result<Front, AllocError>
-    requires { 5462 ≤ length headers.old }
     ensures { IfOk result (IsFront bytes.now) }
 {
-    let front = window_of(bytes);
-    match parse_request(front, headers) {
-        Ok(Status::Complete(spans)) => judge(alloc, front, &spans, headers),
-        Ok(Status::Partial) => if bytes.len() < HEAD_LIMIT {
-            Ok(Front::NeedMore)
-        } else {
-            Ok(Front::Bad(HeadFault::HeadTooLong))
-        },
-        Err(Error::TooManyHeaders) => Ok(Front::Bad(HeadFault::HeadTooLong)),
-        Err(_) => Ok(Front::Bad(HeadFault::BadHead)),
+    if let Some(front) = read_into(alloc, bytes, places.as_mut_slice())? {
+        return Ok(front);
+    }
+    *places = vec![in alloc; EMPTY_HEADER_SPAN; FIELD_ROOM]?;
+    match read_into(alloc, bytes, places.as_mut_slice())? {
+        Some(front) => Ok(front),
+        None => unreachable!(),
     }
 }

@@ -4,6 +4,7 @@
 mod call;
 mod fields;
 mod head;
+mod held;
 mod laws;
 mod parameters;
 mod paths;

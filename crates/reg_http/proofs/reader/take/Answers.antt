@@ -1,7 +1,0 @@
-use Rattle.reg_http.proofs.Takings.{taken_whole}
-use Rattle.reg_http.proofs.reader.take.Goals as goal
-
-pub returns : goal.returns
-returns c =
-    let back = c.split_at.ensures.back in
-    taken_whole c.args.bytes.now c.args.head c.in_ok-body.body c.requires (rw back at c.if-rest-head.false) (rw back at c.in_ok-body.ensures)
