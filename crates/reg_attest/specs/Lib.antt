@@ -1,0 +1,4 @@
+pub mod Attested
+pub mod Between
+pub mod Stretches
+pub mod States
