@@ -1,8 +1,10 @@
 // The bytes of a disk in memory, with a record of what was done to them.
-ghost use Rattle.std.specs.Prelude.{◌≡◌, ◌≤◌, ◌⊎◌, [], length, vec_len, vec_capacity, true, IfOk};
-ghost use Rattle.std.specs.Prelude.{OnOk, OnErr};
+ghost use Rattle.std.specs.Prelude.{◌≡◌, ◌≤◌, ◌<◌, ◌⊎◌, List, [], ◌∷◌, length, vec_len, true};
+ghost use Rattle.std.specs.Prelude.{vec_capacity, IfOk, OnOk, OnErr};
 ghost use Rattle.reg_outside.specs.Disk.{put, Exactly, Same, Torn};
-ghost use Rattle.reg_outside.specs.DiskSteps.{replay, is_valid, Grew, MayLeave};
+ghost use Rattle.reg_outside.specs.DiskSteps.{replay, is_valid, is_inside, bytes_after, kept_from};
+ghost use Rattle.reg_outside.specs.DiskSteps.{crashed, Grew, MayLeave};
+ghost use Rattle.reg_outside.specs.declared.record.Step.{Step};
 
 use std::alloc::{AllocError, Global};
 
@@ -84,6 +86,61 @@ impl Record {
     {
         self.steps.push(Step::Sync)?;
         Ok(())
+    }
+
+    /// What a crash leaves: the bytes at the last sync, and the first so many of what was written
+    /// since.
+    pub fn crash(&self, alloc: Global, keep: usize) -> Result<Vec<u8>, AllocError>
+        ensures bytes { IfOk result (λ v. v.items
+            ≡ crashed keep self.now.first.items self.now.steps.items) }
+        ensures image { IfOk result (λ v. MayLeave self.now.first.items self.now.steps.items
+            v.items) }
+    {
+        let mut now = self.first.to_vec(alloc)?;
+        let mut image = self.first.to_vec(alloc)?;
+        let mut left = keep;
+        let mut at = 0;
+        'steps: while at < self.steps.len() {
+            left = replay_step(&self.steps[at], keep, left, &mut now, &mut image)?;
+            at += 1;
+        }
+        Ok(image)
+    }
+}
+
+// Carries out one step more on all bytes and on those that a crash keeps, and says how many bytes
+// are still kept.
+fn replay_step(
+    step: &Step,
+    keep: usize,
+    left: usize,
+    now: &mut Vec<u8>,
+    image: &mut Vec<u8>,
+) -> Result<usize, AllocError>
+    requires inside { is_inside now.old.items step.now ≡ true }
+    requires whole { (0 < left) → image.old.items ≡ now.old.items }
+    ensures now { IfOk result (λ n. now.new.items ≡ bytes_after now.old.items step.now) }
+    ensures goes_on { IfOk result (λ n. (steps : List Step)
+        → kept_from keep n now.new.items image.new.items steps
+        ≡ kept_from keep left now.old.items image.old.items (step.now ∷ steps)) }
+    ensures whole { IfOk result (λ n. (0 < n) → image.new.items ≡ now.new.items) }
+{
+    match step {
+        Step::Write { at, bytes } => {
+            let kept = left.min(bytes.len());
+            let (front, _) = bytes.as_slice().split_at(kept);
+            if kept > 0 {
+                write_over(image, *at, front)?;
+            }
+            write_over(now, *at, bytes)?;
+            Ok(left - kept)
+        }
+        Step::Cut { .. } => Ok(left),
+        Step::Sync => {
+            image.clear();
+            image.extend_from_slice(now)?;
+            Ok(keep)
+        }
     }
 }
 
