@@ -28,19 +28,21 @@ pub struct Record {
 
 impl Record {
     pub fn new(alloc: Global, bytes: Vec<u8>) -> Result<Record, AllocError>
-        ensures { IfOk result (λ d. (d.bytes.items ≡ bytes.items) × (d.first.items ≡ bytes.items)
-            × (d.steps.items ≡ [])) }
+        ensures same { IfOk result (λ d. (d.bytes.items ≡ bytes.items)
+            × (d.first.items ≡ bytes.items) × (d.steps.items ≡ [])) }
+        ensures room { IfOk result (λ d. vec_len d.steps < vec_capacity d.steps) }
     {
         let first = bytes.to_vec(alloc)?;
+        let steps = Vec::with_capacity(alloc, 1)?;
         Ok(Record {
             alloc,
             first,
             bytes,
-            steps: Vec::new(alloc),
+            steps,
         })
     }
 
-    /// Writes over what is there, and past the end.
+    /// Writes over what is there, and past the end. A place is left for one step more.
     pub fn write(&mut self, at: usize, piece: &[u8]) -> Result<(), AllocError>
         requires { at ≤ length self.old.bytes.items }
         ensures ok { OnOk result (self.new.bytes.items ≡ put at piece.now self.old.bytes.items) }
@@ -49,6 +51,7 @@ impl Record {
             × (self.new.steps.items ≡ self.old.steps.items)) }
         ensures room { OnErr result ((vec_capacity self.old.steps ≤ vec_capacity self.new.steps)
             × (vec_len self.new.steps ≡ vec_len self.old.steps)) }
+        ensures ahead { OnOk result (vec_len self.new.steps < vec_capacity self.new.steps) }
         ensures crash { Grew (Torn at (length piece.now)) self.old.first.items self.old.steps.items
             self.new.first.items self.new.steps.items }
         ensures exact { OnOk result
@@ -57,15 +60,14 @@ impl Record {
             (MayLeave self.new.first.items self.new.steps.items)) }
     {
         let bytes = piece.to_vec(self.alloc)?;
-        self.steps.push(Step::Write { at, bytes })?;
-        if write_over(&mut self.bytes, at, piece).is_err() {
-            let _ = self.steps.pop();
-            return Err(AllocError);
-        }
+        self.steps.reserve(2)?;
+        write_over(&mut self.bytes, at, piece)?;
+        self.steps.push_reserved(Step::Write { at, bytes });
         Ok(())
     }
 
-    /// A write that failed: the bytes stay. Nothing is recorded where there is no room for it.
+    /// A write that failed: the bytes stay. Nothing is recorded where there is no place for it.
+    /// Where there is memory, a place is left for one step more.
     pub fn cut(&mut self, at: usize, len: usize)
         ensures same { self.new.bytes.items ≡ self.old.bytes.items }
         ensures crash { Grew (Torn at len) self.old.first.items self.old.steps.items
@@ -75,16 +77,24 @@ impl Record {
             ⊎ (vec_capacity self.old.steps ≤ vec_len self.old.steps) }
     {
         let _ = self.steps.push(Step::Cut { at, len });
+        let _ = self.steps.reserve(1);
     }
 
+    /// Where it fails nothing has changed. Else a place is left for one step more.
     pub fn sync(&mut self) -> Result<(), AllocError>
         ensures same { self.new.bytes.items ≡ self.old.bytes.items }
         ensures durable { OnOk result ((c : _)
             → MayLeave self.new.first.items self.new.steps.items c → c ≡ self.new.bytes.items) }
         ensures crash { Grew Same self.old.first.items self.old.steps.items self.new.first.items
             self.new.steps.items }
+        ensures kept { OnErr result ((self.new.first.items ≡ self.old.first.items)
+            × (self.new.steps.items ≡ self.old.steps.items)) }
+        ensures room { OnErr result ((vec_capacity self.new.steps ≡ vec_capacity self.old.steps)
+            × (vec_len self.new.steps ≡ vec_len self.old.steps)) }
+        ensures ahead { OnOk result (vec_len self.new.steps < vec_capacity self.new.steps) }
     {
-        self.steps.push(Step::Sync)?;
+        self.steps.reserve(2)?;
+        self.steps.push_reserved(Step::Sync);
         Ok(())
     }
 
