@@ -53,6 +53,7 @@ fn serve_port<J: Keeper, C: Clock, L: Listener>(
         → Rose (J.keep_faults service.keeper) (J.keep_faults e.1)) }
 {
     service.stays();
+    net.announce(service.machine().commands(), service.machine().clock());
     match net.listen(port) {
         Ok(()) => serve_connections(alloc, service, net, clock, connections),
         Err(Failed) => Err((Ceased::Listener, service.into_keeper())),

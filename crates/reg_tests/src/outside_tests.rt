@@ -1,6 +1,6 @@
 // The objects over the system: no clause can say what a file, a stream or the system's clock gives.
 use reg_outside::{
-    Clock, Disk, Failed, FileDisk, Sink, Source, StdSink, StdSource, SureSink, SystemClock,
+    Absent, Clock, Disk, Failed, FileDisk, Sink, Source, StdSink, StdSource, SureSink, SystemClock,
     write_whole,
 };
 use std::cell::Cell;
@@ -20,8 +20,8 @@ const LINKED: &str = "file_disk_linked";
 #[test]
 fn a_file_reads_what_was_written_and_is_locked(rt: HostRuntime) -> Result<(), Fail> {
     let _ = remove_file(&rt, FILE);
-    let mut disk = FileDisk::new(&rt, FILE);
-    let mut other = FileDisk::new(&rt, FILE);
+    let mut disk = FileDisk::new(&rt, FILE, Absent::Make);
+    let mut other = FileDisk::new(&rt, FILE, Absent::Make);
     let mut buf = [0u8; 8];
     assert!(rt; disk.write_at(0, b"abc") == Ok(()));
     assert!(rt; disk.write_at(2, b"de") == Ok(()));
@@ -39,9 +39,22 @@ fn a_file_reads_what_was_written_and_is_locked(rt: HostRuntime) -> Result<(), Fa
 
 #[test]
 fn a_file_in_no_folder_and_a_write_past_all_files_fail(rt: HostRuntime) -> Result<(), Fail> {
-    let mut absent = FileDisk::new(&rt, "no_folder/file_disk_test");
+    let mut absent = FileDisk::new(&rt, "no_folder/file_disk_test", Absent::Make);
     assert!(rt; absent.sync() == Err(Failed));
     assert!(rt; absent.write_at((1 << 63) - 1, b"f") == Err(Failed));
+    Ok(())
+}
+
+#[test]
+fn a_file_that_is_left_absent_counts_as_empty(rt: HostRuntime) -> Result<(), Fail> {
+    let mut disk = FileDisk::new(&rt, "file_disk_absent", Absent::Leave);
+    assert!(rt; disk.reason().is_none());
+    assert!(rt; disk.len() == Ok(0));
+    assert!(rt; disk.read_at(0, &mut [0u8; 8]) == Ok(0));
+    assert!(rt; disk.sync() == Ok(()));
+    assert!(rt; disk.write_at(0, b"a") == Err(Failed));
+    assert!(rt; matches!(disk.reason(), Some(ErrorKind::NotFound)));
+    assert!(rt; matches!(exists(&rt, "file_disk_absent"), Ok(false)));
     Ok(())
 }
 
@@ -50,10 +63,10 @@ fn a_file_behind_a_link_is_opened_and_not_made(rt: HostRuntime) -> Result<(), Fa
     let _ = remove_file(&rt, LINK);
     let _ = remove_file(&rt, LINKED);
     assert!(rt; symlink(&rt, LINKED, LINK).is_ok());
-    let mut behind = FileDisk::new(&rt, LINK);
+    let mut behind = FileDisk::new(&rt, LINK, Absent::Make);
     assert!(rt; behind.write_at(0, b"a") == Err(Failed));
     assert!(rt; matches!(exists(&rt, LINKED), Ok(false)));
-    let mut disk = FileDisk::new(&rt, LINKED);
+    let mut disk = FileDisk::new(&rt, LINKED, Absent::Make);
     assert!(rt; disk.write_at(0, b"ab") == Ok(()));
     drop(disk);
     assert!(rt; behind.len() == Ok(2));

@@ -1,11 +1,12 @@
 //! The registry: reads requests, line by line or from connections, and answers each.
 #![tactic(auto)]
 
-use reg_outside::{FileDisk, StdSink, StdSource, SystemClock, TcpPort};
+use reg_outside::{Absent, FileDisk, StdSink, StdSource, SystemClock, TcpPort};
 use reg_run::run;
+use std::env;
 use std::fs::{File, OpenOptions};
+use std::io::ErrorKind;
 use std::process::ExitCode;
-use std::{env, io};
 
 /// The exit status where the words are none of the program's: here, one that isn't UTF-8.
 const USAGE: u8 = 2;
@@ -21,15 +22,35 @@ fn null(rt: &HostRuntime) -> Option<File> {
     OpenOptions::new().read(true).open(rt, "/dev/null").ok()
 }
 
+/// What becomes of a file that is absent: only `init` makes one, so that a mistyped name leaves
+/// none behind.
+fn absent(words: &[String]) -> Absent {
+    match words {
+        [first, ..] if first.as_str() == "init" => Absent::Make,
+        _ => Absent::Leave,
+    }
+}
+
+/// Says on standard error, behind the run's note, why the file failed or that there is none.
+fn tell_reason(rt: &HostRuntime, path: &str, reason: Option<ErrorKind>) {
+    // where standard error fails there is nobody to tell
+    let _ = match reason {
+        None => Ok(()),
+        Some(ErrorKind::NotFound) => eprintln!(rt; "{path}: no such file or folder"),
+        Some(ErrorKind::WouldBlock) => eprintln!(rt; "{path}: locked by another program"),
+        Some(reason) => eprintln!(rt; "{path}: {reason}"),
+    };
+}
+
 /// Runs the program over a file.
 fn over(rt: &HostRuntime, path: &str, words: &[String]) -> u8 {
     let mut input = StdSource::new(rt.stdin());
     let mut out = StdSink::new(rt.stdout());
     let mut notes = StdSink::new(rt.stderr());
-    let mut disk = FileDisk::new(rt, path);
+    let mut disk = FileDisk::new(rt, path, absent(words));
     let mut clock = SystemClock::new(rt);
     let mut net = TcpPort::new(rt);
-    run(
+    let status = run(
         rt.alloc(),
         words,
         &mut input,
@@ -38,7 +59,9 @@ fn over(rt: &HostRuntime, path: &str, words: &[String]) -> u8 {
         &mut disk,
         &mut clock,
         &mut net,
-    )
+    );
+    tell_reason(rt, path, disk.reason());
+    status
 }
 
 /// The first word is the journal file; the others say what to do. Without a first word there are
@@ -47,7 +70,7 @@ fn main(rt: HostRuntime) -> ExitCode {
     let arguments = match env::args(&rt) {
         Ok(arguments) => arguments,
         Err(error) => {
-            if error.kind() == io::ErrorKind::InvalidData {
+            if error.kind() == ErrorKind::InvalidData {
                 return ExitCode::from(USAGE);
             }
             return ExitCode::from(NO_MEMORY);
