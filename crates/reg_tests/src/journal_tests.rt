@@ -53,18 +53,18 @@ fn expect_first(rt: &impl Abort, records: Records, count: u64) {
     assert!(rt; records.take_first().is_none());
 }
 
-/// A journal begins with four calls. Then each append takes six: three writes, a sync, the write
-/// that opens the gate, and a sync. Once the gate is written the payload is there.
+/// A journal begins with four calls. Then each append takes eight: the length, a read, three writes,
+/// a sync, the write that opens the gate, and a sync. Once the gate is written the payload is there.
 #[test]
 fn each_stop_of_ten_appends_opens(rt: HostRuntime) -> Result<(), Fail> {
     let alloc = rt.alloc();
-    for stop in 0..61u64 {
+    for stop in 0..81u64 {
         let mut journal = begun(alloc, stop + 5)?;
-        assert_eq!(rt; acknowledged(&mut journal), stop / 6);
+        assert_eq!(rt; acknowledged(&mut journal), stop / 8);
         let disk = journal.into_disk();
         let records = opened(alloc, disk.bytes())?;
-        let is_open = stop % 6 == 5;
-        expect_first(&rt, records, stop / 6 + u64::from(is_open));
+        let is_open = stop % 8 == 7;
+        expect_first(&rt, records, stop / 8 + u64::from(is_open));
     }
     Ok(())
 }
