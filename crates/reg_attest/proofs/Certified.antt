@@ -1,5 +1,5 @@
 -- The last certification by a moment: one more, none between two moments, and at a certified moment.
-use Rattle.std.proofs.Common.{◌≡◌, ◌+◌, ◌<◌, ◌≤◌, ◌⊎◌, ℕ, List, [], ◌∷◌, ◌++◌, Bool, true, false, Some, None, max, length, get_or, take, nat_le, unwrap_or, arith, refl, sym, ◌∙◌, ap, inl, inr, append-nil}
+use Rattle.std.proofs.Common.{◌≡◌, ◌+◌, ◌<◌, ◌≤◌, ◌⊎◌, ℕ, List, [], ◌∷◌, ◌++◌, true, false, Some, max, length, get_or, take, nat_le, unwrap_or, arith, refl, sym, ◌∙◌, ap, inl, inr, append-nil}
 use Rattle.std.specs.List.{AllByRecursion, Contains, filter}
 use Rattle.std.proofs.lemmas.Bool.{cases_Bool}
 use Rattle.std.proofs.lemmas.Bool.Decides.{nat_tests}

@@ -1,11 +1,11 @@
 -- The state stays as it is between the moments that `changes` gives.
-use Rattle.std.proofs.Common.{◌≡◌, ◌+◌, ◌-◌, ◌*◌, ◌<◌, ◌≤◌, ℕ, List, [], ◌∷◌, ◌++◌, Bool, true, false, Option, Some, None, max, unwrap_or, nat_le, nat_lt, arith, refl, sym, ◌∙◌, ap, subst, inl, inr}
+use Rattle.std.proofs.Common.{◌≡◌, ◌+◌, ◌-◌, ◌*◌, ◌<◌, ◌≤◌, ℕ, List, [], ◌∷◌, ◌++◌, Bool, true, Option, Some, None, max, unwrap_or, nat_le, nat_lt, arith, refl, sym, ◌∙◌, ap, subst, inl, inr}
 use Rattle.std.specs.List.{AllByRecursion, filter, flat_map}
 use Rattle.std.proofs.lemmas.Bool.{cases_Bool}
 use Rattle.std.proofs.lemmas.Bool.Decides.{nat_tests}
 use Rattle.reg_base.specs.Calendar.{day_micros}
 use Rattle.reg_base.specs.declared.moment.TheConstants.{GREATEST_MOMENT}
-use Rattle.reg_attest.specs.Attested.{cert, latest, changes, ended, ending, notice, state_at, state_of, turns}
+use Rattle.reg_attest.specs.Attested.{cert, latest, changes, ended, notice, state_at, state_of, turns}
 use Rattle.reg_attest.proofs.Certified.{cert_stays}
 
 module _ (u t : ℕ) (w : u ≤ t) where

@@ -1,5 +1,5 @@
 -- Two lists of the states at the same moments are one.
-use Rattle.std.proofs.Common.{◌≡◌, ◌+◌, ◌<◌, ◌≤◌, ℕ, List, [], ◌∷◌, Bool, true, false, cond, Option, Some, None, unwrap_or, nat_le, nat_lt, arith, refl, sym, ◌∙◌, ap, subst, inl, inr}
+use Rattle.std.proofs.Common.{◌≡◌, ◌+◌, ◌<◌, ◌≤◌, ℕ, List, [], ◌∷◌, true, false, cond, Option, Some, None, unwrap_or, nat_le, nat_lt, arith, refl, sym, ◌∙◌, ap, subst, inl, inr}
 use Rattle.std.specs.Prelude.{option_map, ◌≢◌}
 use Rattle.std.specs.List.{AllByRecursion, filter, last_or}
 use Rattle.std.proofs.lemmas.Bool.{cases_Bool}

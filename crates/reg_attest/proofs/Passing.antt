@@ -1,12 +1,12 @@
 -- From one stretch to the next.
-use Rattle.std.proofs.Common.{◌≡◌, ◌+◌, ◌<◌, ◌≤◌, ℕ, List, [], ◌∷◌, Bool, true, false, Option, Some, None, min, nat_le, arith, refl, sym, ◌∙◌, ap, subst, length, inl, inr}
+use Rattle.std.proofs.Common.{◌≡◌, ◌+◌, ◌<◌, ◌≤◌, ℕ, List, [], ◌∷◌, true, false, Option, Some, min, nat_le, arith, refl, sym, ◌∙◌, ap, subst, length, inl, inr}
 use Rattle.std.specs.List.{filter, last_or}
 use Rattle.std.proofs.lemmas.Bool.{cases_Bool}
 use Rattle.std.proofs.lemmas.Bool.Decides.{nat_tests}
 use Rattle.reg_attest.specs.declared.state.State.{State}
 use Rattle.reg_attest.specs.declared.state.StateKind.{StateKind}
 use Rattle.reg_attest.specs.Attested.{state_at}
-use Rattle.reg_attest.specs.Stretches.{AreStretches, BeginAt, begin_of, Held, held_at, Neighbours, state_held, state_over}
+use Rattle.reg_attest.specs.Stretches.{AreStretches, begin_of, Held, held_at, Neighbours, state_held, state_over}
 use Rattle.reg_attest.specs.States.{AreBefore, AreStates}
 use Rattle.reg_attest.proofs.OneList.{up_to_now}
 

@@ -1,6 +1,6 @@
 // For how many days a certification lasts.
-ghost use Rattle.std.specs.Prelude.{◌≡◌, ◌≤◌};
-ghost use Rattle.reg_attest.specs.Attested.{days_in};
+ghost use Rattle.std.specs.Prelude.{◌≡◌, ◌≤◌, map};
+ghost use Rattle.reg_attest.specs.Attested.{days_in, days_of};
 
 use std::marker::Model;
 
@@ -46,4 +46,14 @@ pub fn days_in(value: i64) -> Option<Days>
     } else {
         None
     }
+}
+
+/// The days that the first value of the first of some assignments gives. A value is a whole number,
+/// or None for something else. None exactly where there is no such value, or it gives no days,
+/// whatever the others give.
+pub fn days_of(assignments: &[Vec<Option<i64>>]) -> Option<Days>
+    ensures { result ≡ days_of (map (λ values. values.items) assignments.now) }
+{
+    let value = assignments.first()?.first()?;
+    days_in((*value)?)
 }

@@ -8,7 +8,7 @@ mod listing;
 mod state;
 mod stretch;
 
-pub use days::{Days, days_in};
+pub use days::{Days, days_in, days_of};
 pub use laws::{law_constant, law_one_list};
 pub use listing::states;
 pub use state::{State, StateKind, state_at};

@@ -1,4 +1,4 @@
-use Rattle.std.proofs.Common.{ℕ, List, ◌++◌, arith, sym, subst}
+use Rattle.std.proofs.Common.{ℕ, List, arith, sym, subst}
 use Rattle.reg_attest.specs.declared.state.StateKind.{StateKind}
 use Rattle.reg_attest.proofs.Noting.{Noted, noted_again, noted_anew}
 use Rattle.reg_attest.proofs.listing.note.Goals as goal

@@ -1,4 +1,4 @@
-use Rattle.std.proofs.Common.{ℕ, ◌+◌, List, ◌∷◌, drop, subst}
+use Rattle.std.proofs.Common.{ℕ, ◌+◌, List, drop, subst}
 use Rattle.reg_attest.specs.Between.{AllBetween}
 use Rattle.reg_attest.proofs.Noting.{on_ok}
 use Rattle.reg_attest.proofs.Sweeping.{Adds, next_found, none_left, sweep_ends, sweep_on}

@@ -1,4 +1,4 @@
-use Rattle.std.proofs.Common.{◌≡◌, drop}
+use Rattle.std.proofs.Common.{drop}
 use Rattle.reg_attest.specs.Between.{AllBetween}
 use Rattle.reg_attest.proofs.Sweeping.{Swept}
 use Rattle.reg_attest.proofs.listing.note_certified.Given as goal

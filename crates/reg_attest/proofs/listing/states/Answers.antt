@@ -1,4 +1,4 @@
-use Rattle.std.proofs.Common.{ℕ, ◌+◌, List, arith, subst}
+use Rattle.std.proofs.Common.{◌+◌, List, arith, subst}
 use Rattle.reg_attest.specs.Stretches.{Held}
 use Rattle.reg_attest.proofs.Passing.{all_listed, Listed, one_listed}
 use Rattle.reg_attest.proofs.listing.states.Goals as goal
