@@ -3,8 +3,8 @@
 are no comments here: docs/serving/follow.py copies the journal, and docs/serving/standby.sh serves snapshots of the copy.
 Each server ends after 1,000 connections, and every third is killed before; the next begins a tenth of a second later, as the
 unit does. No question may fail: each has to be answered 200, with the members that the group has from the first to the last.
-Beside that someone writes persons, who is answered 502 meanwhile, asks then, and writes on: who was acknowledged has to stand
-in the end. Build the program first (./quickstart.sh). It needs nginx, openssl and curl. Words: how many restarts. PERSONS
+Beside that someone makes groups, is answered 502 meanwhile, and sends the same again: those that were acknowledged have to
+stand in the end, and no other. Build the program first (./quickstart.sh). It needs nginx, openssl and curl. Words: how many restarts. PERSONS
 sets how many the journal begins with."""
 import json
 import multiprocessing
@@ -21,7 +21,7 @@ import time
 from fronting import MESSAGES, SERVING, FrontEnd
 from serving import PROGRAM, Answers, commands_in, connect, free_port, needs_program, write_journal
 
-RESTARTS = int(sys.argv[1]) if len(sys.argv) > 1 else 20
+RESTARTS = int(sys.argv[1]) if len(sys.argv) > 1 else 10
 PERSONS, CLIENTS, CONNECTIONS = int(os.environ.get("PERSONS", 20000)), 4, 1000
 AT = "2025-09-01T08:00:00Z"
 
@@ -113,15 +113,18 @@ class Writer(threading.Thread):
         while self.going:
             body = json.dumps({"op": "group.add", "group": "g%d" % self.acknowledged}).encode()
             sent = self.front.message("POST", "/requests", ["Content-Type: application/json"], body)
-            status = self.front.ask(sent).status
-            if status == 502:
+            try:
+                response = self.front.ask(sent)
+            except OSError:
+                response = None
+            if response is None or response.status == 502:
                 self.unanswered += 1
                 time.sleep(0.05)
-            elif status in (200, 409):
-                self.taken += status == 409
+            elif response.status in (200, 409):
+                self.taken += response.status == 409
                 self.acknowledged += 1
             else:
-                raise SystemExit("a command is answered %d" % status)
+                raise SystemExit("a command is answered %r" % response.bytes)
 
 
 def passed_on(front):
@@ -182,7 +185,7 @@ def main():
     print("%d restarts, %d of them after a kill; each until it answers %.2f s, at most %.2f" % (
         len(registry.times) - 1, registry.kills, statistics.median(registry.times), max(registry.times)))
     print("%d questions, %d failed; a standby answered %d" % (sum(count for count, _ in told), len(failed), standbys))
-    print("%d commands acknowledged, answered 502 before that %d times, %d of which were kept; the journal has %d of them" % (
+    print("%d commands acknowledged, which weren't answered %d times before, %d of them though they were kept; the journal has %d" % (
         writer.acknowledged, writer.unanswered, writer.taken, kept))
     for failure in failed[:10]:
         print("failed: %r" % failure)
