@@ -5,7 +5,7 @@ that sends half a message, and one that doesn't read a response of 6 MB, keep no
 answered; a chunked body is taken, and one that is too long refused; where the registry breaks off, a question goes on to a
 standby and a command doesn't. Each answer is JSON that nobody stores. Then docs/serving/auditors.conf: an auditor reads as
 root, and nobody else and nothing else gets through. Beside that, how long the same two slow clients keep others waiting at
-the registry's own port. It needs nginx and openssl.
+the registry's own port. It needs nginx, openssl and PyYAML.
 Build the program first (./quickstart.sh). PERSONS sets how many make the 6 MB."""
 import json
 import os
@@ -18,6 +18,7 @@ import threading
 import time
 
 from fronting import SERVING, FrontEnd
+from http_examples import at, read
 from serving import Answers, Server, ask, connect, free_port, message, needs_program, write_journal
 
 sys.path.append(SERVING)
@@ -27,6 +28,8 @@ PERSONS, CLIENTS, HELD = int(os.environ.get("PERSONS", 60000)), 200, 2.0
 AT = "2025-09-01T08:00:00Z"
 wrong, stored = [], []
 CROSS_SITE, MEDIA_TYPE = (403, {"code": 41, "refused": "CrossSite"}), (415, {"code": 42, "refused": "MediaType"})
+NO_CREDENTIALS, TOO_LONG = (401, {"code": 40, "refused": "NoCredentials"}), (413, {"code": 1, "limit": 8388608, "refused": "TooLong"})
+UNREACHABLE, TIMEOUT = (502, {"fault": "unreachable"}), (504, {"fault": "timeout"})
 JSON, OWN = "Content-Type: application/json", "Origin: https://localhost"
 
 
@@ -121,16 +124,17 @@ def try_callers(front):
     denied = (403, {"code": 7, "object": ":", "privilege": "create", "refused": "Denied"})
     fields = ["X-Registry-Caller: g:isa/GrouperSystem", JSON]
     expect("and may do nothing by it", told(front.ask(front.message("POST", "/requests", fields, body))), denied)
+    coded = front.message("GET", "/subjects/uni%2Fann/groups")
+    expect("a path reaches the registry as it came", told(front.ask(coded)), (200, {"groups": [], "ok": True}))
     chunked = b"%x\r\n%s\r\n0\r\n\r\n" % (len(body), body)
     sent = front.message("POST", "/requests", [JSON, "Transfer-Encoding: chunked"]) + chunked
     expect("a chunked body reaches the registry", told(front.ask(sent)), denied)
-    too_long = (413, {"code": 1, "limit": 8388608, "refused": "TooLong"})
     sent = front.message("POST", "/requests", [JSON, "Content-Length: 8388609"])
-    expect("a body that is too long is refused", told(front.ask(sent)), too_long)
+    expect("a body that is too long is refused", told(front.ask(sent)), TOO_LONG)
     no_caller = (403, {"code": 5, "refused": "NoCaller"})
     expect("an organisation's name names no caller", told(front.ask(small, "carl")), no_caller)
     response = front.ask(small, None)
-    expect("who has neither certificate nor password is refused", told(response), (401, {"code": 40, "refused": "NoCredentials"}))
+    expect("who has neither certificate nor password is refused", told(response), NO_CREDENTIALS)
     expect("and asked for a password", response.fields.get("WWW-Authenticate"), 'Basic realm="registry"')
 
 
@@ -187,19 +191,18 @@ class Breaking:
 def try_faults(folder, standby):
     """What the front end says of a registry that isn't there, breaks off, or is late."""
     body = b'{"op":"group.add","group":"own:once"}'
-    unreachable, late = (502, {"fault": "unreachable"}), (504, {"fault": "timeout"})
     with FrontEnd(folder, free_port()) as front:
         post = front.message("POST", "/requests", [JSON], body)
         small = front.message("GET", "/groups/small/members")
-        expect("no registry", told(front.ask(small)), unreachable)
+        expect("no registry", told(front.ask(small)), UNREACHABLE)
     breaking, slow = Breaking(), Breaking(5.0)
     with FrontEnd(folder, breaking.port, (standby, free_port())) as front:
         members = (200, {"members": [], "ok": True})
         expect("the registry breaks off, and a standby answers", told(front.ask(small)), members)
-        expect("a command isn't sent to it", told(front.ask(post)), unreachable)
+        expect("a command isn't sent to it", told(front.ask(post)), UNREACHABLE)
         expect("nor twice to the registry", breaking.count, 2)
     with FrontEnd(folder, slow.port, changes=[("proxy_read_timeout 60s", "proxy_read_timeout 1s")]) as front:
-        expect("the registry is late", told(front.ask(post)), late)
+        expect("the registry is late", told(front.ask(post)), TIMEOUT)
         expect("a command is sent once", slow.count, 1)
 
 
@@ -226,11 +229,30 @@ def try_client(front):
         found = anonymous.admin()
     except Refused as refused:
         found = refused.status, refused.reply
-    expect("client.py without a certificate", found, (401, {"code": 40, "refused": "NoCredentials"}))
+    expect("client.py without a certificate", found, NO_CREDENTIALS)
     context.load_cert_chain(front.folder + "/ann.pem", front.folder + "/ann.key")
     ann = Registry("https://localhost:%d" % front.port, context)
     expect("client.py asks", ann.members("small"), {"members": [], "ok": True})
     expect("client.py commands", ann.request({"op": "group.add", "group": "own:client"})["ok"], True)
+
+
+def replies(document, operation, status):
+    """What the responses of an operation with a status may say in place of an answer."""
+    schema = at(document, operation["responses"].get(str(status), {}))["content"]["application/json"]["schema"]
+    found = [at(document, each)["properties"] for each in schema.get("oneOf", [schema])]
+    return [word for each in found for word in each.get("refused", each.get("fault"))["enum"]]
+
+
+def try_listed():
+    """Whether openapi.yaml has what the front end answers itself at each operation."""
+    document = read("openapi.yaml")
+    for path, methods in document["paths"].items():
+        for method, operation in methods.items():
+            own = [NO_CREDENTIALS, TOO_LONG, UNREACHABLE, TIMEOUT] + ([CROSS_SITE, MEDIA_TYPE] if method == "post" else [])
+            for status, reply in own:
+                word = reply.get("refused", reply.get("fault"))
+                if word not in replies(document, operation, status):
+                    expect("%s %s lists %d" % (method, path, status), "no " + word, word)
 
 
 def main():
@@ -258,6 +280,7 @@ def main():
         with Server(copy) as standby:
             try_faults(folder, standby.port)
             try_auditors(folder, standby.port)
+        try_listed()
         expect("each answer is JSON that nobody stores", stored, [])
     sys.exit(1 if wrong else 0)
 

@@ -3,9 +3,9 @@
 are no comments here: docs/serving/follow.py copies the journal, and docs/serving/standby.sh serves snapshots of the copy.
 Each server ends after 1,000 connections, and every third is killed before; the next begins a tenth of a second later, as the
 unit does. No question may fail: each has to be answered 200, with the members that the group has from the first to the last.
-Beside that someone makes groups, is answered 502 meanwhile, and sends the same again: those that were acknowledged have to
-stand in the end, and no other. Build the program first (./quickstart.sh). It needs nginx, openssl and curl. Words: how many restarts. PERSONS
-sets how many the journal begins with."""
+Beside that someone makes groups, and sends a command that isn't answered again: as many as were acknowledged have to be in
+the journal in the end, or one more. Build the program first (./quickstart.sh). It needs nginx, openssl and curl. Words: how
+many restarts. PERSONS sets how many the journal begins with."""
 import json
 import multiprocessing
 import os
