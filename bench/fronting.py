@@ -1,7 +1,8 @@
-"""Runs nginx as docs/serving/nginx.conf has it, before a served registry, for the benchmarks beside this file: on another
+"""Runs nginx as a file of docs/serving has it, before a served registry, for the benchmarks beside this file: on another
 port, with certificates of its own. It needs nginx and openssl."""
 import multiprocessing
 import os
+import re
 import socket
 import ssl
 import subprocess
@@ -9,7 +10,7 @@ import time
 
 from serving import Answers, free_port
 
-CONFIG = os.path.join(os.path.dirname(os.path.dirname(os.path.abspath(__file__))), "docs/serving/nginx.conf")
+SERVING = os.path.join(os.path.dirname(os.path.dirname(os.path.abspath(__file__))), "docs/serving")
 CURVE = ["-newkey", "ec", "-pkeyopt", "ec_paramgen_curve:P-256", "-nodes"]
 # nginx closes a connection after so many messages; a client opens another before
 MESSAGES = 900
@@ -17,16 +18,18 @@ MESSAGES = 900
 
 class FrontEnd:
     """nginx before the registry on a port. The client's certificate is that of `uni/ann`; another is Carl's, whose
-    organisation has the text of Ann's name in its own."""
+    organisation has the text of Ann's name in its own, and one is Dora's, an auditor. Where standbys serve on two ports, the
+    lines of the configuration that name such are no comments. `changes` are further texts of it, each with what replaces it."""
 
-    def __init__(self, folder, registry):
-        self.folder, self.port = os.path.join(folder, "front"), free_port()
+    def __init__(self, folder, registry=None, standbys=(), config="nginx.conf", changes=()):
+        self.port = free_port()
+        self.folder = os.path.join(folder, "front-%d" % self.port)
         os.makedirs(self.folder)
         # its workers may be another user
         for place in (folder, self.folder):
             os.chmod(place, 0o755)
         self.certificates()
-        self.configure(registry)
+        self.configure(config, dict(zip((8080, 8081, 8082), (registry, *standbys))), changes)
         self.process = subprocess.Popen(["nginx", "-p", self.folder, "-c", self.folder + "/nginx.conf", "-e", "error.log"])
         while True:
             try:
@@ -46,20 +49,26 @@ class FrontEnd:
         self.openssl("req", "-x509", *CURVE, "-subj", "/CN=Trial authority", "-keyout", "clients.key", "-out", "clients.pem")
         self.client_certificate("ann", "/CN=ann")
         self.client_certificate("carl", "/CN=carl/O=Some,CN=ann")
+        self.client_certificate("dora", "/CN=dora")
 
     def client_certificate(self, name, subject):
         self.openssl("req", *CURVE, "-subj", subject, "-keyout", name + ".key", "-out", name + ".csr")
         self.openssl("x509", "-req", "-in", name + ".csr", "-CA", "clients.pem", "-CAkey", "clients.key", "-CAcreateserial",
                      "-out", name + ".pem")
 
-    def configure(self, registry):
-        with open(CONFIG) as file:
+    def configure(self, config, ports, changes):
+        with open(os.path.join(SERVING, config)) as file:
             text = file.read()
-        for old, new in (("listen 443 ", "listen 127.0.0.1:%d " % self.port), ("127.0.0.1:8080", "127.0.0.1:%d" % registry),
-                         ("/etc/nginx/registry/", self.folder + "/"), ("/var/log/nginx/", self.folder + "/")):
+        changes = [("/etc/nginx/registry/", self.folder + "/"), ("/var/log/nginx/", self.folder + "/"), *changes]
+        for port, other in ports.items():
+            if other:
+                text = text.replace("# server 127.0.0.1:%d " % port, "server 127.0.0.1:%d " % port)
+                changes.append(("127.0.0.1:%d " % port, "127.0.0.1:%d " % other))
+        for old, new in changes:
             if old not in text:
-                raise SystemExit("docs/serving/nginx.conf has no %r" % old)
+                raise SystemExit("docs/serving/%s has no %r" % (config, old))
             text = text.replace(old, new)
+        text = re.sub(r"listen \d+ ", "listen 127.0.0.1:%d " % self.port, text)
         open(self.folder + "/passwords", "w").close()
         with open(self.folder + "/nginx.conf", "w") as file:
             file.write("daemon off;\nworker_processes 2;\npid %s/pid;\nevents { worker_connections 1024; }\n"
@@ -73,11 +82,14 @@ class FrontEnd:
         conn.setsockopt(socket.IPPROTO_TCP, socket.TCP_NODELAY, 1)
         return context.wrap_socket(conn, server_hostname="localhost")
 
-    def message(self, method, target):
-        return ("%s %s HTTP/1.1\r\nHost: localhost\r\n\r\n" % (method, target)).encode()
+    def message(self, method, target, fields=(), body=None):
+        lines = ["%s %s HTTP/1.1" % (method, target), "Host: localhost", *fields]
+        if body is not None:
+            lines.append("Content-Length: %d" % len(body))
+        return "\r\n".join([*lines, "", ""]).encode() + (body or b"")
 
-    def ask(self, sent):
-        with self.connect() as conn:
+    def ask(self, sent, certificate="ann"):
+        with self.connect(certificate) as conn:
             conn.sendall(sent)
             return Answers(conn).next()
 

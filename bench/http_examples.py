@@ -1,7 +1,8 @@
 #!/usr/bin/env python3
 """Sends every example of docs/openapi.yaml to the running server, in the order in which they stand, over one connection,
-and then every message of docs/serving/messages.yaml, each over its own; compares each response to the byte, and fails on
-any difference. Build the program first (./quickstart.sh). It needs PyYAML (Debian: python3-yaml)."""
+and then every message of docs/serving/messages.yaml, each over its own; compares each response to the byte. Then plays the
+examples through docs/serving/client.py to a server of its own, and compares each reply. Fails on any difference. Build the
+program first (./quickstart.sh). It needs PyYAML (Debian: python3-yaml)."""
 import json
 import os
 import re
@@ -14,6 +15,8 @@ import yaml
 from serving import Answers, Server, commands_in, connect, message, needs_program, write_journal
 
 DOCS = os.path.join(os.path.dirname(os.path.dirname(os.path.abspath(__file__))), "docs")
+sys.path.append(os.path.join(DOCS, "serving"))
+from client import Refused, Registry
 
 
 def read(name):
@@ -50,6 +53,7 @@ class Example:
     def __init__(self, document, path, method, operation, name, status, reply):
         self.title = "%s %s, %s" % (method.upper(), path, name)
         self.status, self.reply = int(status), compact(reply)
+        self.call, self.arguments, self.fields = operation["operationId"], {}, {}
         target, query, caller = path, [], None
         for parameter in (at(document, p) for p in operation["parameters"]):
             value = parameter.get("examples", {}).get(name, {}).get("value")
@@ -61,11 +65,15 @@ class Example:
                 query.append((parameter["name"], value))
             elif parameter["in"] == "header":
                 caller = value
+                self.fields = {parameter["name"]: value}
+            if parameter["in"] != "header":
+                self.arguments[parameter["name"]] = value
         body = None
         if body_of(operation):
             kind, media = body_of(operation)
             value = media["examples"][name]["value"]
             body = (json.dumps(value) if kind == "application/json" else value).encode()
+            self.arguments["request" if kind == "application/json" else "table"] = value if kind == "application/json" else body
         if query:
             target += "?" + urllib.parse.urlencode(query)
         self.sent = message(method.upper(), target, caller, body)
@@ -117,6 +125,17 @@ def ask(answers, example):
     return None if found == wanted else "wanted %r\n  found  %r" % (wanted, found)
 
 
+def play(port, example):
+    """What differs in what the client gives of an example, or None."""
+    registry = Registry("http://127.0.0.1:%d" % port, fields=example.fields)
+    try:
+        found = 200, getattr(registry, example.call)(**example.arguments)
+    except Refused as refused:
+        found = refused.status, refused.reply
+    wanted = example.status, json.loads(example.reply)
+    return None if found == wanted else "wanted by the client %r\n  found  %r" % (wanted, found)
+
+
 def exchange(port, sent, ends):
     """What comes back to bytes, up to a whole response, or to the connection's end where it ends by itself."""
     with connect(port) as conn:
@@ -151,12 +170,20 @@ def main():
                         wrong += 1
                         print("%s:\n  %s" % (example.title, differs))
             for raw in messages:
-                sent = re.sub(r"\{(\d+) (\w)\}", lambda m: m[2] * int(m[1]), raw["send"]).encode()
+                sent = re.sub(r"\{(\d+) ([^}])\}", lambda m: m[2] * int(m[1]), raw["send"]).encode("latin-1")
                 found = exchange(server.port, sent, raw.get("closes", False))
                 if found != raw["back"].encode():
                     wrong += 1
                     print("%s\n  wanted %r\n  found  %r" % (raw["says"], raw["back"].encode(), found))
-    print("%d examples and %d messages sent, %d answered otherwise" % (count, len(messages), wrong))
+        write_journal(journal, commands)
+        with Server(journal) as server:
+            for played, example in enumerate(examples_of(document), 1):
+                differs = play(server.port, example)
+                if differs:
+                    wrong += 1
+                    print("%s:\n  %s" % (example.title, differs))
+    print("%d examples and %d messages sent, %d examples played by the client, %d answered otherwise" % (
+        count, len(messages), played, wrong))
     sys.exit(1 if wrong or not count else 0)
 
 
