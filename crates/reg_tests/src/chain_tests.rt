@@ -3,6 +3,7 @@
 // at each command, or folds the history again for each past moment, doesn't end in a test's time.
 ghost use Rattle.std.specs.Prelude.{◌≡◌, ◌<◌};
 
+use crate::lines::put_line;
 use reg_base::{GroupId, Moment, Steps, SubjectId};
 use reg_effect::{Incremental, Kept};
 use reg_keep::{NoKeeper, Records};
@@ -21,13 +22,6 @@ const FIRST_TURN: u64 = 4_401;
 
 /// The last command, and its moment.
 const LAST: u64 = 54_400;
-
-/// Puts a line of the registry itself, with the fields that follow its caller.
-fn put_line(alloc: Global, lines: &mut Vec<u8>, op: &str, fields: &str) -> Result<(), Fail> {
-    let line = format!(in alloc; "{{\"by\":\"g:isa/GrouperSystem\",\"op\":\"{op}\",{fields}}}\n")?;
-    lines.extend_from_slice(line.as_bytes())?;
-    Ok(())
-}
 
 /// The subjects and the groups.
 fn put_objects(alloc: Global, lines: &mut Vec<u8>) -> Result<(), Fail> {

@@ -4,14 +4,16 @@ use reg_outside::{
     write_whole,
 };
 use std::cell::Cell;
-use std::fs::{exists, remove_file};
+use std::fs::{exists, metadata, remove_file};
 use std::io::{self, ErrorKind, Read, Write};
-use std::os::unix::fs::symlink;
+use std::os::unix::fs::{PermissionsExt, symlink};
 use std::rt;
 use std::test::Fail;
 use std::time::Duration;
 
 const FILE: &str = "file_disk_test";
+
+const OWNED: &str = "file_disk_owned";
 
 const LINK: &str = "file_disk_link";
 
@@ -34,6 +36,19 @@ fn a_file_reads_what_was_written_and_is_locked(rt: HostRuntime) -> Result<(), Fa
     drop(disk);
     assert!(rt; other.len() == Ok(4));
     assert!(rt; remove_file(&rt, FILE).is_ok());
+    Ok(())
+}
+
+#[test]
+fn a_new_file_is_for_its_owner_alone(rt: HostRuntime) -> Result<(), Fail> {
+    let _ = remove_file(&rt, OWNED);
+    let mut disk = FileDisk::new(&rt, OWNED);
+    assert!(rt; disk.write_at(0, b"a") == Ok(()));
+    let Ok(about) = metadata(&rt, OWNED) else {
+        return Err(Fail::from("there is no file"));
+    };
+    assert_eq!(rt; about.permissions().mode() & 0o777, 0o600);
+    assert!(rt; remove_file(&rt, OWNED).is_ok());
     Ok(())
 }
 
