@@ -42,7 +42,7 @@ fn a_file_reads_what_was_written_and_is_locked(rt: HostRuntime) -> Result<(), Fa
 #[test]
 fn a_new_file_is_for_its_owner_alone(rt: HostRuntime) -> Result<(), Fail> {
     let _ = remove_file(&rt, OWNED);
-    let mut disk = FileDisk::new(&rt, OWNED);
+    let mut disk = FileDisk::new(&rt, OWNED, Absent::Make);
     assert!(rt; disk.write_at(0, b"a") == Ok(()));
     let Ok(about) = metadata(&rt, OWNED) else {
         return Err(Fail::from("there is no file"));
