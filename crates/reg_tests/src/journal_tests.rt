@@ -53,8 +53,9 @@ fn expect_first(rt: &impl Abort, records: Records, count: u64) {
     assert!(rt; records.take_first().is_none());
 }
 
-/// A journal begins with four calls. Then each append takes eight: the length, a read, three writes,
-/// a sync, the write that opens the gate, and a sync. Once the gate is written the payload is there.
+/// A journal begins with four calls. Then each append takes eight: the length, a read, three
+/// writes, a sync, the write that opens the gate, and a sync. Once the gate is written the payload
+/// is there.
 #[test]
 fn each_stop_of_ten_appends_opens(rt: HostRuntime) -> Result<(), Fail> {
     let alloc = rt.alloc();
