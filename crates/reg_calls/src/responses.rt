@@ -107,6 +107,31 @@ pub fn no_memory(close: bool) -> &'static [u8]
     }
 }
 
+/// The response that the disk failed. It takes no memory.
+fn keep_fault_open() -> &'static [u8]
+    ensures { result.now ≡ response 500 None false (line_of reply.KeepFault) }
+{
+    b"HTTP/1.1 500 Internal Server Error\r\nContent-Type: application/json\r\nContent-Length: 17\r\n\r\n{\"fault\":\"disk\"}\n"
+}
+
+/// The same, where the connection closes.
+fn keep_fault_closed() -> &'static [u8]
+    ensures { result.now ≡ response 500 None true (line_of reply.KeepFault) }
+{
+    b"HTTP/1.1 500 Internal Server Error\r\nContent-Type: application/json\r\nContent-Length: 17\r\nConnection: close\r\n\r\n{\"fault\":\"disk\"}\n"
+}
+
+/// The response that the disk failed, whatever was asked.
+pub fn keep_fault(close: bool) -> &'static [u8]
+    ensures { result.now ≡ response 500 None close (line_of reply.KeepFault) }
+{
+    if close {
+        keep_fault_closed()
+    } else {
+        keep_fault_open()
+    }
+}
+
 /// The response to a head that isn't taken.
 pub fn fault_response(alloc: Global, reply: &Reply) -> Result<Vec<u8>, AllocError>
     ensures { IfOk result (λ text. text.items ≡ fault_response reply.now) }

@@ -28,5 +28,5 @@ mod taking;
 
 pub use laws::{law_any_order_of_keys, law_long_is_refused, law_read_is_formed};
 pub use read_back::read_reply;
-pub use reply::{append_line, append_reply, no_memory_line, write_reply};
+pub use reply::{append_line, append_reply, keep_fault_line, no_memory_line, write_reply};
 pub use request::{read_body, read_request};

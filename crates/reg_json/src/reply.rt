@@ -155,3 +155,10 @@ pub fn no_memory_line() -> &'static [u8]
 {
     b"{\"fault\":\"memory\"}\n"
 }
+
+/// The text of the reply that the disk failed, with its LF. It takes no memory.
+pub fn keep_fault_line() -> &'static [u8]
+    ensures { result.now ≡ text Reply.KeepFault ++ 10 ∷ [] }
+{
+    b"{\"fault\":\"disk\"}\n"
+}

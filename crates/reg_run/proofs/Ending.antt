@@ -33,14 +33,14 @@ use Rattle.reg_run.specs.declared.status.End.TheVariants as the_end
 -- answering the lines stopped
 pub apply_stopped : (s : Stop) (from : State) (taken : List ℕ) (before after : World) (more : List Stamped) (n : ℕ) (answered kept : List Stamped) → (s ≡ stop.Input → Rose before.reads after.reads)
     → (s ≡ stop.Output → Rose before.writes after.writes) → (s ≡ stop.Disk → Rose before.faults after.faults) → from.history ++ take n more ≡ answered → kept ≡ from.history ++ more
-    → EndsInput (begins_at before from) taken after.left after.written after.flushed answered kept s → ApplyEnds (end_of_stop s) from taken before after more (from.history ++ take n more)
+    → EndsInput (begins_at before from) taken after.left after.written after.flushed (Rose before.writes after.writes) answered kept s → ApplyEnds (end_of_stop s) from taken before after more (from.history ++ take n more)
 apply_stopped s from taken before after more n answered kept input output disk front grown ends =
     cases s input output disk
-    (subst (λ (l : List Stamped). EndsInput (begins_at before from) taken after.left after.written after.flushed (from.history ++ take n more) l s) grown
-    (subst (λ (l : List Stamped). EndsInput (begins_at before from) taken after.left after.written after.flushed l kept s) (sym front) ends))
+    (subst (λ (l : List Stamped). EndsInput (begins_at before from) taken after.left after.written after.flushed (Rose before.writes after.writes) (from.history ++ take n more) l s) grown
+    (subst (λ (l : List Stamped). EndsInput (begins_at before from) taken after.left after.written after.flushed (Rose before.writes after.writes) l kept s) (sym front) ends))
   where
     cases : (s : Stop) → (s ≡ stop.Input → Rose before.reads after.reads) → (s ≡ stop.Output → Rose before.writes after.writes) → (s ≡ stop.Disk → Rose before.faults after.faults)
-        → EndsInput (begins_at before from) taken after.left after.written after.flushed (from.history ++ take n more) (from.history ++ more) s → ApplyEnds (end_of_stop s) from taken before after more (from.history ++ take n more)
+        → EndsInput (begins_at before from) taken after.left after.written after.flushed (Rose before.writes after.writes) (from.history ++ take n more) (from.history ++ more) s → ApplyEnds (end_of_stop s) from taken before after more (from.history ++ take n more)
     cases stop.Memory input output disk e = e
     cases stop.Disk input output disk e = (disk refl, e)
     cases stop.Input input output disk e = (input refl, e)
@@ -96,12 +96,12 @@ replied_front reading before after s m told first (inr is) front = inr (subst (�
 
 ask_ends : (reading : Result Request Refusal) (end : End) (before after : World) (s : State) (m : ℕ) (told : Reply) → AsksNoChange reading → IfSome before.moments (λ ms. m ≡ first_moment ms)
     → (told ≡ (turn s m reading).0) ⊎ (told ≡ reply.NoMemory) → Printed (end_of_reply told) (line_of told) end (output before) (output after) → AskEnds reading end s before after
-ask_ends reading end before after s m told query first (inl is) (inl p) = told_ends reading end before after s m told first is p.0 p.1 p.2 (told_reading s m reading query)
-ask_ends reading end before after s m told query first (inr is) (inl p) =
+ask_ends reading end before after s m told query first (inl is) (inl (inl p)) = told_ends reading end before after s m told first is p.0 p.1 p.2 (told_reading s m reading query)
+ask_ends reading end before after s m told query first (inr is) (inl (inl p)) =
     let memory : end ≡ the_end.Memory = p.0 ∙ ap end_of_reply is in
     rw memory (inl (p.1 ∙ ap (λ (r : Reply). append_known before.written (line_of r)) is, p.2))
-ask_ends reading end before after s m told query first t (inr (inl p)) = rw p.0 (p.1, replied_front reading before after s m told first t p.2, p.3)
-ask_ends reading end before after s m told query first t (inr (inr p)) = rw p.0 (inr (ap (λ (o : Out). o.written) p.1, ap (λ (o : Out). o.flushed) p.1, ap (λ (o : Out). o.writes) p.1))
+ask_ends reading end before after s m told query first t (inl (inr p)) = rw p.0 (p.1, replied_front reading before after s m told first t p.2, p.3)
+ask_ends reading end before after s m told query first t (inr p) = rw p.0 (inr (ap (λ (o : Out). o.written) p.1, ap (λ (o : Out). o.flushed) p.1, ap (λ (o : Out). o.writes) p.1))
 
 -- a service was asked
 pub asked_ends : (reading : Result Request Refusal) (end : End) (before after : World) (s : State) → AsksNoChange reading → Asked s before.moments reading end (output before) (output after) → AskEnds reading end s before after
@@ -126,17 +126,17 @@ six (inr (inl e)) = absurd (omega arith)
 six (inr (inr (inl e))) = absurd (omega arith)
 six (inr (inr (inr e))) = absurd (omega arith)
 
-stop_whole : (s : Stop) (p : Point) (taken : List ℕ) (left w : Option (List ℕ)) (f : Option ℕ) (answered after : List Stamped) → EndsInput p taken left w f answered after s
+stop_whole : (s : Stop) (p : Point) (taken : List ℕ) (left w : Option (List ℕ)) (f : Option ℕ) (failed : Type 0) (answered after : List Stamped) → EndsInput p taken left w f failed answered after s
     → IsWhole (status_of (end_of_stop s)) → answered ≡ after
-stop_whole stop.Memory p taken left w f answered after e is = absurd (three is)
-stop_whole stop.Disk p taken left w f answered after e is = absurd (four is)
-stop_whole stop.Input p taken left w f answered after e is = e.0.done ∙ sym e.0.kept
-stop_whole stop.Output p taken left w f answered after e is = absurd (six is)
-stop_whole stop.TooMuch p taken left w f answered after e is = e.0.done ∙ sym e.0.kept
+stop_whole stop.Memory p taken left w f failed answered after e is = absurd (three is)
+stop_whole stop.Disk p taken left w f failed answered after e is = absurd (four is)
+stop_whole stop.Input p taken left w f failed answered after e is = e.0.done ∙ sym e.0.kept
+stop_whole stop.Output p taken left w f failed answered after e is = absurd (six is)
+stop_whole stop.TooMuch p taken left w f failed answered after e is = e.0.done ∙ sym e.0.kept
 
-pub whole_stop : {K : Type 0} (g : Ghosts K) (p : Point) (old : K) (left now w : Option (List ℕ)) (f : Option ℕ) (why : Stop) (keeper : K) (s : StopsInput g p old left now w f why keeper)
+pub whole_stop : {K : Type 0} (g : Ghosts K) (p : Point) (old : K) (left now w : Option (List ℕ)) (f : Option ℕ) (failed : Type 0) (why : Stop) (keeper : K) (s : StopsInput g p old left now w f failed why keeper)
     → IsWhole (status_of (end_of_stop why)) → s.halted.answered ≡ s.halted.after
-whole_stop g p old left now w f why keeper s = stop_whole why p s.taken now w f s.halted.answered s.halted.after s.ends
+whole_stop g p old left now w f failed why keeper s = stop_whole why p s.taken now w f failed s.halted.answered s.halted.after s.ends
 
 -- an input that ended with fewer bytes had no more
 all_given : (Q : Type 0) (left now : Option (List ℕ)) (taken : List ℕ) → left ≡ prepend_known taken now → IsAtEnd now → length taken < 2 ^ 32 → IfSome left (λ bytes. 2 ^ 32 ≤ length bytes → Q)

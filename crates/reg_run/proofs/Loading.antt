@@ -145,9 +145,9 @@ end_fault reply.KeepFault e = refl
 
 -- what ends for the disk replies that the keeper failed
 printed_fault : (given : Reply) (bytes : List ℕ) (end : End) (old new : Out) → Printed (end_of_reply given) bytes end old new → end ≡ the_end.Disk → is_fault given ≡ true
-printed_fault given bytes end old new (inl p) is = end_fault given (sym p.0 ∙ is)
-printed_fault given bytes end old new (inr (inl p)) is = let both : the_end.Output ≡ the_end.Disk = sym p.0 ∙ is in absurd (cc)
-printed_fault given bytes end old new (inr (inr p)) is = let both : the_end.Memory ≡ the_end.Disk = sym p.0 ∙ is in absurd (cc)
+printed_fault given bytes end old new (inl (inl p)) is = end_fault given (sym p.0 ∙ is)
+printed_fault given bytes end old new (inl (inr p)) is = let both : the_end.Output ≡ the_end.Disk = sym p.0 ∙ is in absurd (cc)
+printed_fault given bytes end old new (inr p) is = let both : the_end.Memory ≡ the_end.Disk = sym p.0 ∙ is in absurd (cc)
 
 pub goes_sure : (s last : State) (m : ℕ) (reading : Result Request Refusal) (given : Reply) (bytes : List ℕ) (end : End) (old new : Out) → Turns s m reading given last → Printed (end_of_reply given) bytes end old new → end ≡ the_end.Disk → ⊥
 goes_sure s last m reading given bytes end old new t p is =
@@ -172,9 +172,9 @@ stops_once s m reading given after cause.Disk is began = inr (inr (is, refl, beg
 -- ---- the end
 
 fault_not_whole : (given : Reply) (bytes : List ℕ) (end : End) (old new : Out) → given ≡ reply.KeepFault → Printed (end_of_reply given) bytes end old new → IsWhole (status_of end) → ⊥
-fault_not_whole given bytes end old new is (inl p) whole = four (subst (λ (e : End). IsWhole (status_of e)) (p.0 ∙ ap end_of_reply is) whole)
-fault_not_whole given bytes end old new is (inr (inl p)) whole = six (subst (λ (e : End). IsWhole (status_of e)) p.0 whole)
-fault_not_whole given bytes end old new is (inr (inr p)) whole = three (subst (λ (e : End). IsWhole (status_of e)) p.0 whole)
+fault_not_whole given bytes end old new is (inl (inl p)) whole = four (subst (λ (e : End). IsWhole (status_of e)) (p.0 ∙ ap end_of_reply is) whole)
+fault_not_whole given bytes end old new is (inl (inr p)) whole = six (subst (λ (e : End). IsWhole (status_of e)) p.0 whole)
+fault_not_whole given bytes end old new is (inr p) whole = three (subst (λ (e : End). IsWhole (status_of e)) p.0 whole)
 
 once_whole : (s : State) (m : ℕ) (reading : Result Request Refusal) (given : Reply) (bytes : List ℕ) (end : End) (old new : Out) (answered kept : List Stamped) → TurnsOnce s m reading given answered kept
     → Printed (end_of_reply given) bytes end old new → IsWhole (status_of end) → answered ≡ kept

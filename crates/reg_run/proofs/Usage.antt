@@ -29,9 +29,9 @@ status_two the_end.Exists e = absurd (omega arith)
 status_two the_end.Refused e = absurd (omega arith)
 
 print_is_use : (bytes : List ℕ) (old new : Out) → Printed the_end.Done bytes the_end.Usage old new → ⊥
-print_is_use bytes old new (inl p) = let is : the_end.Usage ≡ the_end.Done = p.0 in absurd (cc)
-print_is_use bytes old new (inr (inl p)) = let is : the_end.Usage ≡ the_end.Output = p.0 in absurd (cc)
-print_is_use bytes old new (inr (inr p)) = let is : the_end.Usage ≡ the_end.Memory = p.0 in absurd (cc)
+print_is_use bytes old new (inl (inl p)) = let is : the_end.Usage ≡ the_end.Done = p.0 in absurd (cc)
+print_is_use bytes old new (inl (inr p)) = let is : the_end.Usage ≡ the_end.Output = p.0 in absurd (cc)
+print_is_use bytes old new (inr p) = let is : the_end.Usage ≡ the_end.Memory = p.0 in absurd (cc)
 
 reply_is_use : (told : Reply) → end_of_reply told ≡ the_end.Usage → ⊥
 reply_is_use (reply.Number n id) e = absurd (cc)
@@ -42,9 +42,9 @@ reply_is_use reply.NoMemory e = absurd (cc)
 reply_is_use reply.KeepFault e = absurd (cc)
 
 told_is_use : (told : Reply) (bytes : List ℕ) (old new : Out) → Printed (end_of_reply told) bytes the_end.Usage old new → ⊥
-told_is_use told bytes old new (inl p) = reply_is_use told (sym p.0)
-told_is_use told bytes old new (inr (inl p)) = let is : the_end.Usage ≡ the_end.Output = p.0 in absurd (cc)
-told_is_use told bytes old new (inr (inr p)) = let is : the_end.Usage ≡ the_end.Memory = p.0 in absurd (cc)
+told_is_use told bytes old new (inl (inl p)) = reply_is_use told (sym p.0)
+told_is_use told bytes old new (inl (inr p)) = let is : the_end.Usage ≡ the_end.Output = p.0 in absurd (cc)
+told_is_use told bytes old new (inr p) = let is : the_end.Usage ≡ the_end.Memory = p.0 in absurd (cc)
 
 load_is_use : (from : State) (job taken : List ℕ) (before after : World) (answered kept : List Stamped) → LoadBroke the_end.Usage from before after answered kept ⊎ LoadAsked the_end.Usage from job taken before after answered kept → ⊥
 load_is_use from job taken before after answered kept (inl broke) = let is : the_end.Usage ≡ the_end.Input = broke.0 in absurd (cc)

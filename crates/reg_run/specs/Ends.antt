@@ -115,25 +115,25 @@ ApplyEnds the_end.Done from taken before after accepted answered =
     AppliedAll from taken before after accepted
 ApplyEnds the_end.Usage from taken before after accepted answered = ⊥
 ApplyEnds the_end.Memory from taken before after accepted answered =
-    EndsInput (begins_at before from) taken after.left after.written after.flushed answered
-    (from.history ++ accepted) stop.Memory
+    EndsInput (begins_at before from) taken after.left after.written after.flushed
+    (Rose before.writes after.writes) answered (from.history ++ accepted) stop.Memory
 ApplyEnds the_end.Disk from taken before after accepted answered =
     Rose before.faults after.faults
-    × EndsInput (begins_at before from) taken after.left after.written after.flushed answered
-    (from.history ++ accepted) stop.Disk
+    × EndsInput (begins_at before from) taken after.left after.written after.flushed
+    (Rose before.writes after.writes) answered (from.history ++ accepted) stop.Disk
 ApplyEnds the_end.Input from taken before after accepted answered =
     Rose before.reads after.reads
-    × EndsInput (begins_at before from) taken after.left after.written after.flushed answered
-    (from.history ++ accepted) stop.Input
+    × EndsInput (begins_at before from) taken after.left after.written after.flushed
+    (Rose before.writes after.writes) answered (from.history ++ accepted) stop.Input
 ApplyEnds the_end.Output from taken before after accepted answered =
     Rose before.writes after.writes
-    × EndsInput (begins_at before from) taken after.left after.written after.flushed answered
-    (from.history ++ accepted) stop.Output
+    × EndsInput (begins_at before from) taken after.left after.written after.flushed
+    (Rose before.writes after.writes) answered (from.history ++ accepted) stop.Output
 ApplyEnds (the_end.Damaged at) from taken before after accepted answered = ⊥
 ApplyEnds the_end.Listener from taken before after accepted answered = ⊥
 ApplyEnds the_end.TooMuch from taken before after accepted answered =
-    EndsInput (begins_at before from) taken after.left after.written after.flushed answered
-    (from.history ++ accepted) stop.TooMuch
+    EndsInput (begins_at before from) taken after.left after.written after.flushed
+    (Rose before.writes after.writes) answered (from.history ++ accepted) stop.TooMuch
 ApplyEnds the_end.Exists from taken before after accepted answered = ⊥
 ApplyEnds the_end.Refused from taken before after accepted answered = ⊥
 

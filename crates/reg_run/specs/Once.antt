@@ -25,16 +25,19 @@ use Rattle.reg_run.specs.World.{Out}
 use Rattle.reg_run.specs.declared.status.End.{End}
 use Rattle.reg_run.specs.declared.status.End.TheVariants as the_end
 
--- How printing these bytes ends: they were written and flushed, and the end is this one; or the
--- output failed, a front of them stands there and isn't flushed; or there was no memory, and
--- nothing was written.
-abbrev pub Printed : End → List ℕ → End → Out → Out → Type 0
-Printed good bytes end old new =
+-- How writing these bytes ends: they were written and flushed, and the end is this one; or the
+-- output failed, a front of them stands there and isn't flushed.
+abbrev pub Put : End → List ℕ → End → Out → Out → Type 0
+Put good bytes end old new =
     ((end ≡ good) × (new.written ≡ append_known old.written bytes)
     × (new.flushed ≡ option_map length new.written))
-    ⊎ (((end ≡ the_end.Output) × Rose old.writes new.writes
+    ⊎ ((end ≡ the_end.Output) × Rose old.writes new.writes
     × WritesFront old.written new.written bytes × (new.flushed ≡ old.flushed))
-    ⊎ ((end ≡ the_end.Memory) × (new ≡ old)))
+
+-- How printing them ends: in the same way; or there was no memory, and nothing was written.
+abbrev pub Printed : End → List ℕ → End → Out → Out → Type 0
+Printed good bytes end old new =
+    Put good bytes end old new ⊎ ((end ≡ the_end.Memory) × (new ≡ old))
 
 -- the end of a run that printed this one reply
 abbrev pub end_of_reply : Reply → End
@@ -44,6 +47,15 @@ end_of_reply (reply.Answer a) = the_end.Done
 end_of_reply (reply.Refused r) = the_end.Refused
 end_of_reply reply.NoMemory = the_end.Memory
 end_of_reply reply.KeepFault = the_end.Disk
+
+-- whether a reply is printed without memory, since its text is constant: that of a fault
+abbrev pub is_constant : Reply → Bool
+is_constant (reply.Number n id) = false
+is_constant (reply.Loaded n counts) = false
+is_constant (reply.Answer a) = false
+is_constant (reply.Refused r) = false
+is_constant reply.NoMemory = true
+is_constant reply.KeepFault = true
 
 -- What follows a reading at a moment, by its reply: the history that was answered, and the one that
 -- may be kept. The registry went on; or there was no memory to go on; or the keeper failed, and the
@@ -57,8 +69,8 @@ TurnsOnce s at reading told answered kept =
     ⊎ ((told ≡ reply.KeepFault) × (answered ≡ s.history)
     × ((kept ≡ s.history) ⊎ (kept ≡ (turn s at reading).1.history))))
 
--- What is read was asked at the clock's next moment, and its reply printed, or there was no memory
--- to, or the output failed.
+-- What is read was asked at the clock's next moment, and its reply printed, or the output failed; or
+-- there was no memory to, which no fault needs.
 pub record AsksOnce (s : State) (moments : Option (List ℕ)) (reading : Result Request Refusal)
     (end : End) (answered kept : List Stamped) (old new : Out) : Type 0 where
   pub at : ℕ
@@ -66,6 +78,7 @@ pub record AsksOnce (s : State) (moments : Option (List ℕ)) (reading : Result 
   pub told : Reply
   pub turn : TurnsOnce s at reading told answered kept
   pub printed : Printed (end_of_reply told) (line_of told) end old new
+  pub sure : is_constant told ≡ true → Put (end_of_reply told) (line_of told) end old new
 
 -- ---- a table
 

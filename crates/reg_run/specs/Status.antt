@@ -37,11 +37,10 @@ note_of the_end.TooMuch = codes "too much input\n"
 note_of the_end.Exists = codes "exists\n"
 note_of the_end.Refused = []
 
--- the note was written; or the sink failed, and some front of it was; or there was no memory for it
+-- the note was written; or the sink failed, and some front of it was
 abbrev pub NotesOnce : End → Option (List ℕ) → ℕ → Option (List ℕ) → ℕ → Type 0
 NotesOnce end old before new after =
-    (new ≡ append_known old (note_of end))
-    ⊎ ((Rose before after × WritesFront old new (note_of end)) ⊎ (new ≡ old))
+    (new ≡ append_known old (note_of end)) ⊎ (Rose before after × WritesFront old new (note_of end))
 
 -- the exit statuses that a run has
 abbrev pub IsStatus : ℕ → Type 0

@@ -11,3 +11,4 @@ mod serve;
 mod status;
 
 pub use program::run;
+pub use status::{End, status_of, write_note};

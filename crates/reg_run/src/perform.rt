@@ -1,6 +1,6 @@
 // The tasks, each over a disk that it gives back.
 ghost use Rattle.std.specs.Prelude.{◌≡◌, ◌≤◌, List, ℕ, Option, Ok, Err, length, option_map, IfOk};
-ghost use Rattle.std.specs.Prelude.{IfErr, IfSome, OnErr, OnOk};
+ghost use Rattle.std.specs.Prelude.{IfErr, IfSome, OnErr, OnOk, true};
 ghost use Rattle.std.specs.Io.KnownBytes.{append_known};
 ghost use Rattle.reg_outside.specs.Disk.{Changes, Same};
 ghost use Rattle.reg_outside.specs.Faults.{Rose, HasCause};
@@ -10,7 +10,7 @@ ghost use Rattle.reg_service.specs.Opening.{opens, at_last, FrontsReopen};
 ghost use Rattle.reg_session.specs.Replies.{line_of};
 ghost use Rattle.reg_run.specs.Crash.{seen};
 ghost use Rattle.reg_run.specs.Ends.{Did, DidInit, OpenCaused, Asked, end_of_stop, end_of_open};
-ghost use Rattle.reg_run.specs.Once.{Printed, end_of_reply};
+ghost use Rattle.reg_run.specs.Once.{Printed, Put, end_of_reply, is_constant};
 ghost use Rattle.reg_run.specs.Questions.{asked_by};
 ghost use Rattle.reg_run.specs.Status.{check_line};
 ghost use Rattle.reg_run.specs.World.{Net, World, world, holding, printing, at_clock, net_of};
@@ -22,6 +22,7 @@ use crate::sample::print_sample;
 use crate::serve::serve_over;
 use crate::status::End;
 use reg_effect::Incremental;
+use reg_json::{keep_fault_line, no_memory_line};
 use reg_keep::{InitFault, Journal, Keeper, OpenFault};
 use reg_machine::Machine;
 use reg_outside::{Clock, Disk, Failed, Listener, Sink, Source, write_whole};
@@ -194,16 +195,43 @@ fn end_of_reply(reply: &Reply) -> End
     }
 }
 
-pub(crate) fn print_reply<K: Sink>(alloc: Global, reply: &Reply, out: &mut K) -> End
-    ensures { Printed (end_of_reply reply.now) (line_of reply.now) result
+/// Prints a line, after which a run ends so.
+fn print_line<K: Sink>(out: &mut K, line: &[u8], end: End) -> End
+    ensures { Put end line.now result (out_of ⟦<K as Sink>⟧ out.old) (out_of ⟦<K as Sink>⟧ out.new) }
+{
+    match print(out, line) {
+        Ok(()) => end,
+        Err(Failed) => End::Output,
+    }
+}
+
+/// Prints a reply that there is no memory to print, if it is a fault: its text is constant. Of
+/// another nothing is printed.
+fn print_constant<K: Sink>(reply: &Reply, out: &mut K) -> End
+    ensures printed { Printed (end_of_reply reply.now) (line_of reply.now) result
         (out_of ⟦<K as Sink>⟧ out.old) (out_of ⟦<K as Sink>⟧ out.new) }
+    ensures sure { is_constant reply.now ≡ true → Put (end_of_reply reply.now) (line_of reply.now)
+        result (out_of ⟦<K as Sink>⟧ out.old) (out_of ⟦<K as Sink>⟧ out.new) }
+{
+    match reply {
+        Reply::NoMemory => print_line(out, no_memory_line(), End::Memory),
+        Reply::KeepFault => print_line(out, keep_fault_line(), End::Disk),
+        Reply::Number { .. } | Reply::Loaded { .. } | Reply::Answer(_) | Reply::Refused(_) => {
+            End::Memory
+        }
+    }
+}
+
+/// Prints a reply. A fault takes no memory.
+pub(crate) fn print_reply<K: Sink>(alloc: Global, reply: &Reply, out: &mut K) -> End
+    ensures printed { Printed (end_of_reply reply.now) (line_of reply.now) result
+        (out_of ⟦<K as Sink>⟧ out.old) (out_of ⟦<K as Sink>⟧ out.new) }
+    ensures sure { is_constant reply.now ≡ true → Put (end_of_reply reply.now) (line_of reply.now)
+        result (out_of ⟦<K as Sink>⟧ out.old) (out_of ⟦<K as Sink>⟧ out.new) }
 {
     match reply_line(alloc, reply) {
-        Err(AllocError) => End::Memory,
-        Ok(line) => match print(out, &line) {
-            Ok(()) => end_of_reply(reply),
-            Err(Failed) => End::Output,
-        },
+        Ok(line) => print_line(out, &line, end_of_reply(reply)),
+        Err(AllocError) => print_constant(reply, out),
     }
 }
 

@@ -70,6 +70,6 @@ pub fn run<S: Source, K: Sink, N: Sink, D: Disk, C: Clock, L: Listener>(
     ensures later { D.faults disk.old ≤ D.faults disk.new }
 {
     let end = follow(alloc, words, input, out, &mut *disk, clock, net);
-    write_note(alloc, notes, end);
+    write_note(notes, end);
     status_of(end)
 }

@@ -1,5 +1,5 @@
 -- From message to message of a connection.
-use Rattle.std.proofs.Common.{◌≡◌, ◌++◌, ◌∷◌, [], List, ℕ, Bool, Option, Some, None, true, false, refl, ap, sym, append_assoc, append-nil, option_map, Result, Ok, Err, ◌∙◌, inl, inr, arith, length}
+use Rattle.std.proofs.Common.{◌≡◌, ◌++◌, ◌∷◌, [], List, ℕ, Bool, Option, Some, None, true, false, refl, ap, sym, append_assoc, append-nil, option_map, Result, Ok, Err, ◌∙◌, inl, inr, ◌⊎◌, arith, length}
 use Rattle.std.specs.Prelude.{IfSome, IfOk, IfErr}
 use Rattle.std.specs.Io.KnownBytes.{append_known}
 use Rattle.std.proofs.lemmas.List.{map-append, take_all}
@@ -23,13 +23,13 @@ use Rattle.reg_service.specs.declared.service.Cause.{Cause}
 use Rattle.reg_service.specs.declared.service.Next.{Next}
 use Rattle.reg_service.specs.declared.service.Next.TheVariants as next
 use Rattle.reg_session.specs.Replies.{is_accepted, IsShown}
-use Rattle.reg_session.proofs.Answering.{load_keeps}
+use Rattle.reg_session.proofs.Answering.{load_keeps, not_accepted}
 use Rattle.reg_session.proofs.Halting.{one_more, turn_one}
 use Rattle.reg_session.specs.Answered.{Point, AreNext, coming_after, Gives}
 use Rattle.reg_http.specs.declared.call.Call.{Call}
 use Rattle.reg_http.specs.declared.call.Turn.TheVariants as taken
 use Rattle.reg_calls.specs.Asked.{asked_of, closes, closes_by}
-use Rattle.reg_serve.specs.Answered.{Question, refuses, reads, question_of, MayReply, Answer, MayAnswer, calls_of, times_of, responses_of, Answered, Answers, Breaks, LeadsTo, goes, stops}
+use Rattle.reg_serve.specs.Answered.{Question, refuses, reads, question_of, MayReply, Answer, MayAnswer, calls_of, times_of, responses_of, Answered, Answers, Breaks, LeadsTo, StopsAt, goes, last_response, stops}
 use Rattle.reg_serve.specs.Keeping.{TurnLeaves}
 use Rattle.reg_calls.specs.Responses.{response_to}
 use Rattle.reg_serve.specs.Sent.{SendsReply, SentFront, Finishes}
@@ -65,7 +65,7 @@ turns_no_memory s after m reading given (inr wants) h = inr (record { fault = re
 
 turns_told : (s after : State) (m : ℕ) (reading : Result Request Refusal) (given told : Reply) → Turns s m reading given after → IsShown given told → Turns s m reading told after
 turns_told s after m reading given told t (inl e) = rw e t
-turns_told s after m reading given told t (inr e) = rw e.0 (turns_no_memory s after m reading given t e.1)
+turns_told s after m reading given told t (inr e) = rw e.0 (turns_no_memory s after m reading given t (not_accepted given e.1))
 
 shown_twice : (due told shown : Reply) → IsShown due told → IsShown told shown → IsShown due shown
 shown_twice due told shown one (inl e) = rw e one
@@ -117,9 +117,6 @@ append_more (Some bytes) xs ys = ap Some (append_assoc bytes xs ys)
 -- a front of no bytes, and of all
 pub front_none : (old new : Option (List ℕ)) (text : List ℕ) → new ≡ old → WritesFront old new text
 front_none old new text e = (0, omega arith, e ∙ append_none old)
-
-pub front_all : (old new : Option (List ℕ)) (text : List ℕ) → new ≡ append_known old text → WritesFront old new text
-front_all old new text e = (length text, omega arith, e ∙ ap (append_known old) (sym (take_all (length text) text (omega arith))))
 
 -- ---- messages
 
@@ -190,16 +187,6 @@ closes_is : (call : Call) → closes_by (asked_of call) call ≡ closes call
 unfolding closes
 closes_is call = refl
 
--- a response, or a front of it, was sent
-pub sends_front : {T : Type 0} (a : Asked) (close : Bool) (due : Reply) (old new : Option (List ℕ)) (r : Result T Ended) → SendsReply a close due old new r → SentFront a close due old new
-sends_front a close due old new (Ok done) s = (s.0, s.1, front_all old new (response_to a close s.0) s.2)
-sends_front a close due old new (Err ended.Closed) s = absurd s
-sends_front a close due old new (Err ended.Bad) s = absurd s
-sends_front a close due old new (Err ended.Failed) s = s
-sends_front a close due old new (Err ended.TooMuch) s = absurd s
-sends_front a close due old new (Err ended.NoMemory) s = (due, inl refl, front_none old new (response_to a close due) s.1)
-sends_front a close due old new (Err ended.Stopped) s = absurd s
-
 -- bytes that are a response were sent, or a front of them
 pub sends_bytes : {T : Type 0} (a : Asked) (close : Bool) (due shown : Reply) (old new : Option (List ℕ)) (r : Result T Ended) → IsShown due shown → IfOk r (λ done. new ≡ append_known old (response_to a close shown))
     → WritesFront old new (response_to a close shown) → IfErr r (λ e. e ≡ ended.Failed) → SendsReply a close due old new r
@@ -221,7 +208,7 @@ finish_cut T a call due old new s close ended.Closed is sent = absurd sent
 finish_cut T a call due old new s close ended.Bad is sent = absurd sent
 finish_cut T a call due old new s close ended.Failed is sent = (refl, rw is at sent)
 finish_cut T a call due old new s close ended.TooMuch is sent = absurd sent
-finish_cut T a call due old new s close ended.NoMemory is sent = (refl, (due, inl refl, front_none old new (response_to a (closes_by a call) due) sent.1))
+finish_cut T a call due old new s close ended.NoMemory is sent = (refl, sent.0, sent.1)
 finish_cut T a call due old new s close ended.Stopped is sent = absurd sent
 
 -- how a message ends that was answered
@@ -263,20 +250,28 @@ finishes_ended g k w ms w2 ms2 p s call at due (Err (ended.Closed, n)) gives may
     let shut : closes call ≡ true = sym (closes_is call) ∙ f.1 in
     rw f.0 (record { to = goes s.state; ends = (shut, answered_one w ms w2 ms2 p s.state call at due f.2.0 gives may f.2.1 (rw shut f.2.2)); leaves = (refl, kept) })
 finishes_ended g k w ms w2 ms2 p s call at due (Err (ended.Failed, n)) gives may kept f = rw f.0 (record { to = goes s.state; ends = breaks w ms w2 ms2 p s.state call at due gives may f.1; leaves = (refl, kept) })
-finishes_ended g k w ms w2 ms2 p s call at due (Err (ended.NoMemory, n)) gives may kept f = rw f.0 (record { to = goes s.state; ends = breaks w ms w2 ms2 p s.state call at due gives may f.1; leaves = (refl, kept) })
+finishes_ended g k w ms w2 ms2 p s call at due (Err (ended.NoMemory, n)) gives may kept f =
+    let none : SentFront (asked_of call) (closes_by (asked_of call) call) due w w2 = (due, inl refl, front_none w w2 (response_to (asked_of call) (closes_by (asked_of call) call) due) f.2) in
+    rw f.0 (record { to = goes s.state; ends = (breaks w ms w2 ms2 p s.state call at due gives may none, f.1, f.2); leaves = (refl, kept) })
 finishes_ended g k w ms w2 ms2 p s call at due (Err (ended.Bad, n)) gives may kept f = absurd f
 finishes_ended g k w ms w2 ms2 p s call at due (Err (ended.TooMuch, n)) gives may kept f = absurd f
 finishes_ended g k w ms w2 ms2 p s call at due (Err (ended.Stopped, n)) gives may kept f = absurd f
 
 -- how it ends where the service stopped
-pub stop_leaves : {K : Type 0} (g : Ghosts K) (old k : K) (w ms w2 ms2 : Option (List ℕ)) (p : State) (call : Call) (at : List ℕ) (due : Reply) (why : Cause) (expected : List Stamped) → Gives ms at ms2 → due ≡ last_reply why
-    → SentFront (asked_of call) true due w w2 → LeadsTo p (question_of call) at expected → KeepsNext g p.history expected old (next.Stop why k)
-    → TurnLeaves g (record { written = w; moments = ms; state = p }) old (taken.Call call) w2 ms2 (ended.Stopped, next.Stop why k)
-stop_leaves g old k w ms w2 ms2 p call at due why expected gives is f leads kept =
-    let one : IsOneMore p.history expected = leads_one p (question_of call) at expected leads in
-    let halted : Halted g p.history old k = record { answered = p.history; after = kept.0; first = omega arith; last = one_more why p.history expected kept.0 one kept.1; kept = kept.2; stopped = kept.3 } in
-    record {
-      to = stops why kept.0;
-      ends = record { at = at; told = f.0; times = gives; shows = rw is at f.1; front = f.2; expected = expected; leads = leads; began = kept.1 };
-      leaves = (refl, (halted, refl, refl), kept.4);
-    }
+pub stop_leaves : {K : Type 0} (g : Ghosts K) (old k : K) (w ms w2 ms2 : Option (List ℕ)) (p : State) (call : Call) (at : List ℕ) (why : Cause) (expected : List Stamped) (e : Ended) → Gives ms at ms2
+    → (e ≡ ended.Stopped → w2 ≡ append_known w (last_response (asked_of call) why)) → WritesFront w w2 (last_response (asked_of call) why) → (e ≡ ended.Stopped) ⊎ (e ≡ ended.Failed)
+    → LeadsTo p (question_of call) at expected → KeepsNext g p.history expected old (next.Stop why k) → TurnLeaves g (record { written = w; moments = ms; state = p }) old (taken.Call call) w2 ms2 (e, next.Stop why k)
+stop_leaves g old k w ms w2 ms2 p call at why expected e gives said front how leads kept = left how
+  where
+    one : IsOneMore p.history expected
+    one = leads_one p (question_of call) at expected leads
+
+    halted : Halted g p.history old k
+    halted = record { answered = p.history; after = kept.0; first = omega arith; last = one_more why p.history expected kept.0 one kept.1; kept = kept.2; stopped = kept.3 }
+
+    stopped : StopsAt (record { written = w; moments = ms; state = p }) call w2 ms2 why kept.0
+    stopped = record { at = at; times = gives; front = front; expected = expected; leads = leads; began = kept.1 }
+
+    left : (e ≡ ended.Stopped) ⊎ (e ≡ ended.Failed) → TurnLeaves g (record { written = w; moments = ms; state = p }) old (taken.Call call) w2 ms2 (e, next.Stop why k)
+    left (inl is) = rw is (record { to = stops why kept.0; ends = (stopped, said is); leaves = (refl, (halted, refl, refl), kept.4) })
+    left (inr is) = rw is (record { to = stops why kept.0; ends = stopped; leaves = (refl, (halted, refl, refl), kept.4) })

@@ -288,7 +288,7 @@ session_still g k0 left mid now p s before count w0 w ms e h kept same still few
 -- its bytes ended
 pub session_end : {K : Type 0} (g : Ghosts K) (k0 : K) (left mid now : Option (List ℕ)) (p : Point) (s : Served K) (before : Reading) (count : ℕ) (bs : List ℕ) (n : ℕ) (w0 w ms : Option (List ℕ))
     → HasServed left mid p (record { written = w0; moments = ms; state = s.state }) before count → KeptOn g p.state.history k0 s.state.history s.keeper → w ≡ w0
-    → mid ≡ prepend_known (take n bs) now → n ≡ 0 → IsAtEnd now → count ≤ 2 ^ 32 → IsUnfinished before.rest → SessionOf g p k0 left now w ms (ended.Closed, next.Go s)
+    → mid ≡ prepend_known (take n bs) now → n ≡ 0 → IsAtEnd now → count < 2 ^ 32 → IsUnfinished before.rest → SessionOf g p k0 left now w ms (ended.Closed, next.Go s)
 session_end g k0 left mid now p s before count bs n w0 w ms h kept still read none at few unfinished = record {
   to = goes s.state;
   session = record {
@@ -301,7 +301,7 @@ session_end g k0 left mid now p s before count bs n w0 w ms h kept still read no
     all = h.all;
     reading = before;
     given = h.given;
-    ends = inr ((still, refl, refl), (at, unfinished));
+    ends = inr ((still, refl, refl), (at, unfinished, omega (arith, h.counted, few)));
   };
   leaves = (refl, kept);
 }

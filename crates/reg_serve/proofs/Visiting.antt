@@ -16,12 +16,10 @@ use Rattle.reg_service.specs.declared.service.Next.TheVariants as next
 use Rattle.reg_session.proofs.Halting.{halted_then}
 use Rattle.reg_serve.specs.Answered.{Outcome, goes, stops}
 use Rattle.reg_serve.specs.Keeping.{IsLeft}
-use Rattle.reg_serve.specs.Sessions.{Session, EndsAtMessage, EndsBetween, IsQuiet}
 use Rattle.reg_serve.specs.Visits.{AllServed, BreaksAt, CeasesAt, CeasesNext, CeasesServing, GivesBack, IsVisit, ServedSo, ServesVisits, Sessions, StopsAtLast, Visit, Visited, Visits, ceased_of}
 use Rattle.reg_serve.specs.declared.ended.Ceased.{Ceased}
 use Rattle.reg_serve.specs.declared.ended.Ceased.TheVariants as ceased
 use Rattle.reg_serve.specs.declared.ended.Ended.{Ended}
-use Rattle.reg_serve.specs.declared.ended.Ended.TheVariants as ended
 
 -- ---- what a listener tells
 
@@ -92,28 +90,6 @@ sessions_then : (s mid last : State) (ms between later : Option (List ℕ)) (xs 
 sessions_then s mid last ms between later [] ys a b = rw (← a.0, ← a.1) b
 sessions_then s mid last ms between later (x ∷ xs) ys a b = (a.0, a.1, a.2, a.3, sessions_then a.1 mid last a.2 between later xs ys a.4 b)
 
--- a session after which the service doesn't go on ended with Stopped
-stopped_only : (p : _) (left now w ms : Option (List ℕ)) (e : Ended) (why : Cause) (after : List Stamped) → Session p left now w ms e (stops why after) → e ≡ ended.Stopped
-stopped_only p left now w ms e why after s = go e s.ends
-  where
-    go : (e : Ended) → EndsAtMessage s.last s.reading.rest w ms e (stops why after) ⊎ (IsQuiet s.last w ms (stops why after) × EndsBetween s.taken now s.reading.rest e) → e ≡ ended.Stopped
-    go ended.Stopped t = refl
-    go ended.Closed (inl (inl m)) = absurd m.3
-    go ended.Closed (inl (inr f)) = absurd f.2
-    go ended.Closed (inr q) = absurd q.0
-    go ended.Bad (inl (inl m)) = absurd m.3
-    go ended.Bad (inl (inr f)) = absurd f.2.0
-    go ended.Bad (inr q) = absurd q.0
-    go ended.Failed (inl (inl m)) = absurd m.3
-    go ended.Failed (inl (inr f)) = absurd f.2.0
-    go ended.Failed (inr q) = absurd q.0
-    go ended.TooMuch (inl (inl m)) = absurd m.3
-    go ended.TooMuch (inl (inr f)) = absurd f.2
-    go ended.TooMuch (inr q) = absurd q.0
-    go ended.NoMemory (inl (inl m)) = absurd m.3
-    go ended.NoMemory (inl (inr f)) = absurd f.2
-    go ended.NoMemory (inr q) = absurd q.0
-
 -- ---- one connection
 
 -- none was served
@@ -151,26 +127,20 @@ breaks_stopped s ms visits later answered after cause.Memory t = t
 breaks_stopped s ms visits later answered after cause.Disk t = t
 
 -- the service stopped at it
-stops_at_last : (s : State) (ms : Option (List ℕ)) (v : Visit) (e : Ended) (later : Option (List ℕ)) (why : Cause) (answered after : List Stamped) → e ≡ ended.Stopped → (is : IsVisit s ms v e (stops why after) later)
+stops_at_last : (s : State) (ms : Option (List ℕ)) (v : Visit) (e : Ended) (later : Option (List ℕ)) (why : Cause) (answered after : List Stamped) → (is : IsVisit s ms v e (stops why after) later)
     → answered ≡ is.session.last.state.history → StopsAtLast s ms (v ∷ []) later answered after why
-stops_at_last s ms v ended.Stopped later why answered after e is done = record { earlier = []; visit = v; cut = refl; mid = s; between = ms; sessions = (refl, refl); last = is; done = done }
-stops_at_last s ms v ended.Closed later why answered after e is done = absurd (cc)
-stops_at_last s ms v ended.Bad later why answered after e is done = absurd (cc)
-stops_at_last s ms v ended.Failed later why answered after e is done = absurd (cc)
-stops_at_last s ms v ended.TooMuch later why answered after e is done = absurd (cc)
-stops_at_last s ms v ended.NoMemory later why answered after e is done = absurd (cc)
+stops_at_last s ms v e later why answered after is done = record { earlier = []; visit = v; cut = refl; mid = s; between = ms; sessions = (refl, refl); end = e; last = is; done = done }
 
 ceases_stopped : {K : Type 0} (g : Ghosts K) (s : State) (k keeper : K) (ms : Option (List ℕ)) (old new : Option Connections) (later : Option (List ℕ)) (visit : Visit) (e : Ended) (why cause : Cause) (after : List Stamped)
     → (v : IsVisit s ms visit e (stops cause after) later) (h : Halted g s.history k keeper) → why ≡ cause → h.answered ≡ v.session.last.state.history → h.after ≡ after → Visits old new (visit ∷ [])
     → CeasesNext g s k ms old new later (ceased_of why) keeper
 ceases_stopped g s k keeper ms old new later visit e why cause after v h same answered kept told =
-    let only : e ≡ ended.Stopped = stopped_only _ _ _ _ _ e cause after v.session in
     record {
       visits = visit ∷ [];
       told = told;
       few = omega arith;
       halted = h;
-      ends = rw (same, kept) (breaks_stopped s ms (visit ∷ []) later h.answered after cause (stops_at_last s ms visit e later cause h.answered after only v answered));
+      ends = rw (same, kept) (breaks_stopped s ms (visit ∷ []) later h.answered after cause (stops_at_last s ms visit e later cause h.answered after v answered));
     }
 
 pub stopped_one : {C E K : Type 0} (see : C → Seen) (g : Ghosts K) (s : State) (k : K) (ms : Option (List ℕ)) (old mid new : Option Connections) (later : Option (List ℕ)) (conn : C) (r : Result (Option C) E) (n : Next K) (why : Cause) (keeper : K)
@@ -223,6 +193,7 @@ stops_then s mid ms between later xs ys answered after why a b = record {
   mid = b.mid;
   between = b.between;
   sessions = sessions_then s mid b.mid ms between b.between xs b.earlier a b.sessions;
+  end = b.end;
   last = b.last;
   done = b.done;
 }

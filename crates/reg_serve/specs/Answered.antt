@@ -15,7 +15,7 @@ use Rattle.reg_service.specs.declared.service.Cause.{Cause}
 use Rattle.reg_service.specs.declared.service.Next.{Next}
 use Rattle.reg_service.specs.declared.service.Next.TheVariants as next
 use Rattle.reg_session.specs.Answered.{Point, Gives}
-use Rattle.reg_session.specs.Replies.{IsShown}
+use Rattle.reg_session.specs.Replies.{is_accepted, IsShown}
 use Rattle.reg_http.specs.declared.call.Call.{Call}
 use Rattle.reg_calls.specs.Asked.{asked_of, closes}
 use Rattle.reg_calls.specs.Faults.{no_route, no_method, no_caller_header}
@@ -116,30 +116,35 @@ pub record Breaks (before : Point) (call : Call) (written moments : Option (List
   pub given : MayReply before.state (question_of call) at told after
   pub front : WritesFront before.written written (response_to (asked_of call) (closes call) told)
 
--- The service stopped at a message, and a front of the response was written, which says that the
--- connection closes. The keeper has the history from before, or after a fault perhaps that to which
--- the message leads.
+-- the response to a message that asked this, at which the service stopped: it says for what, and
+-- that the connection closes
+abbrev pub last_response : Asked → Cause → List ℕ
+last_response a why = response_to a true (last_reply why)
+
+-- The service stopped at a message, and a front of the last response was written. The keeper has the
+-- history from before, or after a fault perhaps that to which the message leads.
 pub record StopsAt (before : Point) (call : Call) (written moments : Option (List ℕ)) (why : Cause)
     (after : List Stamped) : Type 0 where
   pub at : List ℕ
-  pub told : Reply
   pub times : Gives before.moments at moments
-  pub shows : IsShown (last_reply why) told
-  pub front : WritesFront before.written written (response_to (asked_of call) true told)
+  pub front : WritesFront before.written written (last_response (asked_of call) why)
   pub expected : List Stamped
   pub leads : LeadsTo before.state (question_of call) at expected
   pub began : Began why before.state.history expected after
 
 -- How a connection ends at a message: that was answered whole and closes it; or not whole, for a
--- write that failed or for want of memory; or the service stopped.
+-- write that failed; or an accepted command's reply found no memory, and nothing of it was written;
+-- or the service stopped, and said so whole, or not whole for a write that failed.
 abbrev pub CallEnds : Point → Call → (written moments : Option (List ℕ)) → Ended → Outcome → Type 0
 CallEnds p call w ms ended.Closed (goes s) =
     (closes call ≡ true) × Answered p (call ∷ []) (record { written = w; moments = ms; state = s })
 CallEnds p call w ms ended.Failed (goes s) = Breaks p call w ms s
-CallEnds p call w ms ended.NoMemory (goes s) = Breaks p call w ms s
-CallEnds p call w ms ended.Stopped (stops why after) = StopsAt p call w ms why after
+CallEnds p call w ms ended.NoMemory (goes s) =
+    (b : Breaks p call w ms s) × (is_accepted b.told ≡ true) × (w ≡ p.written)
+CallEnds p call w ms ended.Stopped (stops why after) =
+    StopsAt p call w ms why after × (w ≡ append_known p.written (last_response (asked_of call) why))
+CallEnds p call w ms ended.Failed (stops why after) = StopsAt p call w ms why after
 CallEnds p call w ms ended.Closed (stops why after) = ⊥
-CallEnds p call w ms ended.Failed (stops why after) = ⊥
 CallEnds p call w ms ended.NoMemory (stops why after) = ⊥
 CallEnds p call w ms ended.Stopped (goes s) = ⊥
 CallEnds p call w ms ended.Bad to = ⊥

@@ -45,10 +45,11 @@ EndsAtMessage p rest w ms e to =
     ((call : Call) × (later : List ℕ) × IsMessage rest call later × CallEnds p call w ms e to)
     ⊎ ((fault : HeadFault) × HasFault rest fault × FaultEnds p fault w ms e to)
 
--- Why no more bytes were asked for a message: they ended, and what is left is no message; a read
--- failed; 2^32 bytes were taken; or memory was wanting.
+-- Why no more bytes were asked for a message: they ended, fewer than 2^32 of them, and what is left
+-- is no message; a read failed; 2^32 bytes were taken; or memory was wanting.
 abbrev pub EndsBetween : List ℕ → Option (List ℕ) → List ℕ → Ended → Type 0
-EndsBetween taken now rest ended.Closed = IsAtEnd now × IsUnfinished rest
+EndsBetween taken now rest ended.Closed =
+    IsAtEnd now × IsUnfinished rest × (length taken < 2 ^ 32)
 EndsBetween taken now rest ended.Bad = ⊥
 EndsBetween taken now rest ended.Failed = Unit {0}
 EndsBetween taken now rest ended.TooMuch = length taken ≡ 2 ^ 32

@@ -84,7 +84,8 @@ pub record StopsAtLast (s : State) (moments : Option (List ℕ)) (visits : List 
   pub mid : State
   pub between : Option (List ℕ)
   pub sessions : Sessions s moments earlier mid between
-  pub last : IsVisit mid between visit ended.Stopped (stops why after) later
+  pub end : Ended
+  pub last : IsVisit mid between visit end (stops why after) later
   pub done : answered ≡ last.session.last.state.history
 
 -- Why no more were served. A call of the listener failed, between two connections or after the

@@ -1,27 +1,31 @@
 // One message after another.
-ghost use Rattle.std.specs.Prelude.{◌≡◌, ◌≤◌, ◌∷◌, [], List, ℕ, Option, None, true, false};
+ghost use Rattle.std.specs.Prelude.{◌≡◌, ◌≤◌, ◌⊎◌, ◌∷◌, [], List, ℕ, Option, None, true, false};
 ghost use Rattle.std.specs.Prelude.{unwrap_or, IfOk, IfErr};
+ghost use Rattle.std.specs.Io.KnownBytes.{append_known};
 ghost use Rattle.reg_outside.specs.Faults.{Rose};
+ghost use Rattle.reg_outside.specs.Streams.{WritesFront};
 ghost use Rattle.reg_calls.specs.Reading.{reading_of};
 ghost use Rattle.reg_session.specs.Answered.{point};
 ghost use Rattle.reg_session.specs.Pending.{ReadsAs, AsksFormed};
 ghost use Rattle.reg_calls.specs.Asked.{asked_of, closes};
+ghost use Rattle.reg_calls.specs.declared.asked.Asked.{Asked};
 ghost use Rattle.reg_service.specs.Kept.{KeptOn};
-ghost use Rattle.reg_serve.specs.Answered.{Answered, Answers, question_by};
+ghost use Rattle.reg_serve.specs.Answered.{Answered, Answers, last_response, question_by};
 ghost use Rattle.reg_serve.specs.Keeping.{EndsTurnsOf, ReadLeaves, TurnLeaves};
-ghost use Rattle.reg_serve.specs.Sent.{Finishes, SentFront};
+ghost use Rattle.reg_serve.specs.Sent.{Finishes};
 ghost use Rattle.reg_serve.specs.Sessions.{Remains, Serves, TurnServed};
 ghost use Rattle.reg_http.specs.Messages.{IsUnfinished};
 
 use crate::ended::Ended;
-use crate::sending::{send_fault, send_reply};
+use crate::sending::{send_bytes, send_fault, send_reply};
 use reg_calls::{
-    Asked, asked_of, closes_by, no_caller_header, no_method, no_route, read_call, refusal_of,
+    Asked, asked_of, closes_by, keep_fault, no_caller_header, no_memory, no_method, no_route,
+    read_call, refusal_of,
 };
 use reg_http::{Call, HeadFault, HttpReader, Route, Routes, Turn, turns_are_of_all_bytes};
 use reg_keep::Keeper;
 use reg_outside::{Clock, Connection, Sink};
-use reg_service::{Next, Service};
+use reg_service::{Cause, Next, Service};
 use reg_session::{LineReading, turn};
 use reg_terms::Reply;
 use std::alloc::{AllocError, Global};
@@ -116,15 +120,34 @@ fn finish_call<K: Keeper, C: Connection>(
     }
 }
 
-/// Sends the reply to a message at which the service stopped. Whether it is sent changes nothing.
-fn stop_call<C: Connection>(alloc: Global, conn: &mut C, asked: &Asked, reply: Reply)
-    ensures sends { SentFront asked.now true reply (C.written conn.old) (C.written conn.new) }
+/// The response to a message at which the service stopped, whatever was asked. It takes no memory.
+fn last_response(cause: Cause) -> &'static [u8]
+    ensures { (asked : Asked) → result.now ≡ last_response asked cause }
+{
+    match cause {
+        Cause::Memory => no_memory(true),
+        Cause::Disk => keep_fault(true),
+    }
+}
+
+/// Sends the response to a message at which the service stopped, whatever was asked, and says how
+/// the connection ends.
+fn stop_call<C: Connection>(conn: &mut C, cause: Cause) -> Ended
+    ensures sent { result ≡ Ended.Stopped → (asked : Asked) → C.written conn.new
+        ≡ append_known (C.written conn.old) (last_response asked cause) }
+    ensures front { (asked : Asked) → WritesFront (C.written conn.old) (C.written conn.new)
+        (last_response asked cause) }
+    ensures ends { (result ≡ Ended.Stopped) ⊎ (result ≡ Ended.Failed) }
+    ensures failed { result ≡ Ended.Failed
+        → Rose (C.write_faults conn.old) (C.write_faults conn.new) }
     ensures left { C.left conn.new ≡ C.left conn.old }
     ensures reads { C.read_faults conn.old ≤ C.read_faults conn.new }
     ensures writes { C.write_faults conn.old ≤ C.write_faults conn.new }
 {
-    let _ = send_reply(alloc, conn, asked, true, &reply);
-    drop(reply);
+    match send_bytes(conn, last_response(cause)) {
+        Ok(()) => Ended::Stopped,
+        Err(ended) => ended,
+    }
 }
 
 /// Answers a message.
@@ -158,8 +181,8 @@ pub(crate) fn serve_call<K: Keeper, C: Connection, T: Clock>(
     match next {
         Next::Go(service) => finish_call(alloc, conn, &asked, call, reply, service),
         Next::Stop(cause, keeper) => {
-            stop_call(alloc, conn, &asked, reply);
-            Err((Ended::Stopped, Next::Stop(cause, keeper)))
+            drop(reply);
+            Err((stop_call(conn, cause), Next::Stop(cause, keeper)))
         }
     }
 }

@@ -25,7 +25,7 @@ use Rattle.reg_service.specs.declared.service.Cause.{Cause}
 use Rattle.reg_service.specs.declared.service.Next.{Next}
 use Rattle.reg_service.specs.declared.service.Next.TheVariants as next
 use Rattle.reg_session.specs.Lines.{is_skipped}
-use Rattle.reg_session.specs.Replies.{line_of, lines_of, is_accepted, IsShown}
+use Rattle.reg_session.specs.Replies.{line_of, lines_of, gives_way, is_accepted, IsShown}
 use Rattle.reg_session.specs.Answered.{Answer, Point, MayAnswer, AreNext, coming_after, Gives, Answered, moments_of, readings_of, replies_of, answers, last_state}
 use Rattle.reg_session.proofs.Cutting.{readings_more}
 
@@ -63,9 +63,17 @@ turns_no_memory s after m reading given (inl e) h =
     inr (record { fault = refl; history = ap (λ (t : State). t.history) kept; clock = inr (ap (λ (t : State). t.clock) kept) })
 turns_no_memory s after m reading given (inr wants) h = inr (record { fault = refl; history = wants.history; clock = wants.clock })
 
+pub not_accepted : (due : Reply) → gives_way due ≡ true → is_accepted due ≡ false
+not_accepted (reply.Number n id) e = absurd (cc)
+not_accepted (reply.Loaded n counts) e = absurd (cc)
+not_accepted (reply.Answer a) e = refl
+not_accepted (reply.Refused r) e = refl
+not_accepted reply.NoMemory e = refl
+not_accepted reply.KeepFault e = refl
+
 pub turns_told : (s after : State) (m : ℕ) (reading : Result Request Refusal) (given told : Reply) → Turns s m reading given after → IsShown given told → Turns s m reading told after
 turns_told s after m reading given told t (inl e) = rw e t
-turns_told s after m reading given told t (inr e) = rw e.0 (turns_no_memory s after m reading given t e.1)
+turns_told s after m reading given told t (inr e) = rw e.0 (turns_no_memory s after m reading given t (not_accepted given e.1))
 
 -- where the service goes on, the reply is one that may be given
 pub follows_go : {K : Type 0} (s : State) (after : Served K) (m : ℕ) (reading : Result Request Refusal) (r : Reply × Next K) → Follows s m reading r → r.1 ≡ next.Go after → Turns s m reading r.0 after.state

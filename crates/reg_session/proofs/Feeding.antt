@@ -60,16 +60,16 @@ first_line before bytes n h lacks there =
     ap (λ (l : List ℕ). lines_from before l) (sym whole) ∙ (cut ∙ (ap (λ (l : List (List ℕ)). l ++ lines_from (pending_from before (take n bytes)) (slice_index bytes n ∷ rest)) none ∙ first))
 
 -- a stop at it
-pub stops_first : (p : Point) (before bytes : List ℕ) (n : ℕ) (w : Option (List ℕ)) (answered after : List Stamped) (why : Stop) → n < length bytes → All (λ b. b ≢ 10) (take n bytes) → slice_index bytes n ≡ 10
-    → StopsIn p ((before ++ take n bytes) ∷ []) w answered after why → StopsIn p (lines_from before bytes) w answered after why
-stops_first p before bytes n w answered after why h lacks there s =
-    rw (first_line before bytes n h lacks there) (stops_before p ((before ++ take n bytes) ∷ []) (lines_from [] (drop (n + 1) bytes)) w answered after why s)
+pub stops_first : (p : Point) (before bytes : List ℕ) (n : ℕ) (w : Option (List ℕ)) (failed : Type 0) (answered after : List Stamped) (why : Stop) → n < length bytes → All (λ b. b ≢ 10) (take n bytes) → slice_index bytes n ≡ 10
+    → StopsIn p ((before ++ take n bytes) ∷ []) w failed answered after why → StopsIn p (lines_from before bytes) w failed answered after why
+stops_first p before bytes n w failed answered after why h lacks there s =
+    rw (first_line before bytes n h lacks there) (stops_before p ((before ++ take n bytes) ∷ []) (lines_from [] (drop (n + 1) bytes)) w failed answered after why s)
 
 -- a stop in further bytes
-pub stops_from : (p q : Point) (before xs ys : List ℕ) (w : Option (List ℕ)) (answered after : List Stamped) (why : Stop) → Answered p (ended_from before xs) q
-    → StopsIn q (lines_from (pending_from before xs) ys) w answered after why → StopsIn p (lines_from before (xs ++ ys)) w answered after why
-stops_from p q before xs ys w answered after why a s =
-    rw (lines_more before xs ys) (stops_then p q (ended_from before xs) (lines_from (pending_from before xs) ys) w answered after why a s)
+pub stops_from : (p q : Point) (before xs ys : List ℕ) (w : Option (List ℕ)) (failed : Type 0) (answered after : List Stamped) (why : Stop) → Answered p (ended_from before xs) q
+    → StopsIn q (lines_from (pending_from before xs) ys) w failed answered after why → StopsIn p (lines_from before (xs ++ ys)) w failed answered after why
+stops_from p q before xs ys w failed answered after why a s =
+    rw (lines_more before xs ys) (stops_then p q (ended_from before xs) (lines_from (pending_from before xs) ys) w failed answered after why a s)
 
 -- nothing was taken
 pub taken_none : (left : Option (List ℕ)) (p : Point) (pending : PendingLine) → HasTaken left left p p pending pending 0

@@ -18,28 +18,29 @@ use Rattle.reg_session.proofs.Feeding.{took_none, takes_more, stops_from}
 use Rattle.reg_session.proofs.Cutting.{lines_are_cut}
 use Rattle.reg_session.proofs.Numbering.{accepted_in, accepted_all}
 use Rattle.reg_session.proofs.Halting.{halted_then}
-use Rattle.reg_session.proofs.Stopping.{stops_then}
+use Rattle.reg_session.proofs.Stopping.{stops_then, stops_wider}
 
-ends_in : (p : Point) (taken : List ℕ) (left w : Option (List ℕ)) (f : Option ℕ) (answered after : List Stamped) (why : Stop) → IsAtLine why → StopsIn p (lines taken) w answered after why → EndsInput p taken left w f answered after why
-ends_in p taken left w f answered after stop.Memory at s = s
-ends_in p taken left w f answered after stop.Disk at s = s
-ends_in p taken left w f answered after stop.Input (inl e) s = absurd (cc)
-ends_in p taken left w f answered after stop.Input (inr (inl e)) s = absurd (cc)
-ends_in p taken left w f answered after stop.Input (inr (inr e)) s = absurd (cc)
-ends_in p taken left w f answered after stop.Output at s = inl s
-ends_in p taken left w f answered after stop.TooMuch (inl e) s = absurd (cc)
-ends_in p taken left w f answered after stop.TooMuch (inr (inl e)) s = absurd (cc)
-ends_in p taken left w f answered after stop.TooMuch (inr (inr e)) s = absurd (cc)
+ends_in : (p : Point) (taken : List ℕ) (left w : Option (List ℕ)) (f : Option ℕ) (failed : Type 0) (answered after : List Stamped) (why : Stop) → IsAtLine why → StopsIn p (lines taken) w failed answered after why
+    → EndsInput p taken left w f failed answered after why
+ends_in p taken left w f failed answered after stop.Memory at s = s
+ends_in p taken left w f failed answered after stop.Disk at s = s
+ends_in p taken left w f failed answered after stop.Input (inl e) s = absurd (cc)
+ends_in p taken left w f failed answered after stop.Input (inr (inl e)) s = absurd (cc)
+ends_in p taken left w f failed answered after stop.Input (inr (inr e)) s = absurd (cc)
+ends_in p taken left w f failed answered after stop.Output at s = inl s
+ends_in p taken left w f failed answered after stop.TooMuch (inl e) s = absurd (cc)
+ends_in p taken left w f failed answered after stop.TooMuch (inr (inl e)) s = absurd (cc)
+ends_in p taken left w f failed answered after stop.TooMuch (inr (inr e)) s = absurd (cc)
 
 -- lines were answered, and nothing more was begun
 pub stops_behind : (p q : Point) (ls : List (List ℕ)) (w : Option (List ℕ)) (answered after : List Stamped) → Answered p ls q → w ≡ q.written → answered ≡ q.state.history → after ≡ q.state.history → StopsBehind p ls w answered after
 stops_behind p q ls w answered after all wrote done kept = record { last = q; accepted = accepted_in p q ls all; all = accepted_all p q ls all; same = wrote; done = done; kept = kept }
 
 -- a line of a piece stopped the session
-pub stops_piece : {K : Type 0} (g : Ghosts K) (p q : Point) (k0 k1 k2 : K) (left mid now w : Option (List ℕ)) (f : Option ℕ) (a b : PendingLine) (count : ℕ) (piece : List ℕ) (why : Stop)
-    → HasTaken left mid p q a b count → Holds a [] → count + length piece ≤ 2 ^ 32 → mid ≡ prepend_known piece now → KeptOn g p.state.history k0 q.state.history k1 → IsAtLine why
-    → ((before : List ℕ) → Holds b before → HaltsIn g q k1 (lines_from before piece) w why k2) → StopsInput g p k0 left now w f why k2
-stops_piece g p q k0 k1 k2 left mid now w f a b count piece why done held few read kept at halts =
+pub stops_piece : {K : Type 0} (g : Ghosts K) (p q : Point) (k0 k1 k2 : K) (left mid now w : Option (List ℕ)) (f : Option ℕ) (failed wider : Type 0) (a b : PendingLine) (count : ℕ) (piece : List ℕ) (why : Stop)
+    → HasTaken left mid p q a b count → Holds a [] → count + length piece ≤ 2 ^ 32 → mid ≡ prepend_known piece now → KeptOn g p.state.history k0 q.state.history k1 → IsAtLine why → (failed → wider)
+    → ((before : List ℕ) → Holds b before → HaltsIn g q k1 (lines_from before piece) w failed why k2) → StopsInput g p k0 left now w f wider why k2
+stops_piece g p q k0 k1 k2 left mid now w f failed wider a b count piece why done held few read kept at more halts =
     let fed = done.fed [] held in
     let h = halts (pending_from [] done.taken) fed.0 in
     record {
@@ -48,14 +49,15 @@ stops_piece g p q k0 k1 k2 left mid now w f a b count piece why done held few re
       cut = lines_are_cut (done.taken ++ piece);
       few = omega (arith, length-append done.taken piece, done.counted);
       halted = halted_then g p.state.history q.state.history k0 k1 k2 kept h.0;
-      ends = ends_in p (done.taken ++ piece) now w f h.0.answered h.0.after why at (stops_from p q [] done.taken piece w h.0.answered h.0.after why fed.1 h.1);
+      ends = ends_in p (done.taken ++ piece) now w f wider h.0.answered h.0.after why at
+          (stops_from p q [] done.taken piece w wider h.0.answered h.0.after why fed.1 (stops_wider q (lines_from (pending_from [] done.taken) piece) w failed wider h.0.answered h.0.after why more h.1));
     }
 
 -- the last line did, or the flush behind it
-pub stops_last : {K : Type 0} (g : Ghosts K) (p q : Point) (k0 k1 k2 : K) (left mid now w : Option (List ℕ)) (f : Option ℕ) (a b : PendingLine) (count k : ℕ) (bs : List ℕ) (why : Stop)
-    → HasTaken left mid p q a b count → Holds a [] → count ≤ 2 ^ 32 → mid ≡ prepend_known (take k bs) now → k ≡ 0 → IsAtEnd now → KeptOn g p.state.history k0 q.state.history k1 → IsAtLine why
-    → ((line : List ℕ) → Holds b line → StopsLast g q k1 line w why k2) → StopsInput g p k0 left now w f why k2
-stops_last g p q k0 k1 k2 left mid now w f a b count k bs why done held few read none ended kept at halts =
+pub stops_last : {K : Type 0} (g : Ghosts K) (p q : Point) (k0 k1 k2 : K) (left mid now w : Option (List ℕ)) (f : Option ℕ) (failed wider : Type 0) (a b : PendingLine) (count k : ℕ) (bs : List ℕ) (why : Stop)
+    → HasTaken left mid p q a b count → Holds a [] → count ≤ 2 ^ 32 → mid ≡ prepend_known (take k bs) now → k ≡ 0 → IsAtEnd now → KeptOn g p.state.history k0 q.state.history k1 → IsAtLine why → (failed → wider)
+    → ((line : List ℕ) → Holds b line → StopsLast g q k1 line w failed why k2) → StopsInput g p k0 left now w f wider why k2
+stops_last g p q k0 k1 k2 left mid now w f failed wider a b count k bs why done held few read none ended kept at more halts =
     let fed = done.fed [] held in
     let h = halts (pending_from [] done.taken) fed.0 in
     record {
@@ -71,25 +73,26 @@ stops_last g p q k0 k1 k2 left mid now w f a b count k bs why done held few read
     behind answered after all s = stops_behind p s.last (lines done.taken) w answered after (answered_more p q s.last (ended_lines done.taken) (pending_from [] done.taken ∷ []) all s.all.all) s.same s.done s.kept
 
     last : (answered after : List Stamped) → Answered p (ended_lines done.taken) q
-        → StopsIn q (pending_from [] done.taken ∷ []) w answered after why ⊎ ((why ≡ stop.Output) × StopsBehind q (pending_from [] done.taken ∷ []) w answered after) → EndsInput p done.taken now w f answered after why
+        → StopsIn q (pending_from [] done.taken ∷ []) w failed answered after why ⊎ ((why ≡ stop.Output) × StopsBehind q (pending_from [] done.taken ∷ []) w answered after) → EndsInput p done.taken now w f wider answered after why
     last answered after all (inl s) =
-        ends_in p done.taken now w f answered after why at (stops_then p q (ended_lines done.taken) (pending_from [] done.taken ∷ []) w answered after why all s)
+        ends_in p done.taken now w f wider answered after why at
+        (stops_then p q (ended_lines done.taken) (pending_from [] done.taken ∷ []) w wider answered after why all (stops_wider q (pending_from [] done.taken ∷ []) w failed wider answered after why more s))
     last answered after all (inr s) = rw s.0 (inr (inl (behind answered after all s.1, ended)))
 
 -- all lines that came whole were answered, and then flushed or not
-early_ends : (p : Point) (taken : List ℕ) (left w : Option (List ℕ)) (f : Option ℕ) (answered after : List Stamped) (count : ℕ) (why stopped : Stop) (f0 f1 : ℕ) → length taken ≡ count → count ≤ 2 ^ 32
-    → StopsBehind p (ended_lines taken) w answered after → (why ≡ stop.Input) ⊎ ((why ≡ stop.TooMuch) × (2 ^ 32 ≤ count)) → FlushesFor why stopped w f f0 f1 → EndsInput p taken left w f answered after stopped
-early_ends p taken left w f answered after count why stopped f0 f1 counted few behind (inl is) (inl all) = subst (λ (s : Stop). EndsInput p taken left w f answered after s) (sym (all.0 ∙ is)) (behind, all.1)
-early_ends p taken left w f answered after count why stopped f0 f1 counted few behind (inl is) (inr failed) = subst (λ (s : Stop). EndsInput p taken left w f answered after s) (sym failed.0) (inr (inr behind))
-early_ends p taken left w f answered after count why stopped f0 f1 counted few behind (inr is) (inl all) =
-    subst (λ (s : Stop). EndsInput p taken left w f answered after s) (sym (all.0 ∙ is.0)) (behind, all.1, omega (arith, counted, few, is.1))
-early_ends p taken left w f answered after count why stopped f0 f1 counted few behind (inr is) (inr failed) = subst (λ (s : Stop). EndsInput p taken left w f answered after s) (sym failed.0) (inr (inr behind))
+early_ends : (p : Point) (taken : List ℕ) (left w : Option (List ℕ)) (f : Option ℕ) (failed : Type 0) (answered after : List Stamped) (count : ℕ) (why stopped : Stop) (f0 f1 : ℕ) → length taken ≡ count → count ≤ 2 ^ 32
+    → StopsBehind p (ended_lines taken) w answered after → (why ≡ stop.Input) ⊎ ((why ≡ stop.TooMuch) × (2 ^ 32 ≤ count)) → FlushesFor why stopped w f f0 f1 → EndsInput p taken left w f failed answered after stopped
+early_ends p taken left w f failed answered after count why stopped f0 f1 counted few behind (inl is) (inl all) = subst (λ (s : Stop). EndsInput p taken left w f failed answered after s) (sym (all.0 ∙ is)) (behind, all.1)
+early_ends p taken left w f failed answered after count why stopped f0 f1 counted few behind (inl is) (inr cut) = subst (λ (s : Stop). EndsInput p taken left w f failed answered after s) (sym cut.0) (inr (inr behind))
+early_ends p taken left w f failed answered after count why stopped f0 f1 counted few behind (inr is) (inl all) =
+    subst (λ (s : Stop). EndsInput p taken left w f failed answered after s) (sym (all.0 ∙ is.0)) (behind, all.1, omega (arith, counted, few, is.1))
+early_ends p taken left w f failed answered after count why stopped f0 f1 counted few behind (inr is) (inr cut) = subst (λ (s : Stop). EndsInput p taken left w f failed answered after s) (sym cut.0) (inr (inr behind))
 
 -- the input failed, or there was too much of it
-pub stops_early : {K : Type 0} (g : Ghosts K) (p q : Point) (k0 k : K) (left mid now w : Option (List ℕ)) (f : Option ℕ) (a b : PendingLine) (count : ℕ) (why stopped : Stop) (f0 f1 : ℕ)
+pub stops_early : {K : Type 0} (g : Ghosts K) (p q : Point) (k0 k : K) (left mid now w : Option (List ℕ)) (f : Option ℕ) (failed : Type 0) (a b : PendingLine) (count : ℕ) (why stopped : Stop) (f0 f1 : ℕ)
     → HasTaken left mid p q a b count → Holds a [] → count ≤ 2 ^ 32 → now ≡ mid → w ≡ q.written → (h : Halted g p.state.history k0 k) → h.answered ≡ q.state.history → h.after ≡ q.state.history
-    → (why ≡ stop.Input) ⊎ ((why ≡ stop.TooMuch) × (2 ^ 32 ≤ count)) → FlushesFor why stopped w f f0 f1 → StopsInput g p k0 left now w f stopped k
-stops_early g p q k0 k left mid now w f a b count why stopped f0 f1 done held few same wrote h answered after reason flushes =
+    → (why ≡ stop.Input) ⊎ ((why ≡ stop.TooMuch) × (2 ^ 32 ≤ count)) → FlushesFor why stopped w f f0 f1 → StopsInput g p k0 left now w f failed stopped k
+stops_early g p q k0 k left mid now w f failed a b count why stopped f0 f1 done held few same wrote h answered after reason flushes =
     let fed = done.fed [] held in
     record {
       taken = done.taken;
@@ -97,7 +100,7 @@ stops_early g p q k0 k left mid now w f a b count why stopped f0 f1 done held fe
       few = omega (arith, done.counted);
       cut = lines_are_cut done.taken;
       halted = h;
-      ends = early_ends p done.taken now w f h.answered h.after count why stopped f0 f1 done.counted few (stops_behind p q (ended_lines done.taken) w h.answered h.after fed.1 wrote answered after) reason flushes;
+      ends = early_ends p done.taken now w f failed h.answered h.after count why stopped f0 f1 done.counted few (stops_behind p q (ended_lines done.taken) w h.answered h.after fed.1 wrote answered after) reason flushes;
     }
 
 -- why a session stopped, where the flush told it

@@ -38,10 +38,11 @@ pub record AnswersInput (before : Point) (left now : Option (List ℕ)) (after :
   pub all : Accepted before (lines taken) after accepted
 
 -- A session stopped at its last line, or that was answered, and the output not flushed.
-abbrev pub StopsLast : {K : Type 0} → Ghosts K → Point → K → List ℕ → Option (List ℕ) → Stop → K
-    → Type 0
-StopsLast g before old line written why keeper = (h : Halted g before.state.history old keeper)
-    × (StopsIn before (line ∷ []) written h.answered h.after why
+abbrev pub StopsLast : {K : Type 0} → Ghosts K → Point → K → List ℕ → Option (List ℕ)
+    → (failed : Type 0) → Stop → K → Type 0
+StopsLast g before old line written failed why keeper =
+    (h : Halted g before.state.history old keeper)
+    × (StopsIn before (line ∷ []) written failed h.answered h.after why
     ⊎ ((why ≡ stop.Output) × StopsBehind before (line ∷ []) written h.answered h.after))
 
 -- all that was written is flushed
@@ -55,36 +56,36 @@ abbrev pub FlushesFor : (why stopped : Stop) → Option (List ℕ) → Option �
 FlushesFor why stopped written flushed before after =
     ((stopped ≡ why) × IsAllFlushed written flushed) ⊎ ((stopped ≡ stop.Output) × Rose before after)
 
--- Why the session over these bytes stopped. Where the input failed, or there was too much of it,
--- the lines that an LF ends were answered, and the replies flushed. Where the output failed, a
--- reply wasn't written; or all were, up to the input's end or to where it failed or there was too
--- much of it, and not flushed. Else it stopped at a line.
+-- Why the session over these bytes stopped, whose output failed or not. Where the input failed, or
+-- there was too much of it, the lines that an LF ends were answered, and the replies flushed. Where
+-- the output failed, a reply wasn't written; or all were, up to the input's end or to where it
+-- failed or there was too much of it, and not flushed. Else it stopped at a line.
 abbrev pub EndsInput : Point → List ℕ → Option (List ℕ) → Option (List ℕ) → Option ℕ
-    → (answered after : List Stamped) → Stop → Type 0
-EndsInput before taken left written flushed answered after stop.Memory =
-    StopsIn before (lines taken) written answered after stop.Memory
-EndsInput before taken left written flushed answered after stop.Disk =
-    StopsIn before (lines taken) written answered after stop.Disk
-EndsInput before taken left written flushed answered after stop.Input =
+    → (failed : Type 0) → (answered after : List Stamped) → Stop → Type 0
+EndsInput before taken left written flushed failed answered after stop.Memory =
+    StopsIn before (lines taken) written failed answered after stop.Memory
+EndsInput before taken left written flushed failed answered after stop.Disk =
+    StopsIn before (lines taken) written failed answered after stop.Disk
+EndsInput before taken left written flushed failed answered after stop.Input =
     StopsBehind before (ended_lines taken) written answered after × IsAllFlushed written flushed
-EndsInput before taken left written flushed answered after stop.Output =
-    StopsIn before (lines taken) written answered after stop.Output
+EndsInput before taken left written flushed failed answered after stop.Output =
+    StopsIn before (lines taken) written failed answered after stop.Output
     ⊎ ((StopsBehind before (lines taken) written answered after × IsAtEnd left)
     ⊎ StopsBehind before (ended_lines taken) written answered after)
-EndsInput before taken left written flushed answered after stop.TooMuch =
+EndsInput before taken left written flushed failed answered after stop.TooMuch =
     StopsBehind before (ended_lines taken) written answered after × IsAllFlushed written flushed
     × (length taken ≡ 2 ^ 32)
 
 -- a session over an input stopped, from this point and keeper on
 pub record StopsInput {K : Type 0} (g : Ghosts K) (before : Point) (old : K)
-    (left now written : Option (List ℕ)) (flushed : Option ℕ) (why : Stop)
+    (left now written : Option (List ℕ)) (flushed : Option ℕ) (failed : Type 0) (why : Stop)
     (keeper : K) : Type 0 where
   pub taken : List ℕ
   pub input : Takes left taken now
   pub few : length taken ≤ 2 ^ 32
   pub cut : IsCutAtLineFeeds (lines taken) taken
   pub halted : Halted g before.state.history old keeper
-  pub ends : EndsInput before taken now written flushed halted.answered halted.after why
+  pub ends : EndsInput before taken now written flushed failed halted.answered halted.after why
 
 -- so many bytes were taken from the first point on, and the lines that they end were answered
 pub record HasTaken (left now : Option (List ℕ)) (before after : Point) (pending kept : PendingLine)

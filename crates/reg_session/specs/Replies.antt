@@ -43,10 +43,20 @@ is_accepted (reply.Refused r) = false
 is_accepted reply.NoMemory = false
 is_accepted reply.KeepFault = false
 
--- what is shown of a reply: itself, or where no command was accepted that there was no memory to
--- print it
+-- whether a reply may give way to that there was no memory: an answer or a refusal, behind which no
+-- command is kept
+abbrev pub gives_way : Reply → Bool
+gives_way (reply.Number n id) = false
+gives_way (reply.Loaded n counts) = false
+gives_way (reply.Answer a) = true
+gives_way (reply.Refused r) = true
+gives_way reply.NoMemory = false
+gives_way reply.KeepFault = false
+
+-- what is shown of a reply: itself, or of an answer or a refusal that there was no memory to print
+-- it
 abbrev pub IsShown : Reply → Reply → Type 0
-IsShown due shown = (shown ≡ due) ⊎ ((shown ≡ reply.NoMemory) × (is_accepted due ≡ false))
+IsShown due shown = (shown ≡ due) ⊎ ((shown ≡ reply.NoMemory) × (gives_way due ≡ true))
 
 -- A reply was written: whole; or the output failed, and a front of it stands there; or an accepted
 -- command's reply found no memory, and nothing of it stands there.

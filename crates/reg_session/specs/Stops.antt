@@ -1,5 +1,6 @@
 -- Why and where a session stops.
 use Rattle.std.specs.Prelude.{◌≡◌, ◌⊎◌, ℕ, List, ◌∷◌, ◌++◌, Option, true, false, Result, IfSome}
+use Rattle.std.specs.Io.KnownBytes.{append_known}
 use Rattle.reg_outside.specs.Streams.{first_moment, WritesFront}
 use Rattle.reg_terms.specs.declared.command.Stamped.{Stamped}
 use Rattle.reg_terms.specs.declared.refusal.Refusal.{Refusal}
@@ -28,40 +29,47 @@ stop_of cause.Disk = stop.Disk
 abbrev pub IsAtLine : Stop → Type 0
 IsAtLine why = (why ≡ stop.Memory) ⊎ (why ≡ stop.Disk) ⊎ (why ≡ stop.Output)
 
+-- a reply stands whole behind what was written before, or the output failed
+abbrev pub IsSaid : Reply → (old new : Option (List ℕ)) → (failed : Type 0) → Type 0
+IsSaid due old new failed = (new ≡ append_known old (line_of due)) ⊎ failed
+
 -- Why the last turn of a session was the last: the reply that was due, the history that was
--- answered, and that which may be kept. For want of memory the history stays, or the one command
--- was accepted, and nothing of its reply stands on the output (`bare`). Where the keeper failed,
--- the command may be kept or not. Where the output failed, it is kept.
-abbrev pub EndsTurn : State → ℕ → Result Request Refusal → Reply → (bare : Type 0)
+-- answered, and that which may be kept. For want of memory the history stays, and the reply says so
+-- (`said`); or the one command was accepted, and nothing of its reply stands on the output
+-- (`bare`). Where the keeper failed, the command may be kept or not, and the reply says so. Where
+-- the output failed, it is kept.
+abbrev pub EndsTurn : State → ℕ → Result Request Refusal → Reply → (said bare : Type 0)
     → (answered after : List Stamped) → Stop → Type 0
-EndsTurn s at reading due bare answered after stop.Memory =
-    ((due ≡ reply.NoMemory) × (answered ≡ s.history) × (after ≡ s.history))
+EndsTurn s at reading due said bare answered after stop.Memory =
+    ((due ≡ reply.NoMemory) × said × (answered ≡ s.history) × (after ≡ s.history))
     ⊎ ((is_accepted due ≡ true) × bare
     × ((last : State) × Turns s at reading due last × (answered ≡ last.history)
     × (after ≡ last.history)))
-EndsTurn s at reading due bare answered after stop.Disk =
-    (due ≡ reply.KeepFault) × (answered ≡ s.history)
+EndsTurn s at reading due said bare answered after stop.Disk =
+    (due ≡ reply.KeepFault) × said × (answered ≡ s.history)
     × ((after ≡ s.history) ⊎ (after ≡ (turn s at reading).1.history))
-EndsTurn s at reading due bare answered after stop.Input = ⊥
-EndsTurn s at reading due bare answered after stop.Output =
+EndsTurn s at reading due said bare answered after stop.Input = ⊥
+EndsTurn s at reading due said bare answered after stop.Output =
     (last : State) × Turns s at reading due last × (answered ≡ last.history)
     × (after ≡ last.history)
-EndsTurn s at reading due bare answered after stop.TooMuch = ⊥
+EndsTurn s at reading due said bare answered after stop.TooMuch = ⊥
 
--- The last turn: at the clock's next moment, with a front of the reply on the output.
+-- The last turn: at the clock's next moment, with a front of the reply on the output, which failed
+-- or not.
 pub record LastTurn (mid : Point) (reading : Result Request Refusal) (written : Option (List ℕ))
-    (answered after : List Stamped) (why : Stop) : Type 0 where
+    (failed : Type 0) (answered after : List Stamped) (why : Stop) : Type 0 where
   pub at : ℕ
   pub moment : IfSome mid.moments (λ coming. at ≡ first_moment coming)
   pub due : Reply
   pub shown : Reply
   pub shows : IsShown due shown
   pub front : WritesFront mid.written written (line_of shown)
-  pub ends : EndsTurn mid.state at reading due (written ≡ mid.written) answered after why
+  pub ends : EndsTurn mid.state at reading due (IsSaid due mid.written written failed) (written
+      ≡ mid.written) answered after why
 
 -- A session stopped at one of these lines: those before it were answered, and it had the last turn.
 pub record StopsIn (before : Point) (ls : List (List ℕ)) (written : Option (List ℕ))
-    (answered after : List Stamped) (why : Stop) : Type 0 where
+    (failed : Type 0) (answered after : List Stamped) (why : Stop) : Type 0 where
   pub earlier : List (List ℕ)
   pub line : List ℕ
   pub later : List (List ℕ)
@@ -70,11 +78,11 @@ pub record StopsIn (before : Point) (ls : List (List ℕ)) (written : Option (Li
   pub mid : Point
   pub accepted : List Stamped
   pub all : Accepted before earlier mid accepted
-  pub last : LastTurn mid (reading_of line) written answered after why
+  pub last : LastTurn mid (reading_of line) written failed answered after why
 
 -- the same with its keeper, from this one on
-abbrev pub HaltsIn : {K : Type 0} → Ghosts K → Point → K → List (List ℕ) → Option (List ℕ) → Stop
-    → K → Type 0
-HaltsIn g before old ls written why keeper =
+abbrev pub HaltsIn : {K : Type 0} → Ghosts K → Point → K → List (List ℕ) → Option (List ℕ)
+    → (failed : Type 0) → Stop → K → Type 0
+HaltsIn g before old ls written failed why keeper =
     (h : Halted g before.state.history old keeper)
-    × StopsIn before ls written h.answered h.after why
+    × StopsIn before ls written failed h.answered h.after why

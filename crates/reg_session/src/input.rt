@@ -105,7 +105,7 @@ fn finish<J: Keeper, K: Sink, C: Clock>(
     ensures halted { IfErr result (λ e. (bytes : List ℕ) → Holds line.now bytes →
         StopsLast ⟦<J as Keeper>⟧
         (point ⟦<K as Sink>⟧ ⟦<C as Clock>⟧ out.old clock.old service.state) service.keeper bytes
-        (K.written out.new) e.0 e.1) }
+        (K.written out.new) (Rose (K.write_faults out.old) (K.write_faults out.new)) e.0 e.1) }
     ensures count { K.write_faults out.old ≤ K.write_faults out.new }
     ensures output { IfErr result (λ e. e.0 ≡ Stop.Output
         → Rose (K.write_faults out.old) (K.write_faults out.new)) }
@@ -141,7 +141,8 @@ pub fn answer_input<S: Source, J: Keeper, K: Sink, C: Clock>(
     ensures halted { IfErr result (λ e.
         StopsInput ⟦<J as Keeper>⟧
         (point ⟦<K as Sink>⟧ ⟦<C as Clock>⟧ out.old clock.old service.state) service.keeper
-        (S.left input.old) (S.left input.new) (K.written out.new) (K.flushed out.new) e.0 e.1) }
+        (S.left input.old) (S.left input.new) (K.written out.new) (K.flushed out.new)
+        (Rose (K.write_faults out.old) (K.write_faults out.new)) e.0 e.1) }
     ensures input { IfErr result (λ e. e.0 ≡ Stop.Input
         → Rose (S.read_faults input.old) (S.read_faults input.new)) }
     ensures output { IfErr result (λ e. e.0 ≡ Stop.Output

@@ -11,13 +11,13 @@ ghost use Rattle.reg_service.specs.Turn.{AsksNoChange, Follows, turn};
 ghost use Rattle.reg_session.specs.Answered.{Answered, Feeds, point};
 ghost use Rattle.reg_session.specs.Lines.{lines_from};
 ghost use Rattle.reg_session.specs.Pending.{Holds, ReadsAs, AsksFormed};
-ghost use Rattle.reg_session.specs.Replies.{line_of, is_accepted, WritesReply};
+ghost use Rattle.reg_session.specs.Replies.{line_of, WritesReply};
 ghost use Rattle.reg_session.specs.Stops.{HaltsIn, IsAtLine};
 
 use crate::pending::{LineReading, PendingLine};
 use crate::stop::{Stop, stop_of};
 use reg_base::Moment;
-use reg_json::{append_line, no_memory_line};
+use reg_json::{append_line, keep_fault_line, no_memory_line};
 use reg_keep::Keeper;
 use reg_outside::{Clock, Failed, Sink, write_whole};
 use reg_service::{Next, Service};
@@ -25,13 +25,6 @@ use reg_terms::Reply;
 use std::alloc::{AllocError, Global};
 
 const LINE_FEED: u8 = 10;
-
-/// Whether a reply says that a command was accepted.
-fn is_accepted(reply: &Reply) -> bool
-    ensures { result ≡ is_accepted reply.now }
-{
-    matches!(reply, Reply::Number { .. } | Reply::Loaded { .. })
-}
 
 /// The text of a reply, and LF.
 pub fn reply_line(alloc: Global, reply: &Reply) -> Result<Vec<u8>, AllocError>
@@ -53,8 +46,26 @@ fn write_bytes<K: Sink>(out: &mut K, bytes: &[u8]) -> Result<(), Stop>
     }
 }
 
-/// Writes a reply. Where there is no memory to print it, that is written in its place, unless a
-/// command was accepted: that one reply can't be taken back, so nothing of it is written.
+/// Writes what stands for a reply that there is no memory to print. Of an accepted command that is
+/// nothing, since it can't be taken back, and of a fault itself, since its text is constant. In
+/// place of an answer or a refusal it is that there was no memory.
+fn write_unprinted<K: Sink>(reply: &Reply, out: &mut K) -> Result<(), Stop>
+    ensures written { WritesReply reply.now (K.written out.old) (K.written out.new) result }
+    ensures count { K.write_faults out.old ≤ K.write_faults out.new }
+    ensures output { IfErr result (λ e. e ≡ Stop.Output
+        → Rose (K.write_faults out.old) (K.write_faults out.new)) }
+    ensures others { IfErr result (λ e. (e ≡ Stop.Memory) ⊎ (e ≡ Stop.Output)) }
+{
+    match reply {
+        Reply::Number { .. } | Reply::Loaded { .. } => Err(Stop::Memory),
+        Reply::Answer(_) | Reply::Refused(_) | Reply::NoMemory => {
+            write_bytes(out, no_memory_line())
+        }
+        Reply::KeepFault => write_bytes(out, keep_fault_line()),
+    }
+}
+
+/// Writes a reply, or what stands for it where there is no memory to print it.
 fn write_line<K: Sink>(alloc: Global, reply: &Reply, out: &mut K) -> Result<(), Stop>
     ensures written { WritesReply reply.now (K.written out.old) (K.written out.new) result }
     ensures count { K.write_faults out.old ≤ K.write_faults out.new }
@@ -64,12 +75,7 @@ fn write_line<K: Sink>(alloc: Global, reply: &Reply, out: &mut K) -> Result<(), 
 {
     match reply_line(alloc, reply) {
         Ok(line) => write_bytes(out, &line),
-        Err(AllocError) => {
-            if is_accepted(reply) {
-                return Err(Stop::Memory);
-            }
-            write_bytes(out, no_memory_line())
-        }
+        Err(AllocError) => write_unprinted(reply, out),
     }
 }
 
@@ -115,7 +121,8 @@ pub fn answer_line<J: Keeper, K: Sink, C: Clock>(
         after.keeper) }
     ensures halted { IfErr result (λ e. (bytes : List ℕ) → Holds line.now bytes →
         HaltsIn ⟦<J as Keeper>⟧ (point ⟦<K as Sink>⟧ ⟦<C as Clock>⟧ out.old clock.old service.state)
-        service.keeper (bytes ∷ []) (K.written out.new) e.0 e.1) }
+        service.keeper (bytes ∷ []) (K.written out.new)
+        (Rose (K.write_faults out.old) (K.write_faults out.new)) e.0 e.1) }
     ensures count { K.write_faults out.old ≤ K.write_faults out.new }
     ensures output { IfErr result (λ e. e.0 ≡ Stop.Output
         → Rose (K.write_faults out.old) (K.write_faults out.new)) }
@@ -176,7 +183,8 @@ fn feed_line<J: Keeper, K: Sink, C: Clock>(
         after.0.keeper) }
     ensures halted { IfErr result (λ e. (before : List ℕ) → Holds line before →
         HaltsIn ⟦<J as Keeper>⟧ (point ⟦<K as Sink>⟧ ⟦<C as Clock>⟧ out.old clock.old service.state)
-        service.keeper (lines_from before bytes.now) (K.written out.new) e.0 e.1) }
+        service.keeper (lines_from before bytes.now) (K.written out.new)
+        (Rose (K.write_faults out.old) (K.write_faults out.new)) e.0 e.1) }
     ensures count { K.write_faults out.old ≤ K.write_faults out.new }
     ensures output { IfErr result (λ e. e.0 ≡ Stop.Output
         → Rose (K.write_faults out.old) (K.write_faults out.new)) }
@@ -212,7 +220,8 @@ pub fn feed<J: Keeper, K: Sink, C: Clock>(
         after.0.keeper) }
     ensures halted { IfErr result (λ e. (before : List ℕ) → Holds line before →
         HaltsIn ⟦<J as Keeper>⟧ (point ⟦<K as Sink>⟧ ⟦<C as Clock>⟧ out.old clock.old service.state)
-        service.keeper (lines_from before piece.now) (K.written out.new) e.0 e.1) }
+        service.keeper (lines_from before piece.now) (K.written out.new)
+        (Rose (K.write_faults out.old) (K.write_faults out.new)) e.0 e.1) }
     ensures count { K.write_faults out.old ≤ K.write_faults out.new }
     ensures output { IfErr result (λ e. e.0 ≡ Stop.Output
         → Rose (K.write_faults out.old) (K.write_faults out.new)) }

@@ -2,17 +2,11 @@
 #![tactic(auto)]
 
 use reg_outside::{Absent, FileDisk, StdSink, StdSource, SystemClock, TcpPort};
-use reg_run::run;
+use reg_run::{End, run, status_of, write_note};
 use std::env;
 use std::fs::{File, OpenOptions};
 use std::io::ErrorKind;
 use std::process::ExitCode;
-
-/// The exit status where the words are none of the program's: here, one that isn't UTF-8.
-const USAGE: u8 = 2;
-
-/// The exit status where there was no memory.
-const NO_MEMORY: u8 = 3;
 
 /// The null file. A file that is opened takes the lowest descriptor that is free, which is a
 /// standard stream's where the caller closed it: three of these leave none of them to the journal,
@@ -64,22 +58,30 @@ fn over(rt: &HostRuntime, path: &str, words: &[String]) -> u8 {
     status
 }
 
+/// Ends the program before it has its words: writes the note, and gives the exit status.
+fn give_up(rt: &HostRuntime, end: End) -> ExitCode {
+    let mut notes = StdSink::new(rt.stderr());
+    write_note(&mut notes, end);
+    ExitCode::from(status_of(end))
+}
+
 /// The first word is the journal file; the others say what to do. Without a first word there are
 /// no others, and no file is touched.
 fn main(rt: HostRuntime) -> ExitCode {
     let arguments = match env::args(&rt) {
         Ok(arguments) => arguments,
         Err(error) => {
+            // That one of them isn't UTF-8, or that there was no memory for them.
             if error.kind() == ErrorKind::InvalidData {
-                return ExitCode::from(USAGE);
+                return give_up(&rt, End::Usage);
             }
-            return ExitCode::from(NO_MEMORY);
+            return give_up(&rt, End::Memory);
         }
     };
     let mut words = Vec::new(rt.alloc());
     for word in arguments.skip(1) {
         if words.push(word).is_err() {
-            return ExitCode::from(NO_MEMORY);
+            return give_up(&rt, End::Memory);
         }
     }
     let _streams = (null(&rt), null(&rt), null(&rt));

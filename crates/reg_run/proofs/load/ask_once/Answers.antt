@@ -16,7 +16,8 @@ returns-in-Go-clause-asked g c told reads =
         moment = c.now-at.ensures.moment;
         told = c.turn-reply.result.0;
         turn = inl (c.in-Go.service.state, follows_go s c.in-Go.service c.now-at.result told c.turn-reply.result (c.turn-reply.ensures.turn told reads) c.in-Go.is, refl, refl);
-        printed = c.print_reply-end.ensures;
+        printed = c.print_reply-end.ensures.printed;
+        sure = c.print_reply-end.ensures.sure;
       },
     )
 
@@ -24,7 +25,7 @@ pub returns-in-Go-clause-disk : goal.returns-in-Go-clause-disk
 returns-in-Go-clause-disk g c is =
     let t = told_of c.args.reading in
     absurd (goes_sure c.args.service.state c.in-Go.service.state c.now-at.result t.0 c.turn-reply.result.0 _ c.print_reply-end.result _ _
-    (follows_go c.args.service.state c.in-Go.service c.now-at.result t.0 c.turn-reply.result (c.turn-reply.ensures.turn t.0 t.1) c.in-Go.is) c.print_reply-end.ensures is)
+    (follows_go c.args.service.state c.in-Go.service c.now-at.result t.0 c.turn-reply.result (c.turn-reply.ensures.turn t.0 t.1) c.in-Go.is) c.print_reply-end.ensures.printed is)
 
 -- or stopped
 pub returns-in-Stop-clause-asked : goal.returns-in-Stop-clause-asked
@@ -41,7 +42,8 @@ returns-in-Stop-clause-asked g c told reads =
         turn = stops_once s c.now-at.result told c.turn-reply.result.0 h.after c.in-Stop.field-0
             (follows_stop s c.now-at.result told c.turn-reply.result c.in-Stop.field-0 c.in-Stop.keeper (c.turn-reply.ensures.turn told reads) c.in-Stop.is)
             (next_began g.J.Keeper s.history _ c.args.service.keeper c.turn-reply.result.1 c.in-Stop.field-0 c.in-Stop.keeper kept c.in-Stop.is one);
-        printed = c.print_reply-end.ensures;
+        printed = c.print_reply-end.ensures.printed;
+        sure = c.print_reply-end.ensures.sure;
       },
     )
 
@@ -49,5 +51,5 @@ pub returns-in-Stop-clause-disk : goal.returns-in-Stop-clause-disk
 returns-in-Stop-clause-disk g c is =
     let t = told_of c.args.reading in
     let why = stops_disk c.in-Stop.field-0 c.turn-reply.result.0 _ c.print_reply-end.result _ _
-    (follows_stop c.args.service.state c.now-at.result t.0 c.turn-reply.result c.in-Stop.field-0 c.in-Stop.keeper (c.turn-reply.ensures.turn t.0 t.1) c.in-Stop.is) c.print_reply-end.ensures is in
+    (follows_stop c.args.service.state c.now-at.result t.0 c.turn-reply.result c.in-Stop.field-0 c.in-Stop.keeper (c.turn-reply.ensures.turn t.0 t.1) c.in-Stop.is) c.print_reply-end.ensures.printed is in
     rw why at (next_cause g.J.Keeper c.args.service.state.history _ c.args.service.keeper c.turn-reply.result.1 c.in-Stop.field-0 c.in-Stop.keeper (c.turn-reply.ensures.kept t.0 t.1) c.in-Stop.is)

@@ -51,5 +51,5 @@ returns-in-Err-answer_input-clause-did g c n =
           (apply_stopped c.in-Err-answer_input.stop from s.taken _ _ h.kept.more (length h.answered - length from.history) h.answered h.after c.in-Err-answer_input.ensures.input c.in-Err-answer_input.ensures.output
           (λ is. omega (arith, c.in-Err-answer_input.ensures.disk is, c.in-Ok.ensures.later)) (answered_front from.history h.answered h.after h.kept.more h.kept.grown h.first h.last) h.kept.grown s.ends)
           (survives_kept g.D.Disk from.history h.answered h.after h.kept.more _ c.args.disk mid new c.in-Ok.ensures.crash (g.met.D.Disk.only_now c.args.disk) c.in-Ok.ensures.same (g.met.D.Disk.reads_now new)
-          h.kept.grown h.first h.last (whole_stop _ _ _ _ _ _ _ _ _ s) (stops_halted from.history h.answered h.after c.in-Ok.service.keeper c.in-Err-answer_input.keeper h.kept.crash h.stopped)),
+          h.kept.grown h.first h.last (whole_stop _ _ _ _ _ _ _ _ _ _ s) (stops_halted from.history h.answered h.after c.in-Ok.service.keeper c.in-Err-answer_input.keeper h.kept.crash h.stopped)),
     ))

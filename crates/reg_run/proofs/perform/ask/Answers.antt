@@ -11,7 +11,7 @@ returns-clause-asked g c =
       at = c.now-at.result;
       moment = c.now-at.ensures.moment;
       turn = told_or_none c.args.service.state c.now-at.result _ c.args.service.keeper c.turn-reply.result.0 c.turn-reply.result.1 (c.turn-reply.ensures.turn _ c.asked_by-reading.ensures.reads) same;
-      printed = c.print_reply-end.ensures;
+      printed = c.print_reply-end.ensures.printed;
     }
 
 -- and the keeper given back

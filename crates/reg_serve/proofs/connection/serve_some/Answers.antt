@@ -11,7 +11,7 @@ returns-in-Err-clause-session g c left first keeper h kept =
 -- its bytes ended
 pub returns-then-count-eq0-clause-session : goal.returns-then-count-eq0-clause-session
 returns-then-count-eq0-clause-session g c left first keeper h kept =
-    session_end g.K.Keeper keeper _ _ _ _ c.args.service _ _ _ _ _ _ _ h kept c.in-Ok.ensures.written c.in-Ok.ensures.bytes c.if-count-eq0.true (c.in-Ok.ensures.end c.if-count-eq0.true) (omega (arith, c.requires.some)) c.requires.none
+    session_end g.K.Keeper keeper _ _ _ _ c.args.service _ _ _ _ _ _ _ h kept c.in-Ok.ensures.written c.in-Ok.ensures.bytes c.if-count-eq0.true (c.in-Ok.ensures.end c.if-count-eq0.true) c.requires.some c.requires.none
 
 -- it ended in a piece
 pub returns-in-Err-serve_piece-clause-session : goal.returns-in-Err-serve_piece-clause-session

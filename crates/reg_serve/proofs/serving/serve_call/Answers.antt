@@ -1,3 +1,4 @@
+use Rattle.reg_calls.specs.Asked.{asked_of}
 use Rattle.reg_serve.proofs.Answering.{answers_go, answers_stop, finishes_open, finishes_served, finishes_kept, finishes_ended, stop_leaves}
 use Rattle.reg_serve.proofs.serving.serve_call.Goals as goal
 
@@ -24,4 +25,5 @@ returns-in-Go-clause-ended g c =
 pub returns-in-Stop-clause-ended : goal.returns-in-Stop-clause-ended
 returns-in-Stop-clause-ended g c =
     let m = answers_stop _ _ _ _ _ _ c.answer-reply.result c.in-Stop.cause c.in-Stop.keeper (rw c.asked_of-asked.ensures at c.answer-reply.ensures) c.in-Stop.is in
-    stop_leaves g.K.Keeper c.args.service.keeper c.in-Stop.keeper _ _ _ _ _ _ m.1.0 _ _ m.1.2.0 m.1.1 m.0 (rw c.asked_of-asked.ensures at c.stop_call.ensures.sends) m.1.2.1 m.1.2.2
+    let stop = c.stop_call.ensures in
+    stop_leaves g.K.Keeper c.args.service.keeper c.in-Stop.keeper _ _ _ _ _ c.args.call.now m.1.0 c.in-Stop.cause m.1.2.0 c.stop_call.result m.1.1 (λ is. stop.sent is (asked_of c.args.call.now)) (stop.front (asked_of c.args.call.now)) stop.ends m.1.2.1 m.1.2.2

@@ -1,5 +1,6 @@
 use Rattle.std.proofs.Common.{arith, rules, refl, inl, inr}
 use Rattle.std.proofs.lemmas.List.{length-take-le}
+use Rattle.reg_outside.specs.Faults.{Rose}
 use Rattle.reg_session.specs.Answered.{Point}
 use Rattle.reg_session.specs.Input.{StopsInput}
 use Rattle.reg_session.proofs.Feeding.{taken_none, taken_more, answers_all}
@@ -42,21 +43,24 @@ pub returns-then-count-eq0-clause-halted : goal.returns-then-count-eq0-clause-ha
 returns-then-count-eq0-clause-halted g c =
     let here : Point = record { written = g.K.Sink.written c.args.out.now; moments = g.C.Clock.moments c.args.clock.now; state = c.args.service.state } in
     err_so _ _ _ c.finish-last.result c.finish-last.ensures.halted c.finish-last.ensures.others
-    (λ e halted others. stops_last g.J.Keeper here _ _ _ _ _ _ _ _ _ _ _ _ _ _ _ c.loop-taken.invariant.done c.loop-taken.invariant.held c.loop-taken.invariant.few c.in-Ok.ensures.bytes c.if-count-eq0.true (c.in-Ok.ensures.end c.if-count-eq0.true)
-    c.loop-taken.invariant.kept others halted)
+    (λ e halted others. stops_last g.J.Keeper here _ _ _ _ _ _ _ _ _ _ _ _ _ _ _ _ _ c.loop-taken.invariant.done c.loop-taken.invariant.held c.loop-taken.invariant.few c.in-Ok.ensures.bytes c.if-count-eq0.true (c.in-Ok.ensures.end c.if-count-eq0.true)
+    c.loop-taken.invariant.kept others (λ rose. omega (arith, rose, c.loop-taken.invariant.writes)) halted)
 
 -- a line of a piece did
 pub returns-in_err-service-clause-halted : goal.returns-in_err-service-clause-halted
 returns-in_err-service-clause-halted g c =
     let here : Point = record { written = g.K.Sink.written c.args.out.now; moments = g.C.Clock.moments c.args.clock.now; state = c.args.service.state } in
-    err_by (λ e. StopsInput g.J.Keeper here c.args.service.keeper (g.S.Source.left c.args.input.now) (g.S.Source.left c.read_some.new.input) (g.K.Sink.written c.feed.new.out) (g.K.Sink.flushed c.feed.new.out) e.0 e.1) c.from_residual.result c.in_err-service.field-0.0 c.from_residual.ensures.1
-    (stops_piece g.J.Keeper here _ _ _ _ _ _ _ _ _ _ _ _ _ _ c.loop-taken.invariant.done c.loop-taken.invariant.held (omega (arith, c.in-Ok.ensures.within, length-take-le _ _ c.in-Ok.ensures.filled)) c.in-Ok.ensures.bytes
-    c.loop-taken.invariant.kept c.in_err-service.ensures.others c.in_err-service.ensures.halted)
+    let faults = g.K.Sink.write_faults in
+    let failed : Type 0 = Rose (faults c.loop-taken.out) (faults c.feed.new.out) in
+    let wider : Type 0 = Rose (faults c.args.out.now) (faults c.feed.new.out) in
+    err_by (λ e. StopsInput g.J.Keeper here c.args.service.keeper (g.S.Source.left c.args.input.now) (g.S.Source.left c.read_some.new.input) (g.K.Sink.written c.feed.new.out) (g.K.Sink.flushed c.feed.new.out) wider e.0 e.1) c.from_residual.result c.in_err-service.field-0.0 c.from_residual.ensures.1
+    (stops_piece g.J.Keeper here _ _ _ _ _ _ _ _ _ failed wider _ _ _ _ _ c.loop-taken.invariant.done c.loop-taken.invariant.held (omega (arith, c.in-Ok.ensures.within, length-take-le _ _ c.in-Ok.ensures.filled)) c.in-Ok.ensures.bytes
+    c.loop-taken.invariant.kept c.in_err-service.ensures.others (λ rose. omega (arith, rose, c.loop-taken.invariant.writes)) c.in_err-service.ensures.halted)
 
 -- the input failed
 pub returns-in-Err-clause-halted : goal.returns-in-Err-clause-halted
 returns-in-Err-clause-halted g c =
-    stops_early g.J.Keeper _ _ _ _ _ _ _ _ _ _ _ _ _ _ _ _ c.loop-taken.invariant.done c.loop-taken.invariant.held c.loop-taken.invariant.few c.in-Err.ensures.same c.stop_at_input.ensures.same
+    stops_early g.J.Keeper _ _ _ _ _ _ _ _ _ _ _ _ _ _ _ _ _ c.loop-taken.invariant.done c.loop-taken.invariant.held c.loop-taken.invariant.few c.in-Err.ensures.same c.stop_at_input.ensures.same
     (go_halted g.J.Keeper c.args.service.state.history c.args.service.keeper c.loop-taken.service c.stop_at_input.result.1 c.loop-taken.invariant.kept c.stop_at_input.ensures.keeper c.stop_at_input.ensures.fronts c.stop_at_input.ensures.leaves) refl refl
     (inl c.in-Err.ensures.input.0) c.stop_at_input.ensures.why
 
@@ -72,7 +76,7 @@ returns-in-Err-clause-disk g c is = absurd (early_disk _ _ _ _ _ _ c.stop_at_inp
 -- there was too much of it
 pub returns-clause-halted : goal.returns-clause-halted
 returns-clause-halted g c =
-    stops_early g.J.Keeper _ _ _ _ _ _ _ _ _ _ _ _ _ _ _ _ c.loop-taken.invariant.done c.loop-taken.invariant.held c.loop-taken.invariant.few refl c.stop_at_input-2.ensures.same
+    stops_early g.J.Keeper _ _ _ _ _ _ _ _ _ _ _ _ _ _ _ _ _ c.loop-taken.invariant.done c.loop-taken.invariant.held c.loop-taken.invariant.few refl c.stop_at_input-2.ensures.same
     (go_halted g.J.Keeper c.args.service.state.history c.args.service.keeper c.loop-taken.service c.stop_at_input-2.result.1 c.loop-taken.invariant.kept c.stop_at_input-2.ensures.keeper c.stop_at_input-2.ensures.fronts c.stop_at_input-2.ensures.leaves) refl refl
     (inr (refl, c.loop-taken-test.false)) c.stop_at_input-2.ensures.why
 

@@ -1,4 +1,5 @@
 use Rattle.std.proofs.Common.{refl, inl, inr, ◌∷◌, [], List, ℕ}
+use Rattle.reg_outside.specs.Faults.{Rose}
 use Rattle.reg_session.specs.Answered.{Point}
 use Rattle.reg_session.specs.Input.{StopsLast}
 use Rattle.reg_session.specs.Pending.{Holds}
@@ -14,7 +15,8 @@ returns-in-Ok-clause-answered g c = rw c.flush.ensures.same c.in_ok-service.ensu
 pub returns-in_err-service-clause-halted : goal.returns-in_err-service-clause-halted
 returns-in_err-service-clause-halted g c =
     let here : Point = record { written = g.K.Sink.written c.args.out.now; moments = g.C.Clock.moments c.args.clock.now; state = c.args.service.state } in
-    err_by (λ e. (bytes : List ℕ) → Holds c.args.line.now bytes → StopsLast g.J.Keeper here c.args.service.keeper bytes (g.K.Sink.written c.answer_line.new.out) e.0 e.1) c.from_residual.result c.in_err-service.field-0.0 c.from_residual.ensures.1
+    let failed : Type 0 = Rose (g.K.Sink.write_faults c.args.out.now) (g.K.Sink.write_faults c.answer_line.new.out) in
+    err_by (λ e. (bytes : List ℕ) → Holds c.args.line.now bytes → StopsLast g.J.Keeper here c.args.service.keeper bytes (g.K.Sink.written c.answer_line.new.out) failed e.0 e.1) c.from_residual.result c.in_err-service.field-0.0 c.from_residual.ensures.1
     (λ bytes held. let h = c.in_err-service.ensures.halted bytes held in (h.0, inl h.1))
 
 -- it was, and the output not flushed

@@ -35,9 +35,9 @@ returns-in-Stop-clause-halted g c bytes held =
     let h = next_halted g.J.Keeper here.state.history _ c.args.service.keeper c.turn-reply.result.1 c.in-Stop.cause c.in-Stop.keeper kept c.in-Stop.is one in
     rw c.stop_of.ensures (
       h,
-      stops_at here bytes _ h.answered h.after _ (answered_none here) (sym (c.is_skipped.ensures bytes held) ∙ c.if-is_skipped.false)
-          (last_stopped here c.now-moment.result told c.turn-reply.result.0 _ h.after c.in-Stop.cause c.write_line-written.result c.now-moment.ensures.moment
-          (follows_stop here.state c.now-moment.result told c.turn-reply.result c.in-Stop.cause c.in-Stop.keeper (c.turn-reply.ensures.turn told says) c.in-Stop.is) c.write_line-written.ensures.written
+      stops_at here bytes _ _ h.answered h.after _ (answered_none here) (sym (c.is_skipped.ensures bytes held) ∙ c.if-is_skipped.false)
+          (last_stopped here c.now-moment.result told c.turn-reply.result.0 _ _ h.after c.in-Stop.cause c.write_line-written.result c.now-moment.ensures.moment
+          (follows_stop here.state c.now-moment.result told c.turn-reply.result c.in-Stop.cause c.in-Stop.keeper (c.turn-reply.ensures.turn told says) c.in-Stop.is) c.write_line-written.ensures.written c.write_line-written.ensures.output
           (next_began g.J.Keeper here.state.history _ c.args.service.keeper c.turn-reply.result.1 c.in-Stop.cause c.in-Stop.keeper kept c.in-Stop.is one)),
     )
 
@@ -55,7 +55,7 @@ returns-in-Err-clause-halted g c bytes held =
       go_halted g.J.Keeper here.state.history c.args.service.keeper c.in-Go.service c.into_keeper.result
           (next_kept g.J.Keeper here.state.history _ c.args.service.keeper c.turn-reply.result.1 c.in-Go.service (c.turn-reply.ensures.kept told says) c.in-Go.is) c.into_keeper.ensures.keeper c.into_keeper.ensures.fronts
           c.into_keeper.ensures.leaves,
-      stops_at here bytes _ c.in-Go.service.state.history c.in-Go.service.state.history _ (answered_none here) (sym (c.is_skipped.ensures bytes held) ∙ c.if-is_skipped.false)
-          (last_unwritten here c.now-moment.result told c.turn-reply.result.0 _ c.in-Go.service.state c.in-Err.stop c.write_line-written.result c.now-moment.ensures.moment
+      stops_at here bytes _ _ c.in-Go.service.state.history c.in-Go.service.state.history _ (answered_none here) (sym (c.is_skipped.ensures bytes held) ∙ c.if-is_skipped.false)
+          (last_unwritten here c.now-moment.result told c.turn-reply.result.0 _ _ c.in-Go.service.state c.in-Err.stop c.write_line-written.result c.now-moment.ensures.moment
           (follows_go here.state c.in-Go.service _ told c.turn-reply.result (c.turn-reply.ensures.turn told says) c.in-Go.is) c.write_line-written.ensures.written c.in-Err.is),
     )

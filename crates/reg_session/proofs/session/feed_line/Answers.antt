@@ -1,4 +1,5 @@
 use Rattle.std.proofs.Common.{arith, List, ℕ, ◌++◌, take}
+use Rattle.reg_outside.specs.Faults.{Rose}
 use Rattle.reg_session.specs.Answered.{Point}
 use Rattle.reg_session.specs.Stops.{HaltsIn}
 use Rattle.reg_session.specs.Lines.{lines_from}
@@ -25,11 +26,12 @@ returns-clause-fed g c =
 pub returns-in_err-service-clause-halted : goal.returns-in_err-service-clause-halted
 returns-in_err-service-clause-halted g c =
     let here : Point = record { written = g.K.Sink.written c.args.out.now; moments = g.C.Clock.moments c.args.clock.now; state = c.args.service.state } in
-    err_by (λ e. (before : List ℕ) → Holds c.args.line before → HaltsIn g.J.Keeper here c.args.service.keeper (lines_from before c.args.bytes.now) (g.K.Sink.written c.answer_line.new.out) e.0 e.1) c.from_residual.result c.in_err-service.field-0.0 c.from_residual.ensures.1
+    let failed : Type 0 = Rose (g.K.Sink.write_faults c.args.out.now) (g.K.Sink.write_faults c.answer_line.new.out) in
+    err_by (λ e. (before : List ℕ) → Holds c.args.line before → HaltsIn g.J.Keeper here c.args.service.keeper (lines_from before c.args.bytes.now) (g.K.Sink.written c.answer_line.new.out) failed e.0 e.1) c.from_residual.result c.in_err-service.field-0.0 c.from_residual.ensures.1
     (λ before held.
     let extended = rw c.split_at.ensures.front at c.extend-line.ensures in
     let h = c.in_err-service.ensures.halted (before ++ take c.line_end-end.result c.args.bytes.now) (extended before held) in (
       h.0,
-      stops_first here before c.args.bytes.now c.line_end-end.result _ h.0.answered h.0.after _ (omega (arith, c.line_end-end.ensures.within)) c.line_end-end.ensures.before
+      stops_first here before c.args.bytes.now c.line_end-end.result _ failed h.0.answered h.0.after _ (omega (arith, c.line_end-end.ensures.within)) c.line_end-end.ensures.before
           (c.line_end-end.ensures.there (omega (arith, c.line_end-end.ensures.within))) h.1,
     ))
