@@ -1,6 +1,6 @@
 // Connections, served over the journal on a disk.
-ghost use Rattle.std.specs.Prelude.{◌≡◌, ◌≤◌, ◌⊎◌, [], Some, IfOk, IfErr, OnOk};
-ghost use Rattle.reg_outside.specs.Faults.{Rose};
+ghost use Rattle.std.specs.Prelude.{◌≡◌, ◌≤◌, ◌⊎◌, [], Some, IfOk, IfErr, OnOk, OnErr};
+ghost use Rattle.reg_outside.specs.Faults.{Rose, HasCause};
 ghost use Rattle.reg_service.specs.Kept.{KeptOn};
 ghost use Rattle.reg_serve.specs.Visits.{CeasesServing, ServesVisits};
 ghost use Rattle.reg_run.specs.Crash.{seen};
@@ -10,6 +10,7 @@ ghost use Rattle.reg_run.specs.World.{World, at_clock, at_net, holding};
 
 use crate::perform::{close, open};
 use crate::status::End;
+use reg_base::Moment;
 use reg_keep::Keeper;
 use reg_outside::{Clock, Disk, Failed, Listener};
 use reg_serve::{Ceased, serve_connections};
@@ -25,6 +26,22 @@ fn end_of_serve(ceased: Ceased) -> End
         Ceased::Memory => End::Memory,
         Ceased::Disk => End::Disk,
     }
+}
+
+/// Says what was opened, so many commands and the moment of the last, and listens on a port.
+fn listen<L: Listener>(
+    net: &mut L,
+    port: u16,
+    commands: usize,
+    moment: Moment,
+) -> Result<(), Failed>
+    ensures port { OnOk result (L.listens net.new ≡ Some port) }
+    ensures kept { OnErr result (L.listens net.new ≡ L.listens net.old) }
+    ensures same { L.connections net.new ≡ L.connections net.old }
+    ensures cause { HasCause (L.listener_faults net.old) (L.listener_faults net.new) result }
+{
+    net.announce(commands, moment);
+    net.listen(port)
 }
 
 /// Listens on a port, and serves so many of its connections.
@@ -53,8 +70,8 @@ fn serve_port<J: Keeper, C: Clock, L: Listener>(
         → Rose (J.keep_faults service.keeper) (J.keep_faults e.1)) }
 {
     service.stays();
-    net.announce(service.machine().commands(), service.machine().clock());
-    match net.listen(port) {
+    let machine = service.machine();
+    match listen(net, port, machine.commands(), machine.clock()) {
         Ok(()) => serve_connections(alloc, service, net, clock, connections),
         Err(Failed) => Err((Ceased::Listener, service.into_keeper())),
     }
