@@ -39,6 +39,7 @@ from serving import CODES, PROGRAM, SYSTEM, needs_program
 # what a front end does with a machine that refuses, and how long it waits
 LEFT_OUT = 10.0
 CONNECTING, ANSWERING = 1.0, 6.0
+END_REGISTRY = "pkill -9 -x " + os.path.basename(PROGRAM)[:15]
 # a harm after which nothing is acknowledged for so long is a standstill
 STANDSTILL = 60.0
 
@@ -195,7 +196,9 @@ class Field:
     def begin(self) -> None:
         self.cluster.begin()
         first = self.cluster.hosts[0]
-        first.run("%s %s init" % (PROGRAM, JOURNAL))
+        told = first.run("%s %s init && echo begun" % (PROGRAM, JOURNAL))
+        if "begun" not in told:
+            raise OSError("the journal wasn't begun: " + told)
         for host in self.cluster.hosts:
             self.serve(host)
         self.client.start()
@@ -246,7 +249,7 @@ class Field:
 
     def restart(self) -> None:
         for host in self.cluster.hosts:
-            host.run("pkill -9 -x registry")
+            host.run(END_REGISTRY)
 
     def count(self) -> Count:
         """Compares what was acknowledged until now with a copy of the journal."""
@@ -304,7 +307,7 @@ def quiet(field: Field, host: Machine) -> None:
 
 
 def program(field: Field, host: Machine) -> None:
-    host.run("pkill -9 -x registry")
+    host.run(END_REGISTRY)
     field.goes_on()
 
 
@@ -312,7 +315,7 @@ def handover(field: Field, host: Machine) -> None:
     """The registry ends and isn't begun there until the other one serves, as in an upgrade."""
     hold = os.path.join(host.place, "hold")
     open(hold, "w").close()
-    host.run("pkill -9 -x registry")
+    host.run(END_REGISTRY)
     field.goes_on()
     os.remove(hold)
 
@@ -350,14 +353,14 @@ def harms(field: Field, kinds: list[str], count: int) -> Iterator[tuple[str, flo
     for n in range(1, count + 1):
         kind, host = random.choice(kinds), field.host()
         time.sleep(random.random())
+        print("%3d %-8s on %s: " % (n, kind, host.ip), end="", flush=True)
         before = len(field.client.gaps)
         KINDS[kind](field, host)
         pause = max(field.client.gaps[before:], default=0.0)
         is_whole = field.mend()
         field.goes_on()
         counted = field.count()
-        print("%3d %-8s on %s: longest pause %4.1f s; %s%s" % (
-            n, kind, host.ip, pause, counted.told(), "" if is_whole else "; NOT HEALED"), flush=True)
+        print("longest pause %4.1f s; %s%s" % (pause, counted.told(), "" if is_whole else "; NOT HEALED"), flush=True)
         yield kind, pause, is_whole, counted
 
 

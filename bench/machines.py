@@ -38,6 +38,8 @@ OPTIONS = {
     "server.keepalive-count": "3",
     "client.tcp-user-timeout": "5", "client.keepalive-time": "2", "client.keepalive-interval": "1",
     "client.keepalive-count": "3",
+    # how often the bricks are looked over for what has to be healed
+    "cluster.heal-timeout": "5",
 }
 # what a machine remembers of a file is no older than its last question
 FRESH = {"performance.stat-prefetch": "off", "performance.quick-read": "off", "performance.io-cache": "off",
