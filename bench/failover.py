@@ -12,7 +12,7 @@ Before that comes the control: the same without `client.strict-locks`, where the
 machine that comes back then writes beside the one that took over, so acknowledged commands are lost. Where none is lost,
 the harms above show little: status 1.
 
-    bench/failover.py [--harms N] [--control N] [--seed N] [--kinds KIND,..]
+    bench/failover.py [--harms N] [--control N] [--minutes N] [--seed N] [--kinds KIND,..]
 
 It needs root, /dev/fuse, and what it names where it lacks (Debian's packages); it installs nothing. What it began and
 made is gone at its end, however it ends. Build the program first (./quickstart.sh), or name it by PROGRAM. A harm takes
@@ -24,6 +24,7 @@ import os
 import random
 import shutil
 import signal
+import socket
 import statistics
 import struct
 import subprocess
@@ -38,10 +39,13 @@ from serving import CODES, PROGRAM, SYSTEM, needs_program
 
 # what a front end does with a machine that refuses, and how long it waits
 LEFT_OUT = 10.0
-CONNECTING, ANSWERING = 1.0, 6.0
+CONNECTING, ANSWERING = 1.0, 60.0
+# a machine that is silent for five seconds as it should answer is gone
+ALIVE = ((socket.TCP_KEEPIDLE, 2), (socket.TCP_KEEPINTVL, 1), (socket.TCP_KEEPCNT, 3), (socket.TCP_USER_TIMEOUT, 5000))
 END_REGISTRY = "pkill -9 -x " + os.path.basename(PROGRAM)[:15]
 # a harm after which nothing is acknowledged for so long is a standstill
-STANDSTILL = 60.0
+STANDSTILL = 600.0
+MENDING = 300.0
 
 
 class Client(threading.Thread):
@@ -79,6 +83,9 @@ class Client(threading.Thread):
                 self.left_out[at] = time.time() + LEFT_OUT
                 raise ConnectionRefusedError
             connection.sock.settimeout(ANSWERING)
+            connection.sock.setsockopt(socket.SOL_SOCKET, socket.SO_KEEPALIVE, 1)
+            for option, value in ALIVE:
+                connection.sock.setsockopt(socket.IPPROTO_TCP, option, value)
             self.met[at] += 1
             connection.request(method, path, body, {"X-Registry-Caller": SYSTEM, "Connection": "close"})
             response = connection.getresponse()
@@ -232,19 +239,16 @@ class Field:
             time.sleep(0.1)
 
     def mend(self) -> bool:
-        """Waits until each brick has all. An open file brings nothing to a brick that was away: once all bricks are there
-        the registries are started again."""
-        began, until = False, time.time() + 120
+        """Waits until each brick has all. An open file brings nothing to a brick that was away, so the registries are
+        started again meanwhile."""
+        until = time.time() + MENDING
         while time.time() < until:
-            is_whole = self.cluster.is_whole(self.cluster.arbiter)
-            if is_whole and began:
-                return True
-            if is_whole is not None and not began:
-                self.restart()
-                began = True
-            elif is_whole is False and random.random() < 0.1:
-                self.restart()
-            time.sleep(0.3)
+            time.sleep(2)
+            self.restart()
+            for _ in range(3):
+                time.sleep(1)
+                if self.cluster.is_whole():
+                    return True
         return False
 
     def restart(self) -> None:
@@ -267,7 +271,7 @@ class Field:
 
 
 class Standstill(Exception):
-    """Nothing was acknowledged for a minute."""
+    """Nothing was acknowledged for ten minutes."""
 
 
 def power(field: Field, host: Machine) -> None:
@@ -347,10 +351,13 @@ KINDS: dict[str, Callable[[Field, Machine], None]] = {
 TAKEOVERS = ("power", "cut", "quiet", "handover")
 
 
-def harms(field: Field, kinds: list[str], count: int) -> Iterator[tuple[str, float, bool, Count]]:
-    """The harms, one after another: the kind, the longest pause until it was undone, whether the bricks are whole again,
-    and what the journal has."""
+def harms(field: Field, kinds: list[str], count: int, seconds: float) -> Iterator[tuple[str, float, bool, Count]]:
+    """The harms, one after another, none of which begins after so many seconds: the kind, the longest pause until it was
+    undone, whether the bricks are whole again, and what the journal has."""
+    until = time.time() + seconds
     for n in range(1, count + 1):
+        if time.time() > until:
+            return
         kind, host = random.choice(kinds), field.host()
         time.sleep(random.random())
         print("%3d %-8s on %s: " % (n, kind, host.ip), end="", flush=True)
@@ -389,10 +396,10 @@ def hear_signals() -> None:
         signal.signal(number, lambda *_: sys.exit(1))
 
 
-def loses(field: Field, count: int) -> bool:
+def loses(field: Field, asked: argparse.Namespace) -> bool:
     """The control: whether commands are lost without strict locks."""
     try:
-        for _, _, _, counted in harms(field, ["quiet"], count):
+        for _, _, _, counted in harms(field, ["quiet"], asked.control, asked.minutes * 60):
             if not counted.is_right():
                 break
         else:
@@ -411,10 +418,10 @@ def told_pauses(pauses: dict[str, list[float]]) -> Iterator[str]:
             yield "%-9s %3d, pauses: longest %4.1f s, median %4.1f s" % (name, len(found), max(found), statistics.median(found))
 
 
-def keeps(field: Field, kinds: list[str], count: int) -> bool:
+def keeps(field: Field, asked: argparse.Namespace) -> bool:
     """The harms, and whether each acknowledged command is where it has to be."""
     began, pauses, is_whole = time.time(), {}, True
-    for kind, pause, is_healed, _ in harms(field, kinds, count):
+    for kind, pause, is_healed, _ in harms(field, asked.kinds.split(","), asked.harms, asked.minutes * 60):
         pauses.setdefault(kind, []).append(pause)
         is_whole = is_whole and is_healed
     field.client.going = False
@@ -424,7 +431,7 @@ def keeps(field: Field, kinds: list[str], count: int) -> bool:
     numbers = [number for number in field.client.kept.values() if number is not None]
     print("\n".join(told_pauses(pauses)))
     print("%d harms in %d minutes: %s; %d of them known by asking; `check`: %s" % (
-        count, (time.time() - began) / 60, counted.told(), field.client.asked_for, checked.stdout.strip()))
+        sum(map(len, pauses.values())), (time.time() - began) / 60, counted.told(), field.client.asked_for, checked.stdout.strip()))
     return counted.is_right() and is_whole and checked.returncode == 0 and len(numbers) == len(set(numbers))
 
 
@@ -432,19 +439,19 @@ def main() -> int:
     words = argparse.ArgumentParser(description=__doc__.split("\n\n", maxsplit=1)[0])
     words.add_argument("--harms", type=int, default=20)
     words.add_argument("--control", type=int, default=10, help="harms without strict locks, until something is lost")
+    words.add_argument("--minutes", type=float, default=600, help="no harm begins after so many")
     words.add_argument("--seed", type=int, default=1)
     words.add_argument("--kinds", default=",".join(KINDS), help="of the harms, one of which is drawn each time")
     asked = words.parse_args()
     needs_program()
     if lacking():
         sys.exit("failover.py needs " + ", ".join(lacking()))
-    kinds = asked.kinds.split(",")
-    if set(kinds) - set(KINDS):
+    if set(asked.kinds.split(",")) - set(KINDS):
         sys.exit("the kinds are " + ",".join(KINDS))
     hear_signals()
     random.seed(asked.seed)
-    is_right = not asked.control or with_field(False, lambda field: loses(field, asked.control))
-    return 0 if (not asked.harms or with_field(True, lambda field: keeps(field, kinds, asked.harms))) and is_right else 1
+    is_right = not asked.control or with_field(False, lambda field: loses(field, asked))
+    return 0 if (not asked.harms or with_field(True, lambda field: keeps(field, asked))) and is_right else 1
 
 
 if __name__ == "__main__":

@@ -10,7 +10,7 @@ import shutil
 import signal
 import subprocess
 import time
-from typing import Optional
+from typing import Callable, Optional
 
 NEEDS = {"glusterd": "glusterfs-server", "gluster": "glusterfs-server", "mount.glusterfs": "glusterfs-client",
          "nft": "nftables", "ip": "iproute2", "nsenter": "util-linux", "unshare": "util-linux", "setpriv": "util-linux",
@@ -31,9 +31,9 @@ table ip registry {
 }
 RULES
 """ % (NETWORK, NETWORK, OUTSIDE, PORT)
-# how long a machine may be silent until the others go on without it, and who may write
+# a machine whose kernel is silent for five seconds is gone for the others; one whose programs are slow isn't
 OPTIONS = {
-    "network.ping-timeout": "5",
+    "network.ping-timeout": "30",
     "server.tcp-user-timeout": "5", "server.keepalive-time": "2", "server.keepalive-interval": "1",
     "server.keepalive-count": "3",
     "client.tcp-user-timeout": "5", "client.keepalive-time": "2", "client.keepalive-interval": "1",
@@ -57,7 +57,7 @@ def lacking() -> list[str]:
         [] if os.path.exists("/dev/fuse") else ["/dev/fuse"])
 
 
-def run(words: list[str], seconds: float = 120) -> str:
+def run(words: list[str], seconds: float = 600) -> str:
     """What a command writes; it may fail, and a machine may lose its power meanwhile."""
     try:
         return subprocess.run(words, stdin=subprocess.DEVNULL, stdout=subprocess.PIPE, stderr=subprocess.STDOUT,
@@ -72,7 +72,7 @@ def begin(words: list[str]) -> subprocess.Popen:
                             stderr=subprocess.DEVNULL, start_new_session=True)
 
 
-def await_file(path: str, seconds: float = 20) -> None:
+def await_file(path: str, seconds: float = 120) -> None:
     until = time.time() + seconds
     while not os.path.exists(path):
         if time.time() > until:
@@ -126,6 +126,9 @@ class Machine:
                  "mount --bind %s/brick %s" % (self.place, BRICK),
                  "mount --bind %s/glusterd /var/lib/glusterd" % self.place,
                  "mount --bind %s/log /var/log/glusterfs" % self.place,
+                 # copies to far places aren't tried: their program, which glusterd asks a dozen times, answers at once
+                 "printf '#!/bin/sh\necho gsyncd\n' > /run/gsyncd; chmod 755 /run/gsyncd",
+                 "for known in /usr/lib/*/glusterfs/gsyncd; do mount --bind /run/gsyncd $known; done",
                  "hostname registry%d" % self.number, "touch " + up,
                  # the first process takes in those whose parents ended
                  "while :; do sleep 3600 & wait $!; done"]
@@ -146,7 +149,7 @@ class Machine:
     def words(self, command: str) -> list[str]:
         return ["nsenter", "-t", str(self.first), "-m", "-p", "-u", "-i", "-n", "--", "bash", "-c", command]
 
-    def run(self, command: str, seconds: float = 120) -> str:
+    def run(self, command: str, seconds: float = 600) -> str:
         return run(self.words(command), seconds) if self.process else ""
 
     def start(self, command: str) -> None:
@@ -195,7 +198,7 @@ class Cluster:
             raise OSError("gluster %s: %s" % (words, told))
 
     @staticmethod
-    def until(is_so, seconds: float = 60) -> None:
+    def until(is_so: Callable[[], bool], seconds: float = 600) -> None:
         until = time.time() + seconds
         while not is_so():
             if time.time() > until:
@@ -208,12 +211,15 @@ class Cluster:
     def mounted(self, machine: Machine) -> bool:
         return "yes" in machine.run("mountpoint -q %s || %s; mountpoint -q %s && echo yes" % (MOUNT, self.mount(machine), MOUNT))
 
-    def is_whole(self, machine: Machine) -> Optional[bool]:
-        """Whether each brick has all; None where one isn't there."""
-        told = machine.run("gluster volume heal %s info" % VOLUME, 30)
-        if told.count("Status: Connected") < 3:
-            return None
-        return told.count("entries: 0") == 3
+    def is_whole(self) -> bool:
+        """Whether each brick is there and has all. What a brick notes of others that lack something is looked at first,
+        since to ask is much work."""
+        notes = [os.listdir(os.path.join(machine.place, "brick/registry/.glusterfs/indices/xattrop"))
+                 for machine in self.machines]
+        if any(not name.startswith("xattrop-") for names in notes for name in names):
+            return False
+        told = self.arbiter.run("gluster volume heal %s info" % VOLUME, 60)
+        return told.count("Status: Connected") == 3 and told.count("entries: 0") == 3
 
     def end(self) -> None:
         for machine in self.machines:
