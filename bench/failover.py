@@ -1,22 +1,24 @@
 #!/usr/bin/env python3
 """A registry that fails over between two machines, its journal on GlusterFS: two bricks and an arbiter, as
-docs/SCALING.md sets them up. Each machine is a set of namespaces of this one (machines.py). On two of them a registry is
-started again and again: one has the journal locked, the other ends with status 4 until the lock is free. A client
+docs/SCALING.md sets them up. Each machine is a set of namespaces of this one (machines.py). On two of them a registry
+is started again and again: one has the journal locked, the other ends with status 4 until the lock is free. A client
 outside adds persons without a pause, each over a connection of its own, by turns to both machines, as a front end does;
 a machine that refuses is left out for ten seconds. Where a command wasn't answered the client asks whether it was kept,
 before it sends it again. Meanwhile machines are harmed at random: the power; the network, cut and joined again, at any
-moment or in a quiet one; a registry, a mount or a brick killed; the arbiter. After each harm, and at last, every
-acknowledged command has to be in the journal, once, at the number that it was acknowledged with.
+moment or in a quiet one; a registry, a mount or a brick killed; a registry ended so that the other one takes over at
+once; the arbiter. After each harm, and at last, every acknowledged command has to be in the journal, once, at the
+number that it was acknowledged with.
 
-Before that comes the control: the same without `client.strict-locks`, where the network is cut in quiet moments. A
-machine that comes back then writes beside the one that took over, so acknowledged commands are lost. Where none is lost,
-the harms above show little: status 1.
+Before that come two controls, which have to lose acknowledged commands; where one loses none, the harms show little,
+and the status is 1. Without `client.strict-locks` a machine that was cut off in a quiet moment, and comes back, writes
+beside the one that took over. With what GlusterFS remembers by default, a machine that takes over at once opens a
+journal that is too short.
 
     bench/failover.py [--harms N] [--control N] [--minutes N] [--seed N] [--kinds KIND,..]
 
 It needs root, /dev/fuse, and what it names where it lacks (Debian's packages); it installs nothing. What it began and
 made is gone at its end, however it ends. Build the program first (./quickstart.sh), or name it by PROGRAM. A harm takes
-about 20 seconds."""
+20 to 30 seconds."""
 import argparse
 import http.client
 import json
@@ -34,7 +36,7 @@ import threading
 import time
 from typing import Callable, Iterator, Optional
 
-from machines import FRESH, JOURNAL, MOUNT, OPTIONS, PORT, Cluster, Machine, lacking
+from machines import JOURNAL, MOUNT, PORT, Cluster, Machine, lacking
 from serving import CODES, PROGRAM, SYSTEM, needs_program
 
 # what a front end does with a machine that refuses, and how long it waits
@@ -45,6 +47,7 @@ ALIVE = ((socket.TCP_KEEPIDLE, 2), (socket.TCP_KEEPINTVL, 1), (socket.TCP_KEEPCN
 END_REGISTRY = "pkill -9 -x " + os.path.basename(PROGRAM)[:15]
 # a harm after which nothing is acknowledged for so long is a standstill
 STANDSTILL = 600.0
+SIGNALS = (signal.SIGINT, signal.SIGTERM, signal.SIGHUP)
 MENDING = 300.0
 
 
@@ -182,7 +185,7 @@ class Count:
         self.acknowledged = len(kept)
         self.lost = sorted(n for n in kept if not there[n])
         self.doubled = sorted(person for person, numbers in places.items() if len(numbers) > 1)
-        self.moved = sorted(n for n, number in kept.items() if number is not None and there[n] and number not in there[n])
+        self.moved = sorted(n for n, number in kept.items() if there[n] and number not in (None, *there[n]))
 
     def is_right(self) -> bool:
         return not (self.lost or self.doubled or self.moved)
@@ -195,9 +198,9 @@ class Count:
 class Field:
     """The cluster with its registries and its client."""
 
-    def __init__(self, place: str, options: dict[str, str]):
+    def __init__(self, place: str, is_strict: bool, is_fresh: bool):
         self.place = place
-        self.cluster = Cluster(place, options)
+        self.cluster = Cluster(place, is_strict, is_fresh)
         self.client = Client(self.cluster)
 
     def begin(self) -> None:
@@ -352,8 +355,8 @@ TAKEOVERS = ("power", "cut", "quiet", "handover")
 
 
 def harms(field: Field, kinds: list[str], count: int, seconds: float) -> Iterator[tuple[str, float, bool, Count]]:
-    """The harms, one after another, none of which begins after so many seconds: the kind, the longest pause until it was
-    undone, whether the bricks are whole again, and what the journal has."""
+    """The harms, one after another, none of which begins after so many seconds: the kind, the longest pause until it
+    was undone, whether the bricks are whole again, and what the journal has."""
     until = time.time() + seconds
     for n in range(1, count + 1):
         if time.time() > until:
@@ -371,19 +374,19 @@ def harms(field: Field, kinds: list[str], count: int, seconds: float) -> Iterato
         yield kind, pause, is_whole, counted
 
 
-def with_field(is_strict: bool, work: Callable[[Field], bool]) -> bool:
+def with_field(is_strict: bool, is_fresh: bool, work: Callable[[Field], bool]) -> bool:
     """Sets all up, works with it, and takes all away again."""
     place = tempfile.mkdtemp(prefix="failover-")
     field: Optional[Field] = None
     try:
-        field = Field(place, {**OPTIONS, **FRESH, "client.strict-locks": "on" if is_strict else "off"})
+        field = Field(place, is_strict, is_fresh)
         field.begin()
         return work(field)
     except Standstill:
         print("STANDSTILL: nothing was acknowledged for %d seconds" % STANDSTILL)
         return False
     finally:
-        for number in (signal.SIGINT, signal.SIGTERM, signal.SIGHUP):
+        for number in SIGNALS:
             signal.signal(number, signal.SIG_IGN)
         if field:
             field.end()
@@ -392,22 +395,21 @@ def with_field(is_strict: bool, work: Callable[[Field], bool]) -> bool:
 
 
 def hear_signals() -> None:
-    for number in (signal.SIGINT, signal.SIGTERM, signal.SIGHUP):
+    for number in SIGNALS:
         signal.signal(number, lambda *_: sys.exit(1))
 
 
-def loses(field: Field, asked: argparse.Namespace) -> bool:
-    """The control: whether commands are lost without strict locks."""
+def loses(field: Field, title: str, kind: str, asked: argparse.Namespace) -> bool:
+    """A control: whether acknowledged commands are lost, in one of its harms."""
     try:
-        for _, _, _, counted in harms(field, ["quiet"], asked.control, asked.minutes * 60):
-            if not counted.is_right():
+        for *_, counted in harms(field, [kind], asked.control, asked.minutes * 60):
+            if counted.lost:
                 break
-        else:
-            counted = field.count()
     except Standstill:
-        counted = field.count()
-    print("without strict locks: %s: %s" % (
-        counted.told(), "it loses, as it has to" if counted.lost else "NOTHING LOST, so the harms show little"))
+        pass
+    counted = field.count()
+    print("control, %s: %s: %s" % (
+        title, counted.told(), "it loses, as it has to" if counted.lost else "NOTHING LOST, so the harms show little"))
     return bool(counted.lost)
 
 
@@ -415,7 +417,8 @@ def told_pauses(pauses: dict[str, list[float]]) -> Iterator[str]:
     takeovers = [pause for kind in TAKEOVERS for pause in pauses.get(kind, [])]
     for name, found in [("takeovers", takeovers), *sorted(pauses.items())]:
         if found:
-            yield "%-9s %3d, pauses: longest %4.1f s, median %4.1f s" % (name, len(found), max(found), statistics.median(found))
+            yield "%-9s %3d, pauses: longest %4.1f s, median %4.1f s" % (
+                name, len(found), max(found), statistics.median(found))
 
 
 def keeps(field: Field, asked: argparse.Namespace) -> bool:
@@ -427,18 +430,20 @@ def keeps(field: Field, asked: argparse.Namespace) -> bool:
     field.client.going = False
     field.client.join()
     counted = field.count()
-    checked = subprocess.run([PROGRAM, os.path.join(field.place, "look"), "check"], stdout=subprocess.PIPE, text=True)
+    look = os.path.join(field.place, "look")
+    checked = subprocess.run([PROGRAM, look, "check"], stdout=subprocess.PIPE, text=True)
     numbers = [number for number in field.client.kept.values() if number is not None]
     print("\n".join(told_pauses(pauses)))
     print("%d harms in %d minutes: %s; %d of them known by asking; `check`: %s" % (
-        sum(map(len, pauses.values())), (time.time() - began) / 60, counted.told(), field.client.asked_for, checked.stdout.strip()))
+        sum(map(len, pauses.values())), (time.time() - began) / 60, counted.told(), field.client.asked_for,
+        checked.stdout.strip()))
     return counted.is_right() and is_whole and checked.returncode == 0 and len(numbers) == len(set(numbers))
 
 
 def main() -> int:
     words = argparse.ArgumentParser(description=__doc__.split("\n\n", maxsplit=1)[0])
     words.add_argument("--harms", type=int, default=20)
-    words.add_argument("--control", type=int, default=10, help="harms without strict locks, until something is lost")
+    words.add_argument("--control", type=int, default=30, help="harms of each control, until something is lost")
     words.add_argument("--minutes", type=float, default=600, help="no harm begins after so many")
     words.add_argument("--seed", type=int, default=1)
     words.add_argument("--kinds", default=",".join(KINDS), help="of the harms, one of which is drawn each time")
@@ -450,8 +455,11 @@ def main() -> int:
         sys.exit("the kinds are " + ",".join(KINDS))
     hear_signals()
     random.seed(asked.seed)
-    is_right = not asked.control or with_field(False, lambda field: loses(field, asked))
-    return 0 if (not asked.harms or with_field(True, lambda field: keeps(field, asked))) and is_right else 1
+    is_right = not asked.control or all([
+        with_field(False, True, lambda field: loses(field, "without strict locks", "quiet", asked)),
+        with_field(True, False, lambda field: loses(field, "with caches", "handover", asked))])
+    is_kept = not asked.harms or with_field(True, True, lambda field: keeps(field, asked))
+    return 0 if is_right and is_kept else 1
 
 
 if __name__ == "__main__":

@@ -33,6 +33,7 @@ RULES
 """ % (NETWORK, NETWORK, OUTSIDE, PORT)
 # a machine whose kernel is silent for five seconds is gone for the others; one whose programs are slow isn't
 OPTIONS = {
+    "auth.allow": ",".join(NETWORK + str(n) for n in (1, 2, 3)),
     "network.ping-timeout": "30",
     "server.tcp-user-timeout": "5", "server.keepalive-time": "2", "server.keepalive-interval": "1",
     "server.keepalive-count": "3",
@@ -44,15 +45,16 @@ OPTIONS = {
 # what a machine remembers of a file is no older than its last question
 FRESH = {"performance.stat-prefetch": "off", "performance.quick-read": "off", "performance.io-cache": "off",
          "performance.open-behind": "off", "performance.read-ahead": "off", "performance.readdir-ahead": "off"}
-MOUNT_OPTIONS = "attribute-timeout=0,entry-timeout=0,negative-timeout=0,backup-volfile-servers=" + ":".join(
-    NETWORK + str(n) for n in (1, 2, 3))
+FRESH_MOUNT = ["attribute-timeout=0", "entry-timeout=0", "negative-timeout=0"]
+MOUNT_OPTIONS = ["backup-volfile-servers=" + ":".join(NETWORK + str(n) for n in (1, 2, 3))]
 LIBC = ctypes.CDLL(None, use_errno=True)
 NEW_NETWORK = 0x40000000
 
 
 def lacking() -> list[str]:
     """What has to be installed or granted first."""
-    packages = {package for name, package in NEEDS.items() if not shutil.which(name, path=os.environ["PATH"] + ":/usr/sbin:/sbin")}
+    places = os.environ["PATH"] + ":/usr/sbin:/sbin"
+    packages = {package for name, package in NEEDS.items() if not shutil.which(name, path=places)}
     return sorted(packages) + ([] if os.getuid() == 0 else ["root's rights"]) + (
         [] if os.path.exists("/dev/fuse") else ["/dev/fuse"])
 
@@ -68,8 +70,8 @@ def run(words: list[str], seconds: float = 600) -> str:
 
 def begin(words: list[str]) -> subprocess.Popen:
     """A process that ends with this one, whatever ends this one."""
-    return subprocess.Popen(["setpriv", "--pdeathsig", "KILL", *words], stdin=subprocess.DEVNULL, stdout=subprocess.DEVNULL,
-                            stderr=subprocess.DEVNULL, start_new_session=True)
+    return subprocess.Popen(["setpriv", "--pdeathsig", "KILL", *words], stdin=subprocess.DEVNULL,
+                            stdout=subprocess.DEVNULL, stderr=subprocess.DEVNULL, start_new_session=True)
 
 
 def await_file(path: str, seconds: float = 120) -> None:
@@ -87,7 +89,8 @@ class Switch:
         up = os.path.join(place, "switch")
         self.process = begin(["unshare", "--net", "bash", "-c", "touch %s; exec sleep infinity" % up])
         await_file(up)
-        self.run("ip link add br0 type bridge; ip link set br0 up; ip link set lo up; ip addr add %s/24 dev br0" % OUTSIDE)
+        self.run("ip link add br0 type bridge; ip link set br0 up; ip link set lo up")
+        self.run("ip addr add %s/24 dev br0" % OUTSIDE)
 
     def run(self, command: str) -> str:
         return run(["nsenter", "-t", str(self.process.pid), "-n", "bash", "-c", command])
@@ -171,13 +174,15 @@ class Machine:
 
 
 class Cluster:
-    """Three machines with GlusterFS: two bricks and an arbiter, mounted on the first two."""
+    """Three machines with GlusterFS: two bricks and an arbiter, mounted on the first two, with strict locks or without,
+    and free of caches or not."""
 
-    def __init__(self, place: str, options: dict[str, str], mount_options: str = MOUNT_OPTIONS):
-        self.place, self.mount_options = place, mount_options
+    def __init__(self, place: str, is_strict: bool, is_fresh: bool):
+        self.options = {**OPTIONS, **(FRESH if is_fresh else {}), "client.strict-locks": "on" if is_strict else "off"}
+        self.mount_options = MOUNT_OPTIONS + (FRESH_MOUNT if is_fresh else [])
         self.switch = Switch(place)
         self.machines = [Machine(place, number, self.switch) for number in (1, 2, 3)]
-        self.hosts, self.arbiter, self.options = self.machines[:2], self.machines[2], options
+        self.hosts, self.arbiter = self.machines[:2], self.machines[2]
 
     def begin(self) -> None:
         for machine in self.machines:
@@ -206,10 +211,11 @@ class Cluster:
             time.sleep(0.5)
 
     def mount(self, machine: Machine) -> str:
-        return "mount -t glusterfs -o %s %s:/%s %s" % (self.mount_options, machine.ip, VOLUME, MOUNT)
+        return "mount -t glusterfs -o %s %s:/%s %s" % (",".join(self.mount_options), machine.ip, VOLUME, MOUNT)
 
     def mounted(self, machine: Machine) -> bool:
-        return "yes" in machine.run("mountpoint -q %s || %s; mountpoint -q %s && echo yes" % (MOUNT, self.mount(machine), MOUNT))
+        return "yes" in machine.run("mountpoint -q {0} || {1}; mountpoint -q {0} && echo yes".format(
+            MOUNT, self.mount(machine)))
 
     def is_whole(self) -> bool:
         """Whether each brick is there and has all. What a brick notes of others that lack something is looked at first,
