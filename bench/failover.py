@@ -1,12 +1,12 @@
 #!/usr/bin/env python3
-"""A registry that fails over between two machines, its journal on GlusterFS: two bricks and an arbiter, as
+"""A registry that fails over between two machines, its journal on GlusterFS with a brick on each of three, as
 docs/SCALING.md sets them up. Each machine is a set of namespaces of this one (machines.py). On two of them a registry
 is started again and again: one has the journal locked, the other ends with status 4 until the lock is free. A client
 outside adds persons without a pause, each over a connection of its own, by turns to both machines, as a front end does;
 a machine that refuses is left out for ten seconds. Where a command wasn't answered the client asks whether it was kept,
 before it sends it again. Meanwhile machines are harmed at random: the power; the network, cut and joined again, at any
 moment or in a quiet one; a registry, a mount or a brick killed; a registry ended so that the other one takes over at
-once; the arbiter. After each harm, and at last, every acknowledged command has to be in the journal, once, at the
+once; the third machine's power. After each harm, and at last, every acknowledged command has to be in the journal, once, at the
 number that it was acknowledged with.
 
 Before that come two controls, which have to lose acknowledged commands; where one loses none, the harms show little,
@@ -14,7 +14,7 @@ and the status is 1. Without `client.strict-locks` a machine that was cut off in
 beside the one that took over. With what GlusterFS remembers by default, a machine that takes over at once opens a
 journal that is too short.
 
-    bench/failover.py [--harms N] [--control N] [--minutes N] [--seed N] [--kinds KIND,..]
+    bench/failover.py [--harms N] [--control N] [--minutes N] [--arbiter] [--seed N] [--kinds KIND,..]
 
 It needs root, /dev/fuse, and what it names where it lacks (Debian's packages); it installs nothing. What it began and
 made is gone at its end, however it ends. Build the program first (./quickstart.sh), or name it by PROGRAM. A harm takes
@@ -198,9 +198,9 @@ class Count:
 class Field:
     """The cluster with its registries and its client."""
 
-    def __init__(self, place: str, is_strict: bool, is_fresh: bool):
+    def __init__(self, place: str, is_strict: bool, is_fresh: bool, has_arbiter: bool):
         self.place = place
-        self.cluster = Cluster(place, is_strict, is_fresh)
+        self.cluster = Cluster(place, is_strict, is_fresh, has_arbiter)
         self.client = Client(self.cluster)
 
     def begin(self) -> None:
@@ -340,16 +340,17 @@ def brick(field: Field, _host: Machine) -> None:
     machine.run("gluster volume start registry force")
 
 
-def arbiter(field: Field, _host: Machine) -> None:
-    field.cluster.arbiter.power_off()
+def third(field: Field, _host: Machine) -> None:
+    """The power of the machine that doesn't serve."""
+    field.cluster.third.power_off()
     field.goes_on()
     time.sleep(random.random() * 8)
-    field.cluster.arbiter.boot()
+    field.cluster.third.boot()
 
 
 KINDS: dict[str, Callable[[Field, Machine], None]] = {
     "power": power, "cut": cut, "moment": moment, "quiet": quiet, "program": program, "handover": handover,
-    "mount": mount, "brick": brick, "arbiter": arbiter}
+    "mount": mount, "brick": brick, "third": third}
 # after these another machine has to take over
 TAKEOVERS = ("power", "cut", "quiet", "handover")
 
@@ -374,12 +375,12 @@ def harms(field: Field, kinds: list[str], count: int, seconds: float) -> Iterato
         yield kind, pause, is_whole, counted
 
 
-def with_field(is_strict: bool, is_fresh: bool, work: Callable[[Field], bool]) -> bool:
+def with_field(is_strict: bool, is_fresh: bool, has_arbiter: bool, work: Callable[[Field], bool]) -> bool:
     """Sets all up, works with it, and takes all away again."""
     place = tempfile.mkdtemp(prefix="failover-")
     field: Optional[Field] = None
     try:
-        field = Field(place, is_strict, is_fresh)
+        field = Field(place, is_strict, is_fresh, has_arbiter)
         field.begin()
         return work(field)
     except Standstill:
@@ -445,6 +446,7 @@ def main() -> int:
     words.add_argument("--harms", type=int, default=20)
     words.add_argument("--control", type=int, default=30, help="harms of each control, until something is lost")
     words.add_argument("--minutes", type=float, default=600, help="no harm begins after so many")
+    words.add_argument("--arbiter", action="store_true", help="an arbiter in place of the third brick")
     words.add_argument("--seed", type=int, default=1)
     words.add_argument("--kinds", default=",".join(KINDS), help="of the harms, one of which is drawn each time")
     asked = words.parse_args()
@@ -456,9 +458,9 @@ def main() -> int:
     hear_signals()
     random.seed(asked.seed)
     is_right = not asked.control or all([
-        with_field(False, True, lambda field: loses(field, "without strict locks", "quiet", asked)),
-        with_field(True, False, lambda field: loses(field, "with caches", "handover", asked))])
-    is_kept = not asked.harms or with_field(True, True, lambda field: keeps(field, asked))
+        with_field(False, True, asked.arbiter, lambda field: loses(field, "without strict locks", "quiet", asked)),
+        with_field(True, False, asked.arbiter, lambda field: loses(field, "with caches", "handover", asked))])
+    is_kept = not asked.harms or with_field(True, True, asked.arbiter, lambda field: keeps(field, asked))
     return 0 if is_right and is_kept else 1
 
 

@@ -1,6 +1,6 @@
 """Machines that are namespaces of this one, for failover.py: each has its own network, processes and mounts, and stands
-on one bridge. Three of them have GlusterFS, as docs/SCALING.md sets it up: two bricks and an arbiter, and the volume
-mounted on the first two. Nothing of them has a name outside: they are gone with the process that began each.
+on one bridge. Three of them have GlusterFS, as docs/SCALING.md sets it up: a brick each, and the volume mounted on
+the first two. Nothing of them has a name outside: they are gone with the process that began each.
 
 A power cut takes a machine's network and then all its processes at once. What its kernel hadn't written to the disk
 isn't lost with it, since the kernel is that of this machine."""
@@ -174,15 +174,16 @@ class Machine:
 
 
 class Cluster:
-    """Three machines with GlusterFS: two bricks and an arbiter, mounted on the first two, with strict locks or without,
-    and free of caches or not."""
+    """Three machines with GlusterFS: a brick each, or an arbiter on the third, mounted on the first two, with strict
+    locks or without, and free of caches or not."""
 
-    def __init__(self, place: str, is_strict: bool, is_fresh: bool):
+    def __init__(self, place: str, is_strict: bool, is_fresh: bool, has_arbiter: bool):
+        self.copies = "replica 3 arbiter 1" if has_arbiter else "replica 3"
         self.options = {**OPTIONS, **(FRESH if is_fresh else {}), "client.strict-locks": "on" if is_strict else "off"}
         self.mount_options = MOUNT_OPTIONS + (FRESH_MOUNT if is_fresh else [])
         self.switch = Switch(place)
         self.machines = [Machine(place, number, self.switch) for number in (1, 2, 3)]
-        self.hosts, self.arbiter = self.machines[:2], self.machines[2]
+        self.hosts, self.third = self.machines[:2], self.machines[2]
 
     def begin(self) -> None:
         for machine in self.machines:
@@ -192,7 +193,7 @@ class Cluster:
         self.until(lambda: "success" in first.run("gluster peer probe %s3" % NETWORK))
         self.until(lambda: first.run("gluster peer status").count("Peer in Cluster (Connected)") == 2)
         bricks = " ".join("%s:%s/registry" % (machine.ip, BRICK) for machine in self.machines)
-        self.gluster("volume create %s replica 3 arbiter 1 %s force" % (VOLUME, bricks))
+        self.gluster("volume create %s %s %s force" % (VOLUME, self.copies, bricks))
         self.gluster("volume set %s %s" % (VOLUME, " ".join("%s %s" % option for option in self.options.items())))
         self.gluster("volume start " + VOLUME)
         self.until(lambda: self.mounted(first))
@@ -224,7 +225,7 @@ class Cluster:
                  for machine in self.machines]
         if any(not name.startswith("xattrop-") for names in notes for name in names):
             return False
-        told = self.arbiter.run("gluster volume heal %s info" % VOLUME, 60)
+        told = self.third.run("gluster volume heal %s info" % VOLUME, 60)
         return told.count("Status: Connected") == 3 and told.count("entries: 0") == 3
 
     def end(self) -> None:
