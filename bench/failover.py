@@ -6,8 +6,8 @@ outside adds persons without a pause, each over a connection of its own, by turn
 a machine that refuses is left out for ten seconds. Where a command wasn't answered the client asks whether it was kept,
 before it sends it again. Meanwhile machines are harmed at random: the power; the network, cut and joined again, at any
 moment or in a quiet one; a registry, a mount or a brick killed; a registry ended so that the other one takes over at
-once; the third machine's power. After each harm, and at last, every acknowledged command has to be in the journal, once, at the
-number that it was acknowledged with.
+once; the third machine's power. After each harm, and at last, every acknowledged command has to be in the journal,
+once, at the number that it was acknowledged with.
 
 Before that come two controls, which have to lose acknowledged commands; where one loses none, the harms show little,
 and the status is 1. Without `client.strict-locks` a machine that was cut off in a quiet moment, and comes back, writes

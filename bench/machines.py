@@ -199,9 +199,12 @@ class Cluster:
         self.until(lambda: self.mounted(first))
 
     def gluster(self, words: str) -> None:
-        told = self.machines[0].run("gluster --mode=script " + words)
-        if "success" not in told:
-            raise OSError("gluster %s: %s" % (words, told))
+        """Sets something, again where a busy machine didn't answer in time."""
+        def is_done() -> bool:
+            told = self.machines[0].run("gluster --mode=script " + words)
+            return "success" in told or "already" in told
+
+        self.until(is_done)
 
     @staticmethod
     def until(is_so: Callable[[], bool], seconds: float = 600) -> None:
