@@ -63,7 +63,7 @@ class Client(threading.Thread):
         self.free.set()
         # the number that each person was acknowledged with; None where only a question told that it was kept
         self.kept: dict[int, Optional[int]] = {}
-        self.asked_for, self.met = 0, [0, 0]
+        self.asked_for, self.tried = 0, [0, 0]
         self.gaps: list[float] = []
         self.last = time.time()
 
@@ -78,6 +78,7 @@ class Client(threading.Thread):
     def exchange(self, method: str, path: str, body: Optional[str] = None) -> tuple[int, bytes]:
         """A message and its response. Raises ConnectionRefusedError only where nothing was sent."""
         at = self.choose()
+        self.tried[at] += 1
         connection = http.client.HTTPConnection(self.hosts[at].ip, PORT, timeout=CONNECTING)
         try:
             try:
@@ -89,7 +90,6 @@ class Client(threading.Thread):
             connection.sock.setsockopt(socket.SOL_SOCKET, socket.SO_KEEPALIVE, 1)
             for option, value in ALIVE:
                 connection.sock.setsockopt(socket.IPPROTO_TCP, option, value)
-            self.met[at] += 1
             connection.request(method, path, body, {"X-Registry-Caller": SYSTEM, "Connection": "close"})
             response = connection.getresponse()
             told = response.status, response.read()
@@ -309,7 +309,7 @@ def quiet(field: Field, host: Machine) -> None:
     field.goes_on()
     host.network(True)
     at = field.cluster.hosts.index(host)
-    field.awaits(lambda before=field.client.met[at]: field.client.met[at] > before, STANDSTILL)
+    field.awaits(lambda before=field.client.tried[at]: field.client.tried[at] > before, STANDSTILL)
     field.goes_on()
 
 
