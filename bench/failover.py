@@ -9,10 +9,10 @@ moment or in a quiet one; a registry, a mount or a brick killed; a registry ende
 once; the third machine's power. After each harm, and at last, every acknowledged command has to be in the journal,
 once, at the number that it was acknowledged with.
 
-Before that come two controls, which have to lose acknowledged commands; where one loses none, the harms show little,
-and the status is 1. Without `client.strict-locks` a machine that was cut off in a quiet moment, and comes back, writes
-beside the one that took over. With what GlusterFS remembers by default, a machine that takes over at once opens a
-journal that is too short.
+Before that come two controls. Without `client.strict-locks` a machine that was cut off in a quiet moment, and comes
+back, writes beside the one that took over: that has to lose acknowledged commands, and where it loses none, the harms
+show little, and the status is 1. With what GlusterFS remembers by default, a machine that takes over at once may open a
+journal that is too short: that loses commands in some runs, so it is told and doesn't count.
 
     bench/failover.py [--harms N] [--control N] [--minutes N] [--arbiter] [--seed N] [--kinds KIND,..]
 
@@ -409,8 +409,7 @@ def loses(field: Field, title: str, kind: str, asked: argparse.Namespace) -> boo
     except Standstill:
         pass
     counted = field.count()
-    print("control, %s: %s: %s" % (
-        title, counted.told(), "it loses, as it has to" if counted.lost else "NOTHING LOST, so the harms show little"))
+    print("control, %s: %s: %s" % (title, counted.told(), "it loses" if counted.lost else "NOTHING LOST"), flush=True)
     return bool(counted.lost)
 
 
@@ -457,9 +456,10 @@ def main() -> int:
         sys.exit("the kinds are " + ",".join(KINDS))
     hear_signals()
     random.seed(asked.seed)
-    is_right = not asked.control or all([
-        with_field(False, True, asked.arbiter, lambda field: loses(field, "without strict locks", "quiet", asked)),
-        with_field(True, False, asked.arbiter, lambda field: loses(field, "with caches", "handover", asked))])
+    is_right = True
+    if asked.control:
+        is_right = with_field(False, True, asked.arbiter, lambda field: loses(field, "no strict locks", "quiet", asked))
+        with_field(True, False, asked.arbiter, lambda field: loses(field, "with caches", "handover", asked))
     is_kept = not asked.harms or with_field(True, True, asked.arbiter, lambda field: keeps(field, asked))
     return 0 if is_right and is_kept else 1
 
