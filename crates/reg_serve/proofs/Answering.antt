@@ -245,6 +245,7 @@ finishes_kept g h k w w2 s a call due (Err e) kept f = tt
 pub finishes_ended : {K : Type 0} (g : Ghosts K) (k : K) (w ms w2 ms2 : Option (List ℕ)) (p : State) (s : Served K) (call : Call) (at : List ℕ) (due : Reply) (r : Result (Served K) (Ended × Next K)) → Gives ms at ms2
     → MayReply p (question_of call) at due s.state → KeptOn g p.history k s.state.history s.keeper → Finishes (asked_of call) call due w w2 s r
     → IfErr r (TurnLeaves g (record { written = w; moments = ms; state = p }) k (taken.Call call) w2 ms2)
+unfolding breaks
 finishes_ended g k w ms w2 ms2 p s call at due (Ok after) gives may kept f = tt
 finishes_ended g k w ms w2 ms2 p s call at due (Err (ended.Closed, n)) gives may kept f =
     let shut : closes call ≡ true = sym (closes_is call) ∙ f.1 in
