@@ -4,17 +4,19 @@
 # composite, dates that come, loads, two connections of `serve`, and the words that only read. After each run it looks:
 #
 # - The journal opens, and is to the byte what the same run with ample memory makes of the requests that were answered
-#   otherwise than by {"fault":"memory"}; so each acknowledged command is in it, and none that was answered so. Only a
-#   last command may be there that nothing was written of.
+#   otherwise than by {"fault":"memory"}; so each acknowledged command is in it, and none that was answered so. The
+#   command behind the last reply may be there though nothing of its own reply was written.
 # - Each other reply is the one of that run with ample memory, whole, and the status is its own or 3.
 #
 # Then each sync of a run fails in turn, with ample memory behind it and with none: the status has to be 4, the reply
 # {"fault":"disk"}, and the command may be in the journal or not.
 #
 # A small library, which is preloaded, does the refusing. It also gives the program a clock that tells a second more
-# at each look, so that runs are alike to the byte. The journals lie in memory. It needs python3 and a C compiler over
-# the GNU C library; without a compiler it says so, and ends with status 0. Prints how many runs it made, and what was
-# wrong in any. Ends with status 1 where something was kept, lost or told wrongly.
+# at each look, or to `serve` one that stands, so that runs are alike to the byte. The journals lie in memory.
+#
+# It needs python3 and a C compiler over the GNU C library; without a compiler it says so, and ends with status 0.
+# Prints how many runs it made, and what was wrong in any. Ends with status 1 where something was kept, lost or told
+# wrongly.
 #
 #     bench/memory.sh
 #
@@ -403,6 +405,8 @@ class Connections(Trial):
                     response = answers.next()
                 except ConnectionError:
                     response = None
+                if answers.bytes:
+                    raise ValueError("a response is cut short: %r" % answers.bytes)
                 if response is None:
                     break
                 answered.responses.append(response)

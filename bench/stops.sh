@@ -1,10 +1,9 @@
 #!/bin/sh
 # Traces the writes, the syncs and the output of the built program once, while it does `init` and answers the lines of
-# a worked example, of a removal with rules (crates/worked/data/rules.md). From the trace it makes each image of the
-# journal that a crash could leave at each event: behind the last sync each write may be there whole, not at all, or
-# its first bytes, whichever of the others are there, and in the place of a gate that was written last any byte; and
-# until its folder was synced there may be no file. `check` opens each image, of equal ones once, and says how many
-# commands it holds:
+# a worked example, of a removal with rules (crates/worked/data/rules.md). From the trace it makes images of the journal
+# that a crash could leave at each event. Of the writes since the last sync, one is cut behind each of its bytes, and
+# each of the others is there or not; a gate that was written last may be any byte; and until the folder was synced
+# there may be no file. `check` opens each image, of equal ones once, and says how many commands it holds:
 #
 # - at least those whose replies were begun to be written by then, and at most one more;
 # - no others than the first so many of the accepted ones, to the byte, and the last one's moment;
