@@ -11,8 +11,10 @@ once, at the number that it was acknowledged with.
 
 Before that come two controls. Without `client.strict-locks` a machine that was cut off in a quiet moment, and comes
 back, writes beside the one that took over: that has to lose acknowledged commands, and where it loses none, the harms
-show little, and the status is 1. With what GlusterFS remembers by default, a machine that takes over at once may open a
-journal that is too short: that loses commands in some runs, so it is told and doesn't count.
+show little, and the status is 1. (It was shown with a program that didn't look at the journal's end before each
+append, as the registry does since: with that it may lose nothing. PROGRAM names an older one.) With what GlusterFS
+remembers by default, a machine that takes over at once may open a journal that is too short: that loses commands in
+some runs, so it is told and doesn't count.
 
     bench/failover.py [--harms N] [--control N] [--minutes N] [--arbiter] [--seed N] [--kinds KIND,..]
 

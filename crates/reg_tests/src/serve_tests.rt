@@ -7,7 +7,7 @@ use reg_outside::{ListClock, Listener, TcpPort};
 use reg_serve::{Ended, serve_connection};
 use reg_service::{Next, Service};
 use std::alloc::Global;
-use std::io::{Read, Write};
+use std::io::{Eprint, Read, Write};
 use std::net::{Ipv4Addr, Net, Shutdown, SocketAddr, SocketAddrV4, TcpListener, TcpStream};
 use std::test::Fail;
 
@@ -46,7 +46,7 @@ Content-Length: 25\r\n\
 {\"members\":[],\"ok\":true}\n";
 
 /// Listens on the first of some ports that is free.
-fn listen_on<R: Net<Listener = TcpListener, Stream = TcpStream>>(
+fn listen_on<R: Net<Listener = TcpListener, Stream = TcpStream> + Eprint>(
     net: &mut TcpPort<R>,
 ) -> Result<u16, Fail>
     ensures { IfOk result (λ port. is_some net.new.port ≡ true) }
