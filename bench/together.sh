@@ -52,9 +52,10 @@ def together():
             pass
     count = away = 0
     for process in both:
-        replies, note = process.stdout.read(), process.stderr.read()
+        # behind the note a second line says why
+        replies, note = process.stdout.read(), process.stderr.read().split(b"\n")[0]
         status = process.wait()
-        if (status, note, replies) == (4, b"disk\n", b""):
+        if (status, note, replies) == (4, b"disk", b""):
             away += 1
         elif (status, note, acknowledged(replies)) != (0, b"", LINES):
             sys.exit("a program ended with status %d and the note %r after %d replies" % (status, note, acknowledged(replies)))
