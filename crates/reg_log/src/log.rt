@@ -1,6 +1,6 @@
 // The list of what was changed.
 ghost use Rattle.std.specs.Prelude.{◌≡◌, ◌++◌, ◌∷◌, [], length, IfOk, OnOk, OnErr};
-ghost use Rattle.reg_log.specs.Numbering.{entries_after, entry_of};
+ghost use Rattle.reg_log.specs.Numbering.{entries_after, entry_of, moment_of};
 
 use crate::{Entry, Line};
 use reg_base::Moment;
@@ -94,6 +94,15 @@ impl ChangeLog {
         ensures { result ≡ length self.now }
     {
         self.lines.len() as u64
+    }
+
+    /// The moment of the entry of a number; None where there is no such entry. Takes no memory.
+    pub fn moment_of(&self, seq: u64) -> Option<Moment>
+        ensures { result ≡ moment_of seq self.now }
+    {
+        let before = seq.checked_sub(1)?;
+        let line = self.lines.get(before as usize)?;
+        Some(line.at)
     }
 
     /// The entries whose numbers are greater than a place, at most `max` of them. Costs what it

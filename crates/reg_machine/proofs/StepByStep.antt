@@ -107,7 +107,7 @@ passed_then a b c f p q = by_dates b (λ x g. x ≤ b → dates_passed x c g ≡
 
 -- ---- the steps of a history
 
-steps_of : (t : ℕ) (history : List Stamped) → AllByRecursion (IsBy t) history → steps history t ≡ steps_after 0 history t the_facts.start
+pub steps_of : (t : ℕ) (history : List Stamped) → AllByRecursion (IsBy t) history → steps history t ≡ steps_after 0 history t the_facts.start
 unfolding steps
 steps_of t history h = ap (λ ss. steps_after 0 ss t the_facts.start) (all_up_to t history h)
 

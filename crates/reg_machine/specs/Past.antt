@@ -1,7 +1,8 @@
 -- The past that a history gives: its steps one after another, and by them who was a member when,
 -- the change log, and what is gone.
-use Rattle.std.specs.Prelude.{◌≡◌, ◌≤◌, ℕ, zero, suc, ◌*◌, List, [], ◌∷◌, ◌++◌, Bool, true, Option}
-use Rattle.std.specs.Prelude.{None, Some, length, map, filter_map, option_map, if◌then◌else◌}
+use Rattle.std.specs.Prelude.{◌≡◌, ◌≤◌, ⊤, ℕ, zero, suc, ◌*◌, List, [], ◌∷◌, ◌++◌, Bool, true}
+use Rattle.std.specs.Prelude.{Option, None, Some, length, map, filter_map, option_map}
+use Rattle.std.specs.Prelude.{if◌then◌else◌}
 use Rattle.reg_base.specs.declared.entity.Entity.{Entity}
 use Rattle.reg_base.specs.declared.privilege.Privilege.{Privilege}
 use Rattle.reg_terms.specs.declared.command.Stamped.{Stamped}
@@ -137,6 +138,15 @@ grant_spans history now o p h = spans_until (λ t. was_granted history t o p h) 
 -- the change log at a moment: an entry's number is its place, from 1
 unfoldable pub log : List Stamped → ℕ → List Line
 log history t = log_of (steps history t)
+
+-- the moments of entries
+abbrev pub moments_of : List Line → List ℕ
+moments_of lines = map (λ (line : Line). line.at) lines
+
+-- none of some numbers is less than one before it
+abbrev pub NeverFall : List ℕ → Type 0
+NeverFall [] = ⊤
+NeverFall (n ∷ ns) = AllByRecursion (λ m. n ≤ m) ns × NeverFall ns
 
 -- ---- what was made, and what is gone
 

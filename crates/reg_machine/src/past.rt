@@ -1,7 +1,7 @@
 // What a machine tells of the past.
 ghost use Rattle.std.specs.Prelude.{◌≡◌, ◌≤◌, ◌<◌, ◌+◌, ◌*◌, ◌^◌, ◌++◌, ◌==◌, ℕ, List, length};
 ghost use Rattle.std.specs.Prelude.{true, None, Some, IfOk};
-ghost use Rattle.std.specs.List.{list_any, AllByRecursion};
+ghost use Rattle.std.specs.List.{list_any, slice_get, AllByRecursion};
 ghost use Rattle.std.specs.List.Sorted.{IsStrictlySortedBy};
 ghost use Rattle.std.specs.Option.{option_copied};
 ghost use Rattle.std.specs.Ordering.{nat_cmp};
@@ -28,6 +28,7 @@ ghost use Rattle.reg_machine.specs.Invariant.{IsFrom};
 ghost use Rattle.reg_machine.specs.Standing.{lives_at, stands};
 ghost use Rattle.reg_machine.specs.Past.{all_spans, def_of, end_of, gone, gone_by_id, gone_named};
 ghost use Rattle.reg_machine.specs.Past.{grant_spans, group_end, last_name, life, log};
+ghost use Rattle.reg_machine.specs.Past.{moments_of, NeverFall};
 ghost use Rattle.reg_machine.specs.Past.{present_name, spans, steps, was_granted, was_member};
 
 use crate::Machine;
@@ -143,6 +144,15 @@ impl<K: Kept> Machine<K> {
         ensures { result.now ≡ log self.now.history self.now.clock }
     {
         self.recorded.audit().log()
+    }
+
+    /// The moments of the log never fall, and none is later than the clock. It does nothing.
+    pub fn law_log_moments(&self)
+        ensures ordered { NeverFall (moments_of (log self.now.history self.now.clock)) }
+        ensures by_clock { AllByRecursion (λ m. m ≤ self.now.clock)
+            (moments_of (log self.now.history self.now.clock)) }
+    {
+        let _ = &self.recorded;
     }
 
     /// How far each consumer of the change log has read. Takes no memory.
@@ -267,6 +277,24 @@ impl<K: Kept> Machine<K> {
         Ok(found)
     }
 
+    /// The intervals up to the clock in which a holder had a privilege on an object, by a grant or
+    /// an inherit: in order, none empty, no two touching. The only error is out of memory.
+    pub fn granted_spans(
+        &self,
+        object: Object,
+        privilege: Privilege,
+        holder: Holder,
+    ) -> Result<Vec<(Moment, Option<Moment>)>, AllocError>
+        ensures { IfOk result (λ rows. rows.items
+            ≡ grant_spans self.now.history self.now.clock object privilege holder) }
+    {
+        let past = self.recorded.audit().past();
+        past.law_noted_later();
+        past.law_grant_spans();
+        let rows = past.grant_spans(object, privilege, holder)?;
+        Ok(rows)
+    }
+
     /// The wheel group at a moment up to the clock: the group that was named `etc:sysadmingroup`
     /// then. Takes no memory.
     pub fn wheel_at(&self, t: Moment) -> Option<GroupId>
@@ -288,6 +316,24 @@ impl<K: Kept> Machine<K> {
         let past = self.recorded.audit().past();
         let rows = past.assigns_at(owner, t)?;
         Ok(rows)
+    }
+
+    /// The moments up to the clock at which what is assigned to an owner may have changed, in
+    /// order, the first of them 0: between two of them it stayed. Costs what was ever assigned to
+    /// the owner, sorted. The only error is out of memory.
+    pub fn assign_moments(&self, owner: Object) -> Result<Vec<Moment>, AllocError>
+        ensures first { IfOk result (λ ms. slice_get ms.items 0 ≡ Some 0) }
+        ensures ascending { IfOk result (λ ms. IsStrictlySortedBy nat_cmp ms.items) }
+        ensures by_clock { IfOk result (λ ms. AllByRecursion (λ m. m ≤ self.now.clock) ms.items) }
+        ensures constant { IfOk result (λ ms. (u t : ℕ) → u ≤ t → t ≤ self.now.clock
+            → AllByRecursion (λ m. u < m → m ≤ t → ⊥) ms.items
+            → assigns_on owner (facts self.now.history t).assigns
+            ≡ assigns_on owner (facts self.now.history u).assigns) }
+    {
+        let past = self.recorded.audit().past();
+        past.law_noted_later();
+        let moments = past.assign_moments(owner)?;
+        Ok(moments)
     }
 
     /// The definition of which an attribute was made. None exactly where the attribute was never

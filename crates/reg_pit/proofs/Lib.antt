@@ -18,3 +18,4 @@ pub mod Ending
 pub mod Valued
 pub mod Numbered
 pub mod Assigning
+pub mod Changes

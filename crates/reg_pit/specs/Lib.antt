@@ -4,5 +4,6 @@ pub mod Members
 pub mod Wheel
 pub mod Grants
 pub mod Lives
+pub mod Changes
 pub mod Assigns
 pub mod Past

@@ -1,17 +1,22 @@
 // What was assigned to each owner.
-ghost use Rattle.std.specs.Prelude.{◌≡◌, ℕ, [], filter, nat_le, IfOk, if◌then◌else◌};
+ghost use Rattle.std.specs.Prelude.{◌≡◌, ◌==◌, ◌||◌, ℕ, [], filter, nat_le, IfOk, OnOk};
+ghost use Rattle.std.specs.Prelude.{if◌then◌else◌};
 ghost use Rattle.reg_terms.specs.Kinds.{same_object};
 ghost use Rattle.reg_terms.specs.declared.rows.AssignRow.{AssignRow};
 ghost use Rattle.reg_pit.specs.Assigns.{IsNew, last_of, AreAssignedBy, Noted, assigned_at};
+ghost use Rattle.reg_pit.specs.Changes.{among, assign_changes, changes_on};
 ghost use Rattle.reg_pit.specs.Lives.{values_at, row_of};
+ghost use Rattle.reg_pit.specs.Members.{Lists};
 ghost use Rattle.reg_pit.specs.declared.assign_change.AssignChange.TheVariants as change;
 
 use crate::AssignChange;
 use crate::assign_lives::{AssignLife, AssignLives};
+use crate::moments::{add, add_ends, listed};
 use crate::value_lives::ValueLives;
 use reg_base::{AssignId, AttrId, Moment};
 use reg_terms::{AssignRow, AttrValue, Object};
 use std::alloc::{AllocError, Global};
+use std::collections::BTreeSet;
 use std::marker::Model;
 
 /// What was assigned to each owner. Contracts see the lives of the assignments and those of their
@@ -207,5 +212,45 @@ impl Assigns {
             }
         }
         Ok(rows)
+    }
+
+    /// Adds the moments at which an assignment or a value in it came or went.
+    fn add_changes_of(
+        &self,
+        life: &AssignLife,
+        moments: &mut BTreeSet<Moment>,
+    ) -> Result<(), AllocError>
+        ensures { OnOk result ((m : ℕ) → among m moments.new.keys
+            ≡ (among m moments.old.keys || assign_changes self.now.1 m life.now)) }
+    {
+        add_ends(moments, life.from, life.until)?;
+        self.values.add_changes(life.id, moments)
+    }
+
+    /// Adds those of all assignments to an owner.
+    fn add_changes_on(
+        &self,
+        owner: Object,
+        moments: &mut BTreeSet<Moment>,
+    ) -> Result<(), AllocError>
+        ensures { OnOk result ((m : ℕ) → among m moments.new.keys
+            ≡ (among m moments.old.keys || changes_on self.now owner m)) }
+    {
+        for life in self.lives.on(owner) {
+            self.add_changes_of(life, moments)?;
+        }
+        Ok(())
+    }
+
+    /// The moments at which what is assigned to an owner may have changed, and 0, in order. Costs
+    /// what was ever assigned to the owner, sorted.
+    pub(crate) fn moments(&self, owner: Object) -> Result<Vec<Moment>, AllocError>
+        ensures { IfOk result (λ moments.
+            Lists (λ m. (0 == m) || changes_on self.now owner m) moments.items) }
+    {
+        let mut moments = BTreeSet::new(self.alloc);
+        add(&mut moments, Moment::start())?;
+        self.add_changes_on(owner, &mut moments)?;
+        listed(self.alloc, &moments)
     }
 }

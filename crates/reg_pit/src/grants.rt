@@ -134,6 +134,20 @@ impl Grants {
         self.granted.at((object, privilege, holder), t, steps)
     }
 
+    /// The intervals in which a holder had a privilege on an object, in order.
+    pub(crate) fn spans(
+        &self,
+        object: Object,
+        privilege: Privilege,
+        holder: Holder,
+    ) -> Result<Vec<(Moment, Option<Moment>)>, AllocError>
+        ensures { IfOk result (λ spans. spans.items
+            ≡ spans_of grant_cmp self.now (object, privilege, holder)) }
+    {
+        let spans = self.granted.rows((object, privilege, holder))?;
+        Ok(spans)
+    }
+
     /// The intervals of each privilege of a holder are none empty, and no two touch. It does
     /// nothing.
     pub(crate) fn law_spans(&self)

@@ -8,6 +8,7 @@ mod ends;
 mod grants;
 mod intervals;
 mod memberships;
+mod moments;
 mod past;
 mod value_lives;
 mod wheel;

@@ -1,7 +1,8 @@
 // What was the case at each moment.
-ghost use Rattle.std.specs.Prelude.{◌≡◌, ◌≤◌, ◌+◌, ◌*◌, ◌^◌, ◌==◌, ◌&&◌, Bool, List, [], ℕ, None};
-ghost use Rattle.std.specs.Prelude.{true, false, length, filter, nat_le, IfOk, if◌then◌else◌};
-ghost use Rattle.std.specs.List.{list_any};
+ghost use Rattle.std.specs.Prelude.{◌≡◌, ◌≤◌, ◌<◌, ◌+◌, ◌*◌, ◌^◌, ◌==◌, ◌&&◌, Bool, List, []};
+ghost use Rattle.std.specs.Prelude.{ℕ, Some, None, true, false, length, filter, nat_le, IfOk};
+ghost use Rattle.std.specs.Prelude.{if◌then◌else◌};
+ghost use Rattle.std.specs.List.{list_any, slice_get, AllByRecursion};
 ghost use Rattle.std.specs.Ordering.{nat_cmp};
 ghost use Rattle.std.specs.List.Sorted.{IsStrictlySortedBy};
 ghost use Rattle.reg_base.specs.declared.privilege.Privilege.{Privilege};
@@ -264,6 +265,20 @@ impl Past {
         self.grants.at(object, privilege, holder, t, steps)
     }
 
+    /// The intervals in which a holder had a privilege on an object, in order.
+    pub fn grant_spans(
+        &self,
+        object: Object,
+        privilege: Privilege,
+        holder: Holder,
+    ) -> Result<Vec<(Moment, Option<Moment>)>, AllocError>
+        ensures { IfOk result (λ spans. spans.items
+            ≡ grant_spans self.now object privilege holder) }
+    {
+        let spans = self.grants.spans(object, privilege, holder)?;
+        Ok(spans)
+    }
+
     /// The privileges that were held on an object at a moment: by privilege, and then everyone,
     /// persons and groups by id. Costs what was ever noted of the object.
     pub fn grants_at(
@@ -293,6 +308,22 @@ impl Past {
             ≡ filter (λ (row : AssignRow). same_object row.owner owner) (assigns_at self.now t)) }
     {
         self.assigns.on(owner, t)
+    }
+
+    /// The moments at which what is assigned to an owner may have changed, in order, the first of
+    /// them 0: between two of them it stayed. Costs what was ever assigned to the owner, sorted.
+    pub fn assign_moments(&self, owner: Object) -> Result<Vec<Moment>, AllocError>
+        ensures first { IfOk result (λ ms. slice_get ms.items 0 ≡ Some 0) }
+        ensures ascending { IfOk result (λ ms. IsStrictlySortedBy nat_cmp ms.items) }
+        ensures noted { IfOk result (λ ms. (now : ℕ) → NotedBy now self.now
+            → AllByRecursion (λ m. m ≤ now) ms.items) }
+        ensures constant { IfOk result (λ ms. (u t : ℕ) → u ≤ t
+            → AllByRecursion (λ m. u < m → m ≤ t → ⊥) ms.items
+            → filter (λ (row : AssignRow). same_object row.owner owner) (assigns_at self.now t)
+            ≡ filter (λ (row : AssignRow). same_object row.owner owner) (assigns_at self.now u)) }
+    {
+        let moments = self.assigns.moments(owner)?;
+        Ok(moments)
     }
 
     /// What was noted by a moment was noted by each later one. It does nothing.

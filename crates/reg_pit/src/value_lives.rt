@@ -1,16 +1,19 @@
 // When each value stood in its assignment.
 ghost use Rattle.std.specs.Prelude.{◌≡◌, ◌==◌, ◌&&◌, ◌++◌, ◌∷◌, [], ℕ, map, filter, not, nat_le};
-ghost use Rattle.std.specs.Prelude.{IfOk, if◌then◌else◌};
+ghost use Rattle.std.specs.Prelude.{◌||◌, IfOk, OnOk, if◌then◌else◌};
 ghost use Rattle.std.specs.Option.{option_copied};
 ghost use Rattle.reg_terms.specs.Values.{without_first};
 ghost use Rattle.reg_terms.specs.declared.kinds.AttrValue.{AttrValue};
+ghost use Rattle.reg_pit.specs.Changes.{among, value_changes};
 ghost use Rattle.reg_pit.specs.Lives.{stood, values_at, AreValuesBy, first_open, closed_in};
 ghost use Rattle.reg_pit.specs.declared.value_lives.ValueLife.{ValueLife};
 
+use crate::moments::add_ends;
 use reg_base::{AssignId, Moment};
 use reg_table::{Row, Table};
 use reg_terms::{AttrValue, AttrValues};
 use std::alloc::{AllocError, Global};
+use std::collections::BTreeSet;
 use std::marker::Model;
 
 /// From when until when a value stood in an assignment.
@@ -220,5 +223,21 @@ impl ValueLives {
             }
         }
         Ok(values)
+    }
+
+    /// Adds the moments at which a value came into an assignment, or went. Costs what was ever
+    /// added to it.
+    pub(crate) fn add_changes(
+        &self,
+        assign: AssignId,
+        moments: &mut BTreeSet<Moment>,
+    ) -> Result<(), AllocError>
+        ensures { OnOk result ((m : ℕ) → among m moments.new.keys
+            ≡ (among m moments.old.keys || value_changes self.now assign m)) }
+    {
+        for life in self.values.rows_of(assign) {
+            add_ends(moments, life.from, life.until)?;
+        }
+        Ok(())
     }
 }
