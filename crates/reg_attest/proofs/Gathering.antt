@@ -6,7 +6,7 @@ use Rattle.std.proofs.lemmas.Bool.{cases_Bool}
 use Rattle.std.proofs.lemmas.Bool.Decides.{nat_tests}
 use Rattle.std.proofs.lemmas.List.Elements.{filter-append}
 use Rattle.reg_attest.specs.declared.state.StateKind.{StateKind}
-use Rattle.reg_attest.specs.Stretches.{Neighbours}
+use Rattle.reg_attest.specs.States.{Neighbours}
 use Rattle.reg_attest.specs.States.{AreBefore, kind_in, last_kind}
 
 -- ---- lists with one more at the end

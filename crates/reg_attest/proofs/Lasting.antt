@@ -5,7 +5,7 @@ use Rattle.std.proofs.lemmas.Bool.{cases_Bool}
 use Rattle.std.proofs.lemmas.Bool.Decides.{nat_tests}
 use Rattle.reg_base.specs.Calendar.{day_micros}
 use Rattle.reg_base.specs.declared.moment.TheConstants.{GREATEST_MOMENT}
-use Rattle.reg_attest.specs.Attested.{cert, latest, changes, ended, notice, state_at, state_of, turns}
+use Rattle.reg_attest.specs.Attested.{cert, latest, changes, ended, notice, state_by, state_of, turns}
 use Rattle.reg_attest.proofs.Certified.{cert_stays}
 
 module _ (u t : ℕ) (w : u ≤ t) where
@@ -84,7 +84,7 @@ by_last : (u t : ℕ) (w : u ≤ t) (days : ℕ) (o : Option ℕ) → ((c : ℕ)
 by_last u t w days None h = refl
 by_last u t w days (Some c) h = let both = h c refl in end_stays u t w (c + days * day_micros) both.0 both.1
 
-pub constant : (days : Option ℕ) (certified : List ℕ) (u t : ℕ) → u ≤ t → AllByRecursion (λ m. u < m → m ≤ t → ⊥) (changes days certified) → state_at days certified u ≡ state_at days certified t
+pub constant : (days : Option ℕ) (certified : List ℕ) (u t : ℕ) → u ≤ t → AllByRecursion (λ m. u < m → m ≤ t → ⊥) (changes days certified) → state_by days certified u ≡ state_by days certified t
 constant None certified u t w h = refl
 constant (Some days) certified u t w h =
     ap (λ o. state_of (Some days) o u) (cert_stays certified u t w (certified_missed u t w days certified h))

@@ -5,7 +5,7 @@ use Rattle.std.specs.List.{AllByRecursion, filter, last_or}
 use Rattle.std.proofs.lemmas.Bool.{cases_Bool}
 use Rattle.std.proofs.lemmas.Bool.Decides.{nat_tests}
 use Rattle.reg_attest.specs.declared.state.StateKind.{StateKind}
-use Rattle.reg_attest.specs.Stretches.{Neighbours}
+use Rattle.reg_attest.specs.States.{Neighbours}
 use Rattle.reg_attest.specs.States.{AreBefore, AreStates, kind_in, last_kind}
 
 abbrev pub Rise : List (ℕ × StateKind) → Type 0

@@ -1,84 +1,126 @@
--- From one stretch to the next.
-use Rattle.std.proofs.Common.{◌≡◌, ◌+◌, ◌<◌, ◌≤◌, ℕ, List, [], ◌∷◌, true, false, Option, Some, min, nat_le, arith, refl, sym, ◌∙◌, ap, subst, length, inl, inr}
-use Rattle.std.specs.List.{filter, last_or}
-use Rattle.std.proofs.lemmas.Bool.{cases_Bool}
+-- From one mark to the next: between marks the assignments stay as they are.
+use Rattle.std.proofs.Common.{◌≡◌, ◌+◌, ◌<◌, ◌≤◌, ℕ, List, [], ◌∷◌, Some, min, length, arith, refl, sym, ◌∙◌, ap, subst}
+use Rattle.std.specs.List.{AllByRecursion, slice_get}
+use Rattle.std.specs.List.Sorted.{IsStrictlySortedBy}
+use Rattle.std.specs.Ordering.{nat_cmp}
+use Rattle.std.specs.declared.cmp.Ordering.TheVariants.{Less}
 use Rattle.std.proofs.lemmas.Bool.Decides.{nat_tests}
-use Rattle.reg_attest.specs.declared.state.State.{State}
+use Rattle.reg_terms.specs.declared.rows.AssignRow.{AssignRow}
 use Rattle.reg_attest.specs.declared.state.StateKind.{StateKind}
-use Rattle.reg_attest.specs.Attested.{state_at}
-use Rattle.reg_attest.specs.Stretches.{AreStretches, begin_of, Held, held_at, Neighbours, state_held, state_over}
-use Rattle.reg_attest.specs.States.{AreBefore, AreStates}
+use Rattle.reg_attest.specs.Assigned.{state_said}
+use Rattle.reg_attest.specs.Attested.{state_by}
+use Rattle.reg_attest.specs.Stretches.{Held, held_by}
+use Rattle.reg_attest.specs.States.{AreBefore, AreStates, Neighbours, next_of}
 use Rattle.reg_attest.proofs.OneList.{up_to_now}
 
-abbrev pub Succeed : List Held → Type 0
-Succeed stretches = Neighbours (λ (a : Held) (b : Held). a.from < b.from) stretches
+abbrev pub Rise : List ℕ → Type 0
+Rise marks = Neighbours (λ (a : ℕ) (b : ℕ). a < b) marks
 
-none_begun : (s : Held) (later : List Held) (t : ℕ) → Succeed (s ∷ later) → t < s.from → filter (λ (a : Held). nat_le a.from t) (s ∷ later) ≡ []
-none_begun s [] t up w = let f : nat_le s.from t ≡ false = grind (arith, nat_tests, w) in rw f refl
-none_begun s (x ∷ later) t up w =
-    let f : nat_le s.from t ≡ false = grind (arith, nat_tests, w) in
-    rw f (none_begun x later t up.1 (omega (arith, up.0, w)))
+-- no mark lies after a moment and up to another
+abbrev pub NoneIn : ℕ → ℕ → List ℕ → Type 0
+NoneIn u t marks = AllByRecursion (λ m. u < m → m ≤ t → ⊥) marks
 
--- a moment of the first of some stretches
-held_first : (n : ℕ) (s : Held) (later : List Held) (t : ℕ) → Succeed (s ∷ later) → s.from ≤ t → t < begin_of n later → held_at (s ∷ later) t ≡ Some s
-held_first n s [] t up w v = let y : nat_le s.from t ≡ true = grind (arith, nat_tests, w) in rw y refl
-held_first n s (x ∷ later) t up w v =
-    let y : nat_le s.from t ≡ true = grind (arith, nat_tests, w) in
-    rw y (ap (λ (l : List Held). last_or (Some s) l) (none_begun x later t up.1 (omega (arith, v))))
+-- from the first of these marks on the assignments change at marks alone
+pub record Stays (at : ℕ → List AssignRow) (end : ℕ) (marks : List ℕ) : Type 0 where
+  pub up : Rise marks
+  pub before : AllByRecursion (λ m. m < end) marks
+  pub same : (u t : ℕ) → next_of end marks ≤ u → u ≤ t → t < end → NoneIn u t marks → at t ≡ at u
 
--- a moment of the later ones
-held_later : (s x : Held) (later : List Held) (t : ℕ) → x.from ≤ t → held_at (s ∷ x ∷ later) t ≡ held_at (x ∷ later) t
-held_later s x later t w =
-    let y : nat_le x.from t ≡ true = grind (arith, nat_tests, w) in
-    elim (cases_Bool (nat_le s.from t)) [ inl z ↦ rw (z, y) refl | inr z ↦ rw (z, y) refl ]
+none_above : (x u t : ℕ) (later : List ℕ) → Rise (x ∷ later) → t < x → NoneIn u t later
+none_above x u t [] up w = tt
+none_above x u t (y ∷ later) up w = (λ a b. omega (arith, up.0, w, b), none_above y u t later up.1 (omega (arith, up.0, w)))
 
--- the states of all stretches are listed up to where the rest of them begin; n is the end of all
-pub record Listed (n : ℕ) (all rest : List Held) (states : List (ℕ × StateKind)) : Type 0 where
-  pub up : Succeed rest
-  pub same : (t : ℕ) → begin_of n rest ≤ t → t < n → state_over rest t ≡ state_over all t
-  pub are : AreBefore (λ t. (state_over all t).kind) (begin_of n rest) states
+none_until : (end m u t : ℕ) (later : List ℕ) → Rise (m ∷ later) → t < next_of end later → NoneIn u t later
+none_until end m u t [] up w = tt
+none_until end m u t (x ∷ later) up w = (λ a b. omega (arith, w, b), none_above x u t later up.1 (omega (arith, w)))
 
-nothing_yet : (all : List Held) → AreBefore (λ t. (state_over all t).kind) 0 []
-nothing_yet all = record { ascend = tt; apart = tt; before = tt; gives = λ t w. absurd (omega (arith, w)) }
+next_by_end : (end : ℕ) (marks : List ℕ) → next_of end marks ≤ end
+next_by_end end [] = omega arith
+next_by_end end (m ∷ later) = omega arith
 
-pub at_first : (n : ℕ) (all : List Held) → AreStretches all → Listed n all all []
-at_first n [] h = absurd h.first
-at_first n (s ∷ later) h =
-    let zero : begin_of n (s ∷ later) ≡ 0 = omega (arith, h.first) in
-    record { up = h.ascend; same = λ t w v. refl; are = rw zero (nothing_yet (s ∷ later)) }
+rise_later : (m : ℕ) (later : List ℕ) → Rise (m ∷ later) → Rise later
+rise_later m [] up = tt
+rise_later m (x ∷ later) up = up.1
 
-begins : (n : ℕ) (s : Held) (later : List Held) → Succeed (s ∷ later) → min s.from (begin_of n later) ≡ begin_of n (s ∷ later)
-begins n s [] up = refl
-begins n s (x ∷ later) up = omega (arith, up.0)
+-- until the next mark it is as at this one
+still : (at : ℕ → List AssignRow) (end m : ℕ) (later : List ℕ) → Stays at end (m ∷ later) → (t : ℕ) → m ≤ t → t < next_of end later → at t ≡ at m
+still at end m later h t w v = h.same m t (omega arith) w (omega (arith, v, next_by_end end later)) (λ a b. omega (arith, a), none_until end m m t later h.up v)
 
-no_later_than : (n : ℕ) (stretches : List Held) → begin_of n stretches ≤ n
-no_later_than n [] = omega arith
-no_later_than n (s ∷ later) = omega arith
+same_later : (at : ℕ → List AssignRow) (end m : ℕ) (later : List ℕ) → Stays at end (m ∷ later) → (u t : ℕ) → next_of end later ≤ u → u ≤ t → t < end → NoneIn u t later → at t ≡ at u
+same_later at end m [] h u t w v k none = absurd (omega (arith, w, v, k))
+same_later at end m (x ∷ later) h u t w v k none =
+    let up : m < x = h.up.0 in
+    h.same u t (omega (arith, up, w)) v k (λ a b. omega (arith, up, w, v, k, a), none)
 
-later_same : (n : ℕ) (all : List Held) (s : Held) (later : List Held) → Succeed (s ∷ later) → ((t : ℕ) → begin_of n (s ∷ later) ≤ t → t < n → state_over (s ∷ later) t ≡ state_over all t) → (t : ℕ) → begin_of n later ≤ t → t < n → state_over later t ≡ state_over all t
-later_same n all s [] up h t w v = absurd (omega (arith, w, v))
-later_same n all s (x ∷ later) up h t w v =
-    let begun : x.from ≤ t = omega (arith, w, v) in
-    ap (λ (o : Option Held). state_held o t) (sym (held_later s x later t begun)) ∙ h t (omega (arith, up.0, begun)) v
-
-later_up : (s : Held) (later : List Held) → Succeed (s ∷ later) → Succeed later
-later_up s [] up = tt
-later_up s (x ∷ later) up = up.1
-
--- the first of the rest is listed too
-pub one_listed : (n : ℕ) (all : List Held) (s : Held) (later : List Held) (old new : List (ℕ × StateKind)) → Listed n all (s ∷ later) old
-    → ((kind_at : ℕ → StateKind) → AreBefore kind_at (min s.from (begin_of n later)) old → ((t : ℕ) → s.from ≤ t → t < begin_of n later → kind_at t ≡ (state_at s.days s.certified t).kind) → AreBefore kind_at (begin_of n later) new)
-    → Listed n all later new
-one_listed n all s later old new h added = record {
-  up = later_up s later h.up;
-  same = later_same n all s later h.up h.same;
-  are = added (λ t. (state_over all t).kind) (rw (begins n s later h.up) h.are) (λ t w v.
-      let here : state_over (s ∷ later) t ≡ state_at s.days s.certified t = ap (λ (o : Option Held). state_held o t) (held_first n s later t h.up w v) in
-      let inside : begin_of n (s ∷ later) ≤ t = omega (arith, w) in
-      ap (λ (x : State). x.kind) (sym (h.same t inside (omega (arith, v, no_later_than n later))) ∙ here));
+stays_later : (at : ℕ → List AssignRow) (end m : ℕ) (later : List ℕ) → Stays at end (m ∷ later) → Stays at end later
+stays_later at end m later h = record {
+  up = rise_later m later h.up;
+  before = h.before.1;
+  same = same_later at end m later h;
 }
 
--- and where none is left, all are
-pub all_listed : (now n : ℕ) (all rest : List Held) (states : List (ℕ × StateKind)) → n ≡ now + 1 → length rest ≡ 0 → Listed n all rest states → AreStates (λ t. (state_over all t).kind) now states
-all_listed now n all [] states e none h = up_to_now (λ t. (state_over all t).kind) now states (subst (λ (m : ℕ). AreBefore (λ t. (state_over all t).kind) m states) e h.are)
-all_listed now n all (s ∷ rest) states e none h = absurd (omega arith)
+-- the states until the first of these marks are listed, or until the end where none is left
+pub record Listed (at : ℕ → List AssignRow) (kind_at : ℕ → StateKind) (end : ℕ) (rest : List ℕ) (states : List (ℕ × StateKind)) : Type 0 where
+  pub stays : Stays at end rest
+  pub are : AreBefore kind_at (next_of end rest) states
+
+-- ---- at first
+
+is_later : (a b : ℕ) → nat_cmp a b ≡ Less → a < b
+is_later a b e = grind (arith, nat_tests)
+
+rises : (marks : List ℕ) → IsStrictlySortedBy nat_cmp marks → Rise marks
+unfolding IsStrictlySortedBy
+rises [] h = tt
+rises (x ∷ []) h = tt
+rises (x ∷ y ∷ rest) h = (is_later x y h.0.0, rises (y ∷ rest) h.1)
+
+all_before : (now end : ℕ) (marks : List ℕ) → end ≡ now + 1 → AllByRecursion (λ m. m ≤ now) marks → AllByRecursion (λ m. m < end) marks
+all_before now end [] e h = tt
+all_before now end (m ∷ marks) e h = (omega (arith, e, h.0), all_before now end marks e h.1)
+
+nothing_yet : (kind_at : ℕ → StateKind) → AreBefore kind_at 0 []
+nothing_yet kind_at = record { ascend = tt; apart = tt; before = tt; gives = λ t w. absurd (omega (arith, w)) }
+
+begins : (end : ℕ) (marks : List ℕ) → slice_get marks 0 ≡ Some 0 → next_of end marks ≡ 0
+begins end [] e = absurd (cc)
+begins end (m ∷ marks) e = let zero : m ≡ 0 = cc in omega (arith, zero)
+
+pub at_first : (at : ℕ → List AssignRow) (kind_at : ℕ → StateKind) (now end : ℕ) (marks : List ℕ) → end ≡ now + 1 → slice_get marks 0 ≡ Some 0 → IsStrictlySortedBy nat_cmp marks → AllByRecursion (λ m. m ≤ now) marks
+    → ((u t : ℕ) → u ≤ t → t ≤ now → NoneIn u t marks → at t ≡ at u)
+    → Listed at kind_at end marks []
+at_first at kind_at now end marks e first sorted by same = record {
+  stays = record {
+    up = rises marks sorted;
+    before = all_before now end marks e by;
+    same = λ u t w v k none. same u t v (omega (arith, k, e)) none;
+  };
+  are = subst (λ (n : ℕ). AreBefore kind_at n []) (sym (begins end marks first)) (nothing_yet kind_at);
+}
+
+-- ---- from a mark to the next
+
+next_end : (end m : ℕ) (later : List ℕ) → Rise (m ∷ later) → next_of end (m ∷ later) ≡ min m (next_of end later)
+next_end end m [] up = refl
+next_end end m (x ∷ later) up = omega (arith, up.0)
+
+pub one_listed : (name_of : ℕ → List ℕ) (at : ℕ → List AssignRow) (end m : ℕ) (later : List ℕ) (s : Held) (old new : List (ℕ × StateKind))
+    → Listed at (λ t. (state_said name_of (at t) t).kind) end (m ∷ later) old
+    → s ≡ held_by m name_of (at m)
+    → ((kind_at : ℕ → StateKind) → AreBefore kind_at (min s.from (next_of end later)) old → ((t : ℕ) → s.from ≤ t → t < next_of end later → kind_at t ≡ (state_by s.days s.certified t).kind) → AreBefore kind_at (next_of end later) new)
+    → Listed at (λ t. (state_said name_of (at t) t).kind) end later new
+one_listed name_of at end m later s old new h e added =
+    let from_is : s.from ≡ m = ap (λ (x : Held). x.from) e in
+    let until : next_of end (m ∷ later) ≡ min s.from (next_of end later) = next_end end m later h.stays.up ∙ ap (λ (n : ℕ). min n (next_of end later)) (sym from_is) in
+    record {
+      stays = stays_later at end m later h.stays;
+      are = added (λ t. (state_said name_of (at t) t).kind)
+          (subst (λ (n : ℕ). AreBefore (λ t. (state_said name_of (at t) t).kind) n old) until h.are)
+          (λ t w v. ap (λ (rows : List AssignRow). (state_said name_of rows t).kind) (still at end m later h.stays t (omega (arith, from_is, w)) v) ∙ ap (λ (x : Held). (state_by x.days x.certified t).kind) (sym e));
+    }
+
+-- ---- where no mark is left, all are listed
+
+pub all_listed : (at : ℕ → List AssignRow) (kind_at : ℕ → StateKind) (now end : ℕ) (rest : List ℕ) (states : List (ℕ × StateKind)) → end ≡ now + 1 → length rest ≡ 0 → Listed at kind_at end rest states → AreStates kind_at now states
+all_listed at kind_at now end [] states e none h = up_to_now kind_at now states (subst (λ (n : ℕ). AreBefore kind_at n states) e h.are)
+all_listed at kind_at now end (m ∷ rest) states e none h = absurd (omega arith)

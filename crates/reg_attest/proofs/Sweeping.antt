@@ -8,7 +8,7 @@ use Rattle.std.proofs.lemmas.Grind.{common_steps}
 use Rattle.std.proofs.lemmas.List.Elements.{All-contains, All-head, All-tail, All-weaker, All-filter, All-contains_itself, filter_passes, recursion_from_All, Contains-append_left, Contains-append_right, Contains-push}
 use Rattle.std.proofs.lemmas.List.Sorted.{All-permutation, Contains-permutation}
 use Rattle.reg_attest.specs.declared.state.StateKind.{StateKind}
-use Rattle.reg_attest.specs.Attested.{cert, state_at, state_of}
+use Rattle.reg_attest.specs.Attested.{cert, state_by, state_of}
 use Rattle.reg_attest.specs.Between.{AllBetween, NoneBetween}
 use Rattle.reg_attest.specs.States.{AreBefore}
 use Rattle.reg_attest.proofs.Certified.{cert_at, cert_stays, first_or_later}
@@ -91,7 +91,7 @@ all_found certified from end found moved up =
 -- ---- the states of a stretch until a certified moment, and so on
 
 abbrev pub HasKinds : (ℕ → StateKind) → Option ℕ → List ℕ → ℕ → ℕ → Type 0
-HasKinds kind_at days certified from end = (t : ℕ) → from ≤ t → t < end → kind_at t ≡ (state_at days certified t).kind
+HasKinds kind_at days certified from end = (t : ℕ) → from ≤ t → t < end → kind_at t ≡ (state_by days certified t).kind
 
 -- the states of a stretch are listed up to a moment at which the last certification is this one
 pub record Swept (days : Option ℕ) (certified : List ℕ) (start end from : ℕ) (last : Option ℕ) (old new : List (ℕ × StateKind)) : Type 0 where
@@ -103,7 +103,7 @@ pub record Swept (days : Option ℕ) (certified : List ℕ) (start end from : �
 pub sweep_begins : (days : Option ℕ) (certified : List ℕ) (start end : ℕ) (states : List (ℕ × StateKind)) → start < end → Swept days certified start end start (cert certified start) states states
 sweep_begins days certified start end states w = record { low = omega arith; high = w; last_is = refl; are = λ kind_at so_far is. so_far }
 
-still : (days : Option ℕ) (certified : List ℕ) (from to : ℕ) (last : Option ℕ) → last ≡ cert certified from → NoneBetween certified from to → (t : ℕ) → from ≤ t → t < to → (state_at days certified t).kind ≡ (state_of days last t).kind
+still : (days : Option ℕ) (certified : List ℕ) (from to : ℕ) (last : Option ℕ) → last ≡ cert certified from → NoneBetween certified from to → (t : ℕ) → from ≤ t → t < to → (state_by days certified t).kind ≡ (state_of days last t).kind
 still days certified from to last e none t w v = ap (λ o. (state_of days o t).kind) (sym (e ∙ cert_stays certified from t w (until certified none)))
   where
     until : (cs : List ℕ) → AllByRecursion (λ c. from < c → c < to → ⊥) cs → AllByRecursion (λ c. from < c → c ≤ t → ⊥) cs

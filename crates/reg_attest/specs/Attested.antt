@@ -1,7 +1,7 @@
 -- The state of a group's attestation at a moment: by the days for which a certification lasts, if
 -- any are set, and by the moments at which the group was certified.
 use Rattle.std.specs.Prelude.{ℕ, ◌+◌, ◌*◌, ◌-◌, ◌&&◌, ℤ, pos, negsuc, List, [], ◌∷◌, Option, Some}
-use Rattle.std.specs.Prelude.{None, nat_le, nat_lt, max, filter, unwrap_or, option_and_then}
+use Rattle.std.specs.Prelude.{None, nat_le, nat_lt, max, filter, unwrap_or}
 use Rattle.std.specs.Prelude.{if◌then◌else◌}
 use Rattle.std.specs.List.{flat_map}
 use Rattle.reg_base.specs.Calendar.{day_micros}
@@ -14,13 +14,6 @@ use Rattle.reg_attest.specs.declared.state.StateKind.TheVariants as kind
 abbrev pub days_in : ℤ → Option ℕ
 days_in (pos n) = if nat_le 1 n && nat_le n 3_650 then Some n else None
 days_in (negsuc n) = None
-
--- the days of the first value of the first of some assignments; a value is a whole number or
--- something else
-abbrev pub days_of : List (List (Option ℤ)) → Option ℕ
-days_of [] = None
-days_of ([] ∷ more) = None
-days_of ((value ∷ values) ∷ more) = option_and_then days_in value
 
 -- the latest of some moments
 abbrev pub latest : List ℕ → Option ℕ
@@ -57,8 +50,8 @@ state_of (Some days) None t = state kind.Never None
 state_of (Some days) (Some c) t = ended (c + days * day_micros) t
 
 -- the state at a moment by the days, if any are set, and the certified moments
-abbrev pub state_at : Option ℕ → List ℕ → ℕ → State
-state_at days certified t = state_of days (cert certified t) t
+abbrev pub state_by : Option ℕ → List ℕ → ℕ → State
+state_by days certified t = state_of days (cert certified t) t
 
 -- the moments at which a certification of so many days changes the state: itself, where it is due
 -- and where it ends

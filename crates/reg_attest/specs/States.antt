@@ -1,9 +1,14 @@
 -- The list of states: each from a moment on, until the next.
-use Rattle.std.specs.Prelude.{◌≡◌, ◌≢◌, ◌<◌, ◌≤◌, ℕ, List, Option, Some, None, filter, nat_le}
-use Rattle.std.specs.Prelude.{option_map, slice_get}
+use Rattle.std.specs.Prelude.{◌≡◌, ◌≢◌, ◌<◌, ◌≤◌, ⊤, ℕ, List, [], ◌∷◌, Option, Some, None, filter}
+use Rattle.std.specs.Prelude.{min, nat_le, option_map, slice_get}
 use Rattle.std.specs.List.{AllByRecursion, last_or}
 use Rattle.reg_attest.specs.declared.state.StateKind.{StateKind}
-use Rattle.reg_attest.specs.Stretches.{Neighbours}
+
+-- neighbours in a list are so related
+abbrev pub Neighbours : {A : Type 0} → (A → A → Type 0) → List A → Type 0
+Neighbours R [] = ⊤
+Neighbours R (x ∷ []) = ⊤
+Neighbours R (x ∷ y ∷ rest) = R x y × Neighbours R (y ∷ rest)
 
 -- the last state of a list
 abbrev pub last_kind : List (ℕ × StateKind) → Option StateKind
@@ -29,3 +34,8 @@ pub record AreStates (kind_at : ℕ → StateKind) (now : ℕ) (states : List (�
   pub apart : Neighbours (λ (a : ℕ × StateKind) (b : ℕ × StateKind). a.1 ≢ b.1) states
   pub by_now : AllByRecursion (λ (x : ℕ × StateKind). x.0 ≤ now) states
   pub gives : (t : ℕ) → t ≤ now → kind_in states t ≡ Some (kind_at t)
+
+-- the first of some moments, at most an end; the end where there is none
+abbrev pub next_of : ℕ → List ℕ → ℕ
+next_of end [] = end
+next_of end (m ∷ later) = min m end

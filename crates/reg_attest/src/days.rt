@@ -1,7 +1,9 @@
 // For how many days a certification lasts.
-ghost use Rattle.std.specs.Prelude.{◌≡◌, ◌≤◌, map};
-ghost use Rattle.reg_attest.specs.Attested.{days_in, days_of};
+ghost use Rattle.std.specs.Prelude.{◌≡◌, ◌≤◌};
+ghost use Rattle.reg_attest.specs.Attested.{days_in};
+ghost use Rattle.reg_attest.specs.Assigned.{days_given, days_of};
 
+use reg_terms::{AssignRow, AttrValue};
 use std::marker::Model;
 
 /// The most days for which a certification lasts: ten years.
@@ -9,7 +11,7 @@ const MOST_DAYS: i64 = 3_650;
 
 /// How many days a certification lasts, from 1 to 3,650. A day is 86,400,000,000 microseconds.
 #[derive(Clone, Copy)]
-pub struct Days {
+pub(crate) struct Days {
     number: u16,
 }
 
@@ -27,7 +29,7 @@ impl Model for Days {
 
 impl Days {
     /// The number of days.
-    pub fn number(self) -> u16
+    pub(crate) fn number(self) -> u16
         ensures value { result ≡ self }
         ensures bound { result ≤ 3650 }
     {
@@ -36,24 +38,34 @@ impl Days {
 }
 
 /// The days that a whole number gives. None exactly where it isn't from 1 to 3,650.
-pub fn days_in(value: i64) -> Option<Days>
-    ensures { result ≡ days_in value }
+fn days_in(number: i64) -> Option<Days>
+    ensures { result ≡ days_in number }
 {
-    if 1 <= value && value <= MOST_DAYS {
+    if 1 <= number && number <= MOST_DAYS {
         Some(Days {
-            number: value as u16,
+            number: number as u16,
         })
     } else {
         None
     }
 }
 
-/// The days that the first value of the first of some assignments gives. A value is a whole number,
-/// or None for something else. None exactly where there is no such value, or it gives no days,
-/// whatever the others give.
-pub fn days_of(assignments: &[Vec<Option<i64>>]) -> Option<Days>
-    ensures { result ≡ days_of (map (λ values. values.items) assignments.now) }
+/// The days that a value gives. None exactly where it isn't a whole number from 1 to 3,650.
+fn days_given(value: &AttrValue) -> Option<Days>
+    ensures { result ≡ days_given value.now }
 {
-    let value = assignments.first()?.first()?;
-    days_in((*value)?)
+    match value {
+        AttrValue::Int(number) => days_in(*number),
+        AttrValue::Text(_) | AttrValue::Moment(_) => None,
+    }
+}
+
+/// The days that the first value of the first of some assignments gives. None exactly where there
+/// is no such value, or it gives no days, whatever the others give.
+pub(crate) fn days_of(rows: &[AssignRow]) -> Option<Days>
+    ensures { result ≡ days_of rows.now }
+{
+    let row = rows.first()?;
+    let value = row.values.list().first()?;
+    days_given(value)
 }

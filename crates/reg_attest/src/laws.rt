@@ -2,14 +2,14 @@
 ghost use Rattle.std.specs.Prelude.{◌≡◌, ◌<◌, ◌≤◌, ℕ, List, Option};
 ghost use Rattle.std.specs.List.{AllByRecursion};
 ghost use Rattle.reg_attest.specs.declared.state.StateKind.{StateKind};
-ghost use Rattle.reg_attest.specs.Attested.{changes, state_at};
+ghost use Rattle.reg_attest.specs.Attested.{changes, state_by};
 ghost use Rattle.reg_attest.specs.States.{AreStates};
 
 /// The state stays as it is between the moments that `changes` gives. It does nothing.
 pub fn law_constant()
     ensures { (days : Option ℕ) (certified : List ℕ) (u t : ℕ) → u ≤ t
         → AllByRecursion (λ m. u < m → m ≤ t → ⊥) (changes days certified)
-        → state_at days certified u ≡ state_at days certified t }
+        → state_by days certified u ≡ state_by days certified t }
 {}
 
 /// Two lists of the same states are one. It does nothing.

@@ -1,11 +1,10 @@
-// The list of states.
+// The states of a stretch, added to the list of those before it.
 ghost use Rattle.std.specs.Prelude.{◌≡◌, ◌<◌, ◌≤◌, ◌&&◌, ℕ, true, false, Some, IfOk};
 ghost use Rattle.std.specs.Prelude.{OnOk, min, filter, nat_lt};
 ghost use Rattle.reg_attest.specs.declared.state.StateKind.{StateKind};
-ghost use Rattle.reg_attest.specs.Attested.{ending, state_at, state_of};
+ghost use Rattle.reg_attest.specs.Attested.{ending, state_by, state_of};
 ghost use Rattle.reg_attest.specs.Between.{AllBetween};
-ghost use Rattle.reg_attest.specs.Stretches.{AreStretches, begin_of, state_over};
-ghost use Rattle.reg_attest.specs.States.{AreBefore, AreStates, last_kind};
+ghost use Rattle.reg_attest.specs.States.{AreBefore, last_kind};
 
 use crate::state::{StateKind, cert, due_of, state_of};
 use crate::stretch::Stretch;
@@ -136,7 +135,7 @@ fn note_certified(
     ensures { OnOk result ((kind_at : ℕ → StateKind)
         → AreBefore kind_at stretch.now.from states.old.items
         → ((t : ℕ) → stretch.now.from ≤ t → t < end
-        → kind_at t ≡ (state_at stretch.now.days stretch.now.certified t).kind)
+        → kind_at t ≡ (state_by stretch.now.days stretch.now.certified t).kind)
         → AreBefore kind_at end states.new.items) }
 {
     let mut from = stretch.from;
@@ -150,7 +149,7 @@ fn note_certified(
 }
 
 /// Adds the states of a stretch until an end: nothing where the end isn't later than its beginning.
-fn note_stretch(
+pub(crate) fn note_stretch(
     alloc: Global,
     states: &mut Vec<(Moment, StateKind)>,
     stretch: &Stretch,
@@ -159,7 +158,7 @@ fn note_stretch(
     ensures { OnOk result ((kind_at : ℕ → StateKind)
         → AreBefore kind_at (min stretch.now.from end) states.old.items
         → ((t : ℕ) → stretch.now.from ≤ t → t < end
-        → kind_at t ≡ (state_at stretch.now.days stretch.now.certified t).kind)
+        → kind_at t ≡ (state_by stretch.now.days stretch.now.certified t).kind)
         → AreBefore kind_at end states.new.items) }
 {
     if end <= stretch.from.micros() {
@@ -167,38 +166,4 @@ fn note_stretch(
     }
     let found = certified_between(alloc, &stretch.certified, stretch.from, end)?;
     note_certified(states, stretch, &found, end)
-}
-
-/// The moment at which the first of some stretches begins, at most an end.
-fn begin_of(stretches: &[Stretch], end: u64) -> u64
-    ensures { result ≡ begin_of end stretches.now }
-{
-    match stretches.first() {
-        Some(stretch) => stretch.from.micros().min(end),
-        None => end,
-    }
-}
-
-/// The list of a group's states up to a moment: each with the moment from which on it is so, in
-/// order, the first from 0 on, no two in a row alike. It is given what holds of the group in one
-/// stretch after another, the first from 0 on; what begins after the moment counts for nothing.
-/// Costs the certified moments of all stretches, and sorts those that lie within their stretch. The
-/// only error is out of memory.
-pub fn states(
-    alloc: Global,
-    stretches: &[Stretch],
-    now: Moment,
-) -> Result<Vec<(Moment, StateKind)>, AllocError>
-    requires { AreStretches stretches.now }
-    ensures { IfOk result (λ states. AreStates (λ t. (state_over stretches.now t).kind)
-        now states.items) }
-{
-    let end = now.micros() + 1;
-    let mut states = Vec::new(alloc);
-    let mut rest = stretches;
-    while let Some((stretch, later)) = rest.split_first() {
-        note_stretch(alloc, &mut states, stretch, begin_of(later, end))?;
-        rest = later;
-    }
-    Ok(states)
 }

@@ -1,6 +1,6 @@
 // The state of a group's attestation at a moment.
 ghost use Rattle.std.specs.Prelude.{◌≡◌, ◌-◌, max, unwrap_or};
-ghost use Rattle.reg_attest.specs.Attested.{cert, ending, notice, state_at, state_of};
+ghost use Rattle.reg_attest.specs.Attested.{cert, ending, notice, state_by, state_of};
 
 use crate::days::Days;
 use reg_base::Moment;
@@ -104,11 +104,10 @@ pub(crate) fn state_of(days: Option<Days>, last: Option<Moment>, t: Moment) -> S
     }
 }
 
-/// The state of a group's attestation at a moment, by the days for which a certification lasts, if
-/// any are set, and the moments at which the group was certified, in any order. A certified moment
-/// that is later counts for nothing. It takes no memory.
-pub fn state_at(days: Option<Days>, certified: &[Moment], t: Moment) -> State
-    ensures { result ≡ state_at days certified.now t }
+/// The state at a moment by the days for which a certification lasts, if any are set, and the
+/// certified moments, in any order. One that is later counts for nothing.
+pub(crate) fn state_by(days: Option<Days>, certified: &[Moment], t: Moment) -> State
+    ensures { result ≡ state_by days certified.now t }
 {
     state_of(days, cert(certified, t), t)
 }

@@ -8,7 +8,7 @@ use std::marker::Model;
 /// The days for which a certification of a group lasts, if any are set, and the moments at which it
 /// was certified, in any order, as they hold from a moment on until the next stretch begins.
 #[derive(Drop)]
-pub struct Stretch {
+pub(crate) struct Stretch {
     pub(crate) from: Moment,
     pub(crate) days: Option<Days>,
     pub(crate) certified: Vec<Moment>,
@@ -28,7 +28,7 @@ impl Model for Stretch {
 
 impl Stretch {
     /// What holds from a moment on.
-    pub fn new(from: Moment, days: Option<Days>, certified: Vec<Moment>) -> Stretch
+    pub(crate) fn new(from: Moment, days: Option<Days>, certified: Vec<Moment>) -> Stretch
         ensures { result ≡ record { from = from; days = days; certified = certified.items } }
     {
         Stretch {
