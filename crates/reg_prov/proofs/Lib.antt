@@ -1,0 +1,11 @@
+pub mod Pairs
+pub mod Ending
+pub mod Batches
+pub mod Finding
+pub mod Listing
+pub mod Keyed
+pub mod Limits
+pub mod Noted
+pub mod Rows
+pub mod Grouped
+pub mod Due

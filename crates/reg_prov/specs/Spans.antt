@@ -1,0 +1,40 @@
+-- Intervals of moments: from a start until just before an end, or without an end.
+use Rattle.std.specs.Prelude.{◌≤◌, ⊤, ℕ, ◌==◌, ◌&&◌, List, [], ◌∷◌, Bool, true, Option, Some, None}
+use Rattle.std.specs.Prelude.{nat_le, nat_lt, if◌then◌else◌}
+use Rattle.std.specs.List.{AllByRecursion, flat_map, list_any}
+
+-- whether an end, if there is one, is later than a moment
+abbrev pub ends_after : ℕ → Option ℕ → Bool
+ends_after t None = true
+ends_after t (Some e) = nat_lt t e
+
+-- whether an interval has a moment
+abbrev pub has_moment : ℕ → ℕ × Option ℕ → Bool
+has_moment t span = nat_le span.0 t && ends_after t span.1
+
+-- whether some interval has a moment
+abbrev pub covers : List (ℕ × Option ℕ) → ℕ → Bool
+covers spans t = list_any (has_moment t) spans
+
+-- whether a pair is wanted at a moment: the group was granted, and the person was a member
+abbrev pub wished : List (ℕ × Option ℕ) → List (ℕ × Option ℕ) → ℕ → Bool
+wished grants members t = covers grants t && covers members t
+
+-- the moments at which an interval begins and ends
+abbrev pub limits : ℕ × Option ℕ → List ℕ
+limits (start, None) = start ∷ []
+limits (start, Some end) = start ∷ end ∷ []
+
+abbrev pub limits_of : List (ℕ × Option ℕ) → List ℕ
+limits_of spans = flat_map limits spans
+
+-- the intervals of a person, among those of several
+abbrev pub spans_in : ℕ → List (ℕ × ℕ × Option ℕ) → List (ℕ × Option ℕ)
+spans_in s [] = []
+spans_in s (row ∷ rows) = if row.0 == s then (row.1, row.2) ∷ spans_in s rows else spans_in s rows
+
+-- the intervals of one person stand together, and persons ascend
+abbrev pub ByPerson : List (ℕ × ℕ × Option ℕ) → Type 0
+ByPerson [] = ⊤
+ByPerson (row ∷ rows) =
+    AllByRecursion (λ (later : ℕ × ℕ × Option ℕ). row.0 ≤ later.0) rows × ByPerson rows
