@@ -1,6 +1,6 @@
 -- How a run ends, from how its parts did.
 use Rattle.std.proofs.Common.{◌≡◌, ◌≤◌, ◌<◌, ◌^◌, ◌++◌, [], append-nil, length, List, ℕ, Bool, Option, Some, None, Result, Ok, Err, true, false, refl, ap, sym, subst, ◌∙◌, arith, max, take, ◌⊎◌, inl, inr}
-use Rattle.std.specs.Prelude.{IfSome}
+use Rattle.std.specs.Prelude.{IfSome, if◌then◌else◌}
 use Rattle.std.specs.Io.KnownBytes.{append_known, prepend_known, IsAtEnd}
 use Rattle.reg_outside.specs.Faults.{Rose}
 use Rattle.reg_outside.specs.Streams.{first_moment, WritesFront}
@@ -24,7 +24,8 @@ use Rattle.reg_session.specs.declared.stop.Stop.{Stop}
 use Rattle.reg_session.specs.declared.stop.Stop.TheVariants as stop
 use Rattle.reg_run.specs.Status.{status_of}
 use Rattle.reg_run.specs.Crash.{Seen, DiskSurvives, IsWhole}
-use Rattle.reg_run.specs.Ends.{Asked, ApplyEnds, DidApply, AskEnds, RepliedFront, TooMuchExactly, begins_at, end_of_stop, is_refused}
+use Rattle.reg_run.specs.Due.{Due, Told, ToldOnce, AnswersTo, due_of, end_of_due}
+use Rattle.reg_run.specs.Ends.{ApplyEnds, DidApply, AskEnds, TooMuchExactly, begins_at, end_of_stop}
 use Rattle.reg_run.specs.Once.{Printed, end_of_reply}
 use Rattle.reg_run.specs.World.{World, Out, IsFlushed, SameNet, output}
 use Rattle.reg_run.specs.declared.status.End.{End}
@@ -47,65 +48,63 @@ apply_stopped s from taken before after more n answered kept input output disk f
     cases stop.Output input output disk e = (output refl, e)
     cases stop.TooMuch input output disk e = e
 
--- the reply of a query isn't a number
-told_query : (s : State) (m : ℕ) (r : Result Answer Refusal) → (end_of_reply (answered r) ≡ the_end.Done) × (is_refused (answered r) ≡ false) ⊎ (end_of_reply (answered r) ≡ the_end.Refused) × (is_refused (answered r) ≡ true)
-told_query s m (Ok a) = inl (refl, refl)
-told_query s m (Err r) = inr (refl, refl)
+-- a query's reply is due as it is
+told_query : (r : Result Answer Refusal) → end_of_reply (answered r) ≡ end_of_due (due_of (answered r))
+told_query (Ok a) = refl
+told_query (Err r) = refl
 
-told_op : (s : State) (m : ℕ) (by : List ℕ) (o : Op) → IsQuery o
-    → (end_of_reply (requested (at_moment s m) by o).0 ≡ the_end.Done) × (is_refused (requested (at_moment s m) by o).0 ≡ false) ⊎ (end_of_reply (requested (at_moment s m) by o).0 ≡ the_end.Refused) × (is_refused (requested (at_moment s m) by o).0 ≡ true)
+told_op : (s : State) (m : ℕ) (by : List ℕ) (o : Op) → IsQuery o → end_of_reply (requested (at_moment s m) by o).0 ≡ end_of_due (due_of (requested (at_moment s m) by o).0)
 told_op s m by (op.Command command) is = elim is [ ]
 told_op s m by (op.Load job table) is = elim is [ ]
-told_op s m by (op.Query query) is = told_query s m (told s.history (max s.clock m) by query)
+told_op s m by (op.Query query) is = told_query (told s.history (max s.clock m) by query)
 
-told_reading : (s : State) (m : ℕ) (reading : Result Request Refusal) → AsksNoChange reading
-    → (end_of_reply (turn s m reading).0 ≡ the_end.Done) × (is_refused (turn s m reading).0 ≡ false) ⊎ (end_of_reply (turn s m reading).0 ≡ the_end.Refused) × (is_refused (turn s m reading).0 ≡ true)
+told_reading : (s : State) (m : ℕ) (reading : Result Request Refusal) → AsksNoChange reading → end_of_reply (turn s m reading).0 ≡ end_of_due (due_of (turn s m reading).0)
 told_reading s m (Ok request) is = told_op s m request.by request.op is
-told_reading s m (Err r) is = inr (refl, refl)
+told_reading s m (Err r) is = refl
 
-replied : (moments : Option (List ℕ)) (s : State) (m : ℕ) (reading : Result Request Refusal) (b : Bool) (w w2 : Option (List ℕ))
-    → IfSome moments (λ ms. m ≡ first_moment ms) → w2 ≡ append_known w (line_of (turn s m reading).0) → is_refused (turn s m reading).0 ≡ b
-    → IfSome moments (λ ms. (w2 ≡ append_known w (line_of (turn s (first_moment ms) reading).0)) × (is_refused (turn s (first_moment ms) reading).0 ≡ b))
-replied None s m reading b w w2 f is r = tt
-replied (Some ms) s m reading b w w2 f is r = (rw (← f) is, rw (← f) r)
+-- the reply of a turn, or that there was no memory
+pub told_turn : (s : State) (m : ℕ) (reading : Result Request Refusal) (r : Reply) (end : End) (old new : Out) → AsksNoChange reading → (r ≡ (turn s m reading).0) ⊎ (r ≡ reply.NoMemory)
+    → Printed (end_of_reply r) (line_of r) end old new → Told (AnswersTo reading s m) end old new
+told_turn s m reading r end old new query (inl is) p =
+    let due : end_of_reply r ≡ end_of_due (due_of r) = ap end_of_reply is ∙ (told_reading s m reading query ∙ sym (ap (λ (x : Reply). end_of_due (due_of x)) is)) in
+    inl (due_of r, ap due_of is, subst (λ (e : End). Printed e (line_of r) end old new) due p)
+told_turn s m reading r end old new query (inr is) p = inr (subst (λ (x : Reply). Printed (end_of_reply x) (line_of x) end old new) is p)
 
--- the turn's reply was printed whole
-told_ends : (reading : Result Request Refusal) (end : End) (before after : World) (s : State) (m : ℕ) (told : Reply) → IfSome before.moments (λ ms. m ≡ first_moment ms)
-    → told ≡ (turn s m reading).0 → end ≡ end_of_reply told → after.written ≡ append_known before.written (line_of told) → IsFlushed after
-    → (end_of_reply (turn s m reading).0 ≡ the_end.Done) × (is_refused (turn s m reading).0 ≡ false) ⊎ (end_of_reply (turn s m reading).0 ≡ the_end.Refused) × (is_refused (turn s m reading).0 ≡ true)
-    → AskEnds reading end s before after
-told_ends reading end before after s m told first is of wrote flushed (inl k) =
-    let done : end ≡ the_end.Done = of ∙ (ap end_of_reply is ∙ k.0) in
-    let written : after.written ≡ append_known before.written (line_of (turn s m reading).0) = wrote ∙ ap (λ (r : Reply). append_known before.written (line_of r)) is in
-    rw done (replied before.moments s m reading false before.written after.written first written k.1, flushed)
-told_ends reading end before after s m told first is of wrote flushed (inr k) =
-    let done : end ≡ the_end.Refused = of ∙ (ap end_of_reply is ∙ k.0) in
-    let written : after.written ≡ append_known before.written (line_of (turn s m reading).0) = wrote ∙ ap (λ (r : Reply). append_known before.written (line_of r)) is in
-    rw done (replied before.moments s m reading true before.written after.written first written k.1, flushed)
+-- what is due at the moment that the clock had
+replied : (IsDue : ℕ → Due → Type 0) (moments : Option (List ℕ)) (m : ℕ) (due : Due) (b : Bool) (w w2 : Option (List ℕ)) → IfSome moments (λ ms. m ≡ first_moment ms) → IsDue m due → due.refused ≡ b
+    → w2 ≡ append_known w due.bytes → IfSome moments (λ ms. (x : Due) × IsDue (first_moment ms) x × (x.refused ≡ b) × (w2 ≡ append_known w x.bytes))
+replied IsDue None m due b w w2 first is refused wrote = tt
+replied IsDue (Some ms) m due b w w2 first is refused wrote = (due, subst (λ (k : ℕ). IsDue k due) first is, refused, wrote)
 
--- a front of it was
-front_moment : (moments : Option (List ℕ)) (s : State) (m : ℕ) (reading : Result Request Refusal) (told : Reply) (w w2 : Option (List ℕ)) → IfSome moments (λ ms. m ≡ first_moment ms) → told ≡ (turn s m reading).0
-    → WritesFront w w2 (line_of told) → IfSome moments (λ ms. WritesFront w w2 (line_of (turn s (first_moment ms) reading).0))
-front_moment None s m reading told w w2 first is front = tt
-front_moment (Some ms) s m reading told w w2 first is front = rw (← first) (subst (λ (r : Reply). WritesFront w w2 (line_of r)) is front)
+replied_front : (IsDue : ℕ → Due → Type 0) (moments : Option (List ℕ)) (m : ℕ) (due : Due) (w w2 : Option (List ℕ)) → IfSome moments (λ ms. m ≡ first_moment ms) → IsDue m due → WritesFront w w2 due.bytes
+    → IfSome moments (λ ms. (x : Due) × IsDue (first_moment ms) x × WritesFront w w2 x.bytes)
+replied_front IsDue None m due w w2 first is front = tt
+replied_front IsDue (Some ms) m due w w2 first is front = (due, subst (λ (k : ℕ). IsDue k due) first is, front)
 
-replied_front : (reading : Result Request Refusal) (before after : World) (s : State) (m : ℕ) (told : Reply) → IfSome before.moments (λ ms. m ≡ first_moment ms) → (told ≡ (turn s m reading).0) ⊎ (told ≡ reply.NoMemory)
-    → WritesFront before.written after.written (line_of told) → RepliedFront reading s before after
-replied_front reading before after s m told first (inl is) front = inl (front_moment before.moments s m reading told before.written after.written first is front)
-replied_front reading before after s m told first (inr is) front = inr (subst (λ (r : Reply). WritesFront before.written after.written (line_of r)) is front)
+-- what was due was printed whole
+due_ends : (IsDue : ℕ → Due → Type 0) (end : End) (before after : World) (m : ℕ) (due : Due) → IfSome before.moments (λ ms. m ≡ first_moment ms) → IsDue m due → end ≡ end_of_due due
+    → after.written ≡ append_known before.written due.bytes → IsFlushed after → AskEnds IsDue end before after
+due_ends IsDue end before after m due first is of wrote flushed = by_refused due.refused refl
+  where
+    by_refused : (b : Bool) → due.refused ≡ b → AskEnds IsDue end before after
+    by_refused true refused =
+        let ends : end ≡ the_end.Refused = of ∙ ap (λ (b : Bool). if b then the_end.Refused else the_end.Done) refused in
+        rw ends (replied IsDue before.moments m due true before.written after.written first is refused wrote, flushed)
+    by_refused false refused =
+        let ends : end ≡ the_end.Done = of ∙ ap (λ (b : Bool). if b then the_end.Refused else the_end.Done) refused in
+        rw ends (replied IsDue before.moments m due false before.written after.written first is refused wrote, flushed)
 
-ask_ends : (reading : Result Request Refusal) (end : End) (before after : World) (s : State) (m : ℕ) (told : Reply) → AsksNoChange reading → IfSome before.moments (λ ms. m ≡ first_moment ms)
-    → (told ≡ (turn s m reading).0) ⊎ (told ≡ reply.NoMemory) → Printed (end_of_reply told) (line_of told) end (output before) (output after) → AskEnds reading end s before after
-ask_ends reading end before after s m told query first (inl is) (inl (inl p)) = told_ends reading end before after s m told first is p.0 p.1 p.2 (told_reading s m reading query)
-ask_ends reading end before after s m told query first (inr is) (inl (inl p)) =
-    let memory : end ≡ the_end.Memory = p.0 ∙ ap end_of_reply is in
-    rw memory (inl (p.1 ∙ ap (λ (r : Reply). append_known before.written (line_of r)) is, p.2))
-ask_ends reading end before after s m told query first t (inl (inr p)) = rw p.0 (p.1, replied_front reading before after s m told first t p.2, p.3)
-ask_ends reading end before after s m told query first t (inr p) = rw p.0 (inr (ap (λ (o : Out). o.written) p.1, ap (λ (o : Out). o.flushed) p.1, ap (λ (o : Out). o.writes) p.1))
+ask_ends : (IsDue : ℕ → Due → Type 0) (end : End) (before after : World) (m : ℕ) → IfSome before.moments (λ ms. m ≡ first_moment ms) → Told (IsDue m) end (output before) (output after) → AskEnds IsDue end before after
+ask_ends IsDue end before after m first (inl (due, is, inl (inl p))) = due_ends IsDue end before after m due first is p.0 p.1 p.2
+ask_ends IsDue end before after m first (inl (due, is, inl (inr p))) = rw p.0 (p.1, inl (replied_front IsDue before.moments m due before.written after.written first is p.2), p.3)
+ask_ends IsDue end before after m first (inl (due, is, inr p)) = rw p.0 (inr (ap (λ (o : Out). o.written) p.1, ap (λ (o : Out). o.flushed) p.1, ap (λ (o : Out). o.writes) p.1))
+ask_ends IsDue end before after m first (inr (inl (inl p))) = rw p.0 (inl (p.1, p.2))
+ask_ends IsDue end before after m first (inr (inl (inr p))) = rw p.0 (p.1, inr p.2, p.3)
+ask_ends IsDue end before after m first (inr (inr p)) = rw p.0 (inr (ap (λ (o : Out). o.written) p.1, ap (λ (o : Out). o.flushed) p.1, ap (λ (o : Out). o.writes) p.1))
 
 -- a service was asked
-pub asked_ends : (reading : Result Request Refusal) (end : End) (before after : World) (s : State) → AsksNoChange reading → Asked s before.moments reading end (output before) (output after) → AskEnds reading end s before after
-asked_ends reading end before after s query a = ask_ends reading end before after s a.at a.told query a.moment a.turn a.printed
+pub asked_ends : (IsDue : ℕ → Due → Type 0) (end : End) (before after : World) → ToldOnce IsDue before.moments end (output before) (output after) → AskEnds IsDue end before after
+asked_ends IsDue end before after a = ask_ends IsDue end before after a.at a.moment a.told
 
 -- where the input ended, failed or was too much, all that was accepted was answered
 pub three : IsWhole 3 → ⊥

@@ -4,5 +4,6 @@ pub mod Ending
 pub mod Loading
 pub mod Naming
 pub mod Opened
+pub mod Reporting
 pub mod Serving
 pub mod Usage

@@ -30,7 +30,8 @@ use Rattle.reg_run.specs.Serving.{DidServe}
 use Rattle.reg_run.specs.World.{World, Out, IsFlushed, LookedOnce, SameClock, SameInput, SameNet}
 use Rattle.reg_run.specs.World.{SameOutput, output}
 use Rattle.reg_played.specs.Played.{summary, summary_text}
-use Rattle.reg_run.specs.Once.{AsksOnce, IsTakenWhole, Printed, end_of_reply, load_of}
+use Rattle.reg_run.specs.Once.{AsksOnce, IsTakenWhole, Printed, load_of}
+use Rattle.reg_run.specs.Due.{Due, Replied, RepliedFront, AnswersTo, ReportsAt}
 use Rattle.reg_run.specs.Questions.{asked_by}
 use Rattle.reg_words.specs.declared.task.Task.{Task}
 use Rattle.reg_words.specs.declared.task.Task.TheVariants as task
@@ -179,22 +180,6 @@ pub record DidCheck (d : Seen) (end : End) (before after : World) (from : State)
   pub same : IsUntouched d
   pub disk : DiskSurvives d from.history [] 0 (status_of end)
 
--- a reply that refuses
-abbrev pub is_refused : Reply → Bool
-is_refused (reply.Number n id) = false
-is_refused (reply.Loaded n counts) = false
-is_refused (reply.Answer a) = false
-is_refused (reply.Refused r) = true
-is_refused reply.NoMemory = false
-is_refused reply.KeepFault = false
-
--- the one reply to a reading, at the next moment, was written
-abbrev pub Replied : Result Request Refusal → Bool → State → World → World → Type 0
-Replied reading refused from before after = IfSome before.moments (λ moments.
-    (after.written ≡ append_known before.written
-    (line_of (turn from (first_moment moments) reading).0))
-    × (is_refused (turn from (first_moment moments) reading).0 ≡ refused))
-
 -- why a journal doesn't open, as a run's end
 abbrev pub end_of_open : OpenFault → End
 end_of_open (fault.Damaged at) = the_end.Damaged at
@@ -209,52 +194,31 @@ end_of_stop stop.Input = the_end.Input
 end_of_stop stop.Output = the_end.Output
 end_of_stop stop.TooMuch = the_end.TooMuch
 
--- The reply to a reading at the clock's next moment was printed, or that there was no memory for
--- it, and the end is its.
-pub record Asked (s : State) (moments : Option (List ℕ)) (reading : Result Request Refusal)
-    (end : End) (old new : Out) : Type 0 where
-  pub told : Reply
-  pub at : ℕ
-  pub moment : IfSome moments (λ ms. at ≡ first_moment ms)
-  pub turn : (told ≡ (turn s at reading).0) ⊎ (told ≡ reply.NoMemory)
-  pub printed : Printed (end_of_reply told) (line_of told) end old new
-
--- a front of the one reply to a reading, at the next moment, stands on the output, or one of that
--- there was no memory
-abbrev pub RepliedFront : Result Request Refusal → State → World → World → Type 0
-RepliedFront reading from before after =
-    IfSome before.moments (λ moments.
-    WritesFront before.written after.written (line_of (turn from (first_moment moments) reading).0))
-    ⊎ WritesFront before.written after.written (line_of reply.NoMemory)
-
--- How a question ends: its reply, that of the turn from the state that the file opened to, was
--- printed, with status 0 where it isn't refused; or that there was no memory, or nothing, since
--- there was none; or the output failed, and a front of the reply stands there. The disk doesn't
--- fail once the journal is open.
-abbrev pub AskEnds : Result Request Refusal → End → State → World → World → Type 0
-AskEnds reading the_end.Done from before after =
-    Replied reading false from before after × IsFlushed after
-AskEnds reading the_end.Usage from before after = ⊥
-AskEnds reading the_end.Memory from before after =
+-- How a question ends: what is due at the clock's next moment was printed, with status 0 where it
+-- doesn't refuse; or that there was no memory, or nothing, since there was none; or the output
+-- failed, and a front of it stands there. The disk doesn't fail once the journal is open.
+abbrev pub AskEnds : (ℕ → Due → Type 0) → End → World → World → Type 0
+AskEnds IsDue the_end.Done before after = Replied IsDue false before after × IsFlushed after
+AskEnds IsDue the_end.Usage before after = ⊥
+AskEnds IsDue the_end.Memory before after =
     ((after.written ≡ append_known before.written (line_of reply.NoMemory)) × IsFlushed after)
     ⊎ SameOutput before after
-AskEnds reading the_end.Disk from before after = ⊥
-AskEnds reading the_end.Input from before after = ⊥
-AskEnds reading the_end.Output from before after =
-    Rose before.writes after.writes × RepliedFront reading from before after
+AskEnds IsDue the_end.Disk before after = ⊥
+AskEnds IsDue the_end.Input before after = ⊥
+AskEnds IsDue the_end.Output before after =
+    Rose before.writes after.writes × RepliedFront IsDue before after
     × (after.flushed ≡ before.flushed)
-AskEnds reading (the_end.Damaged at) from before after = ⊥
-AskEnds reading the_end.Listener from before after = ⊥
-AskEnds reading the_end.TooMuch from before after = ⊥
-AskEnds reading the_end.Exists from before after = ⊥
-AskEnds reading the_end.Refused from before after =
-    Replied reading true from before after × IsFlushed after
+AskEnds IsDue (the_end.Damaged at) before after = ⊥
+AskEnds IsDue the_end.Listener before after = ⊥
+AskEnds IsDue the_end.TooMuch before after = ⊥
+AskEnds IsDue the_end.Exists before after = ⊥
+AskEnds IsDue the_end.Refused before after = Replied IsDue true before after × IsFlushed after
 
--- what is read was asked from the state that the file opened to; the clock was looked at once, and
+-- what is due was asked from the state that the file opened to; the clock was looked at once, and
 -- the disk only read
-pub record DidAsk (d : Seen) (reading : Result Request Refusal) (end : End) (before after : World)
+pub record DidAsk (d : Seen) (IsDue : State → ℕ → Due → Type 0) (end : End) (before after : World)
     (from : State) : Type 0 where
-  pub ends : AskEnds reading end from before after
+  pub ends : AskEnds (IsDue from) end before after
   pub input : SameInput before after
   pub clock : LookedOnce before after
   pub net : SameNet before after
@@ -312,7 +276,9 @@ Did d (task.Serve port connections) end before after =
     OverJournal d (DidServe d port connections end before after) end before after
 Did d task.Check end before after = OverJournal d (DidCheck d end before after) end before after
 Did d (task.Ask question) end before after =
-    OverJournal d (DidAsk d (asked_by question) end before after) end before after
+    OverJournal d (DidAsk d (AnswersTo (asked_by question)) end before after) end before after
+Did d (task.Report asked) end before after =
+    OverJournal d (DidAsk d (ReportsAt asked) end before after) end before after
 Did d (task.Load job) end before after =
     OverJournal d (DidLoad d job end before after) end before after
 Did d (task.Sample seed size) end before after = DidSample d seed size end before after

@@ -1,4 +1,5 @@
 pub mod Crash
+pub mod Due
 pub mod Ends
 pub mod Once
 pub mod Questions

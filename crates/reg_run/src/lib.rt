@@ -6,6 +6,7 @@ mod load;
 mod perform;
 mod program;
 mod question;
+mod report;
 mod sample;
 mod serve;
 mod status;

@@ -9,7 +9,8 @@ ghost use Rattle.reg_keep.specs.JournalWords.{disk_of};
 ghost use Rattle.reg_service.specs.Opening.{opens, at_last, FrontsReopen};
 ghost use Rattle.reg_session.specs.Replies.{line_of};
 ghost use Rattle.reg_run.specs.Crash.{seen};
-ghost use Rattle.reg_run.specs.Ends.{Did, DidInit, OpenCaused, Asked, end_of_stop, end_of_open};
+ghost use Rattle.reg_run.specs.Due.{ToldOnce, AnswersTo};
+ghost use Rattle.reg_run.specs.Ends.{Did, DidInit, OpenCaused, end_of_stop, end_of_open};
 ghost use Rattle.reg_run.specs.Once.{Printed, Put, end_of_reply, is_constant};
 ghost use Rattle.reg_run.specs.Questions.{asked_by};
 ghost use Rattle.reg_run.specs.Status.{check_line};
@@ -18,6 +19,7 @@ ghost use Rattle.reg_run.specs.World.{out_of};
 
 use crate::load::load_over;
 use crate::question::asked_by;
+use crate::report::report_over;
 use crate::sample::print_sample;
 use crate::serve::serve_over;
 use crate::status::End;
@@ -196,7 +198,7 @@ fn end_of_reply(reply: &Reply) -> End
 }
 
 /// Prints a line, after which a run ends so.
-fn print_line<K: Sink>(out: &mut K, line: &[u8], end: End) -> End
+pub(crate) fn print_line<K: Sink>(out: &mut K, line: &[u8], end: End) -> End
     ensures { Put end line.now result (out_of ⟦<K as Sink>⟧ out.old) (out_of ⟦<K as Sink>⟧ out.new) }
 {
     match print(out, line) {
@@ -243,8 +245,8 @@ fn ask<J: Keeper, K: Sink, C: Clock>(
     out: &mut K,
     clock: &mut C,
 ) -> (End, J)
-    ensures asked { Asked service.state (C.moments clock.old) (asked_by question.now) result.0
-        (out_of ⟦<K as Sink>⟧ out.old) (out_of ⟦<K as Sink>⟧ out.new) }
+    ensures asked { ToldOnce (AnswersTo (asked_by question.now) service.state)
+        (C.moments clock.old) result.0 (out_of ⟦<K as Sink>⟧ out.old) (out_of ⟦<K as Sink>⟧ out.new) }
     ensures same { result.1 ≡ service.keeper }
     ensures clock { C.moments clock.new ≡ option_map later_moments (C.moments clock.old) }
 {
@@ -311,6 +313,7 @@ pub fn perform<S: Source, K: Sink, D: Disk, C: Clock, L: Listener>(
         }
         Task::Check => check_over(alloc, out, disk),
         Task::Ask(question) => ask_over(alloc, question, out, disk, clock),
+        Task::Report(asked) => report_over(alloc, asked, out, disk, clock),
         Task::Load { job } => load_over(alloc, job, input, out, disk, clock),
         Task::Sample { seed, size } => (print_sample(alloc, *seed, *size, out), disk),
     }

@@ -98,6 +98,11 @@ abbrev pub Follows : {K : Type 0} → State → ℕ → Result Request Refusal �
 Follows s m reading (told, next.Go after) = Turns s m reading told after.state
 Follows s m reading (told, next.Stop why keeper) = told ≡ last_reply why
 
+-- the clock moved to a moment, and nothing was asked; or there was no memory to
+abbrev pub MovesTo : {K : Type 0} → State → ℕ → Next K → Type 0
+MovesTo s m (next.Go after) = after.state ≡ at_moment s m
+MovesTo s m (next.Stop why keeper) = why ≡ cause.Memory
+
 -- the reply to a load, by that to its command
 abbrev pub counted : LoadCounts → Reply → Reply
 counted counts (reply.Number n id) = reply.Loaded n counts

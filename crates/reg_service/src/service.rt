@@ -16,7 +16,7 @@ ghost use Rattle.reg_service.specs.Opening.{payloads_of, judged, FrontsReopen, I
 ghost use Rattle.reg_service.specs.Kept.{KeepsNext, KeptOn, IsAcknowledged, IsLoaded, LeavesKeeper};
 ghost use Rattle.reg_service.specs.Kept.{keeper_of};
 ghost use Rattle.reg_service.specs.Turn.{turn, requested, HasForm, IsQuery, Carries, Follows};
-ghost use Rattle.reg_service.specs.Turn.{GoesOn, counted, load_ordered, loaded, ordered};
+ghost use Rattle.reg_service.specs.Turn.{GoesOn, MovesTo, counted, load_ordered, loaded, ordered};
 
 use crate::ids::made_id;
 use crate::opening::replay;
@@ -408,6 +408,22 @@ impl<K: Keeper> Service<K> {
         }
     }
 
+    /// Moves the clock to the later of this moment and the clock, and asks nothing. It stops where
+    /// there was no memory to. The keeper stays as it was.
+    pub fn at(self, alloc: Global, at: Moment) -> Next<K>
+        ensures moved { MovesTo self.state at result }
+        ensures kept { KeepsNext ⟦<K as Keeper>⟧ self.state.history self.state.history self.keeper
+            result }
+        ensures same { LeavesKeeper self.keeper result }
+    {
+        let Service { machine, keeper } = self;
+        let now = machine.clock().later_of(at);
+        match advance(alloc, machine, now) {
+            Ok(machine) => Next::Go(Service { machine, keeper }),
+            Err(_) => Next::Stop(Cause::Memory, keeper),
+        }
+    }
+
     /// Takes a line that was refused in reading: the clock moves, and the refusal is the reply. The
     /// keeper stays as it was.
     pub fn refuse(self, alloc: Global, at: Moment, refusal: Refusal) -> (Reply, Next<K>)
@@ -417,16 +433,11 @@ impl<K: Keeper> Service<K> {
             result.1 }
         ensures same { LeavesKeeper self.keeper result.1 }
     {
-        let Service { machine, keeper } = self;
-        let now = machine.clock().later_of(at);
-        match advance(alloc, machine, now) {
-            Ok(machine) => (
-                Reply::Refused(refusal),
-                Next::Go(Service { machine, keeper }),
-            ),
-            Err(_) => {
+        match self.at(alloc, at) {
+            Next::Go(service) => (Reply::Refused(refusal), Next::Go(service)),
+            Next::Stop(why, keeper) => {
                 drop(refusal);
-                (Reply::NoMemory, Next::Stop(Cause::Memory, keeper))
+                (Reply::NoMemory, Next::Stop(why, keeper))
             }
         }
     }

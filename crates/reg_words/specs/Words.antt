@@ -10,6 +10,7 @@ use Rattle.clap.specs.Simple.{on_top}
 use Rattle.clap.specs.declared.builder.action.ArgAction.TheVariants.{Set}
 use Rattle.reg_words.specs.Numbers.{connections_in, port_in, seed_in, size_in}
 use Rattle.reg_words.specs.declared.task.Question.TheVariants as question
+use Rattle.reg_words.specs.declared.task.Report.TheVariants as report
 use Rattle.reg_words.specs.declared.task.Task.{Task}
 use Rattle.reg_words.specs.declared.task.Task.TheVariants as task
 
@@ -53,6 +54,25 @@ load = with_word (codes "job") (bare (codes "load"))
 abbrev pub sample : App
 sample = with_word (codes "size") (with_word (codes "seed") (bare (codes "sample")))
 
+-- `permit SUBJECT RESOURCE ACTION`
+abbrev pub permit : App
+permit =
+    with_word (codes "action") (with_word (codes "resource")
+    (with_word (codes "subject") (bare (codes "permit"))))
+
+-- `permitted RESOURCE ACTION`
+abbrev pub permitted : App
+permitted =
+    with_word (codes "action") (with_word (codes "resource") (bare (codes "permitted")))
+
+-- `attested GROUP [--at T]`
+abbrev pub attested : App
+attested = with_option (codes "at") (with_word (codes "group") (bare (codes "attested")))
+
+-- `attestation GROUP`
+abbrev pub attestation : App
+attestation = with_word (codes "group") (bare (codes "attestation"))
+
 -- what `members` asks, by what it found
 abbrev pub members_in : List Row → Option Task
 members_in rows =
@@ -94,6 +114,33 @@ serve_in rows =
     option_and_then (λ port. serve_of port (first_of (codes "connections") rows))
     (first_of (codes "port") rows)
 
+-- what `permit` asks, by what it found
+abbrev pub permit_in : List Row → Option Task
+permit_in rows =
+    option_and_then (λ subject.
+    option_and_then (λ resource.
+    option_map (λ action. task.Report (report.Permit subject resource action))
+    (first_of (codes "action") rows)) (first_of (codes "resource") rows))
+    (first_of (codes "subject") rows)
+
+-- what `permitted` asks
+abbrev pub permitted_in : List Row → Option Task
+permitted_in rows =
+    option_and_then (λ resource.
+    option_map (λ action. task.Report (report.Permitted resource action))
+    (first_of (codes "action") rows)) (first_of (codes "resource") rows)
+
+-- what `attested` asks
+abbrev pub attested_in : List Row → Option Task
+attested_in rows =
+    option_map (λ group. task.Report (report.Attested group (first_of (codes "at") rows)))
+    (first_of (codes "group") rows)
+
+-- what `attestation` asks
+abbrev pub attestation_in : List Row → Option Task
+attestation_in rows =
+    option_map (λ group. task.Report (report.Attestation group)) (first_of (codes "group") rows)
+
 abbrev pub is_none : Kinds → Bool
 is_none [] = true
 is_none (k ∷ ks) = false
@@ -118,7 +165,13 @@ task_by word words =
     else (if bytes_eq word (codes "history") then read_by history history_in words
     else (if bytes_eq word (codes "load") then read_by load load_in words
     else (if bytes_eq word (codes "sample") then read_by sample sample_in words
-    else None)))))))
+    else (if bytes_eq word (codes "permit") then read_by permit permit_in words
+    else (if bytes_eq word (codes "permitted") then read_by permitted permitted_in words
+    else (if bytes_eq word (codes "attested") then read_by attested attested_in words
+    else (if bytes_eq word (codes "attestation") then read_by attestation attestation_in words
+    else (if bytes_eq word (codes "reminders")
+    then read_bare (codes "reminders") (task.Report report.Reminders) words
+    else None))))))))))))
 
 -- what the words ask for
 abbrev pub task_of : List Text → Option Task

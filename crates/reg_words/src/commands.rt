@@ -3,7 +3,7 @@ ghost use Rattle.std.specs.Prelude.{◌≡◌, ◌≢◌, [], true, IfOk, MatchO
 ghost use Rattle.clap.specs.Words.{app_of, fault_of, first_of, found_of, is_simple_and_free};
 ghost use Rattle.clap.specs.Words.{matches_of, rows_of};
 ghost use Rattle.reg_words.specs.Words.{bare, with_word, with_option, members, history, serve};
-ghost use Rattle.reg_words.specs.Words.{load, sample};
+ghost use Rattle.reg_words.specs.Words.{load, sample, permit, permitted, attested, attestation};
 
 use clap::error::ErrorKind;
 use clap::{Arg, ArgAction, ArgMatches, Command};
@@ -82,6 +82,42 @@ pub fn sample<'a>(alloc: Global) -> Result<Command<'a>, AllocError>
     let command = bare(alloc, "sample");
     let command = with_word(alloc, command, "seed")?;
     with_word(alloc, command, "size")
+}
+
+/// `permit SUBJECT RESOURCE ACTION`
+pub fn permit<'a>(alloc: Global) -> Result<Command<'a>, AllocError>
+    ensures { IfOk result (λ c. app_of c ≡ permit) }
+{
+    let command = bare(alloc, "permit");
+    let command = with_word(alloc, command, "subject")?;
+    let command = with_word(alloc, command, "resource")?;
+    with_word(alloc, command, "action")
+}
+
+/// `permitted RESOURCE ACTION`
+pub fn permitted<'a>(alloc: Global) -> Result<Command<'a>, AllocError>
+    ensures { IfOk result (λ c. app_of c ≡ permitted) }
+{
+    let command = bare(alloc, "permitted");
+    let command = with_word(alloc, command, "resource")?;
+    with_word(alloc, command, "action")
+}
+
+/// `attested GROUP [--at T]`
+pub fn attested<'a>(alloc: Global) -> Result<Command<'a>, AllocError>
+    ensures { IfOk result (λ c. app_of c ≡ attested) }
+{
+    let command = bare(alloc, "attested");
+    let command = with_word(alloc, command, "group")?;
+    with_option(alloc, command, "at")
+}
+
+/// `attestation GROUP`
+pub fn attestation<'a>(alloc: Global) -> Result<Command<'a>, AllocError>
+    ensures { IfOk result (λ c. app_of c ≡ attestation) }
+{
+    let command = bare(alloc, "attestation");
+    with_word(alloc, command, "group")
 }
 
 /// What a command finds in the words, of which the first is its own. None where it doesn't take

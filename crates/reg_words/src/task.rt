@@ -54,6 +54,34 @@ pub enum Question {
     History { name: Text },
 }
 
+/// What a report is about, in the words of its caller: whether its texts are names and moments
+/// isn't asked yet.
+#[derive(Drop)]
+pub enum Report {
+    /// Whether a person may act so on a resource.
+    Permit {
+        subject: Text,
+        resource: Text,
+        action: Text,
+    },
+    /// Who may act so on a resource.
+    Permitted {
+        resource: Text,
+        action: Text,
+    },
+    /// The attestation of a group, now or at a moment.
+    Attested {
+        group: Text,
+        at: Option<Text>,
+    },
+    /// The attestation of a group from the beginning on.
+    Attestation {
+        group: Text,
+    },
+    /// The groups whose attestation asks for something.
+    Reminders,
+}
+
 /// What the words ask for.
 #[derive(Drop)]
 pub enum Task {
@@ -67,6 +95,8 @@ pub enum Task {
     Check,
     /// Answer one question.
     Ask(Question),
+    /// Make one report.
+    Report(Report),
     /// Run a job over a table, which is the input. Whether the job's text is a name isn't asked
     /// yet.
     Load { job: Text },

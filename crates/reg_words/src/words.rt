@@ -1,13 +1,18 @@
 // From the words to what they ask for.
 ghost use Rattle.std.specs.Prelude.{◌≡◌, IfOk, map, string_bytes};
 ghost use Rattle.clap.specs.Words.{found_of, rows_of};
+ghost use Rattle.reg_words.specs.Words.{attestation, attestation_in, attested, attested_in};
 ghost use Rattle.reg_words.specs.Words.{history, history_in, load, load_in, members, members_in};
+ghost use Rattle.reg_words.specs.Words.{permit, permit_in, permitted, permitted_in};
 ghost use Rattle.reg_words.specs.Words.{read_bare, read_by, sample, sample_in, sample_of, serve};
 ghost use Rattle.reg_words.specs.Words.{serve_in, serve_of, task_by, task_of};
 
-use crate::commands::{bare, found, history, load, members, sample, serve, value};
+use crate::commands::{
+    attestation, attested, bare, found, history, load, members, permit, permitted, sample, serve,
+    value,
+};
 use crate::numbers::{connections_in, port_in, seed_in, size_in};
-use crate::task::{Question, Task};
+use crate::task::{Question, Report, Task};
 use clap::ArgMatches;
 use reg_base::Text;
 use std::alloc::{AllocError, Global};
@@ -103,6 +108,60 @@ fn serve_in(alloc: Global, matches: &ArgMatches) -> Result<Option<Task>, AllocEr
     Ok(serve_of(&port, &connections))
 }
 
+/// What `permit` asks, by what it found.
+fn permit_in(alloc: Global, matches: &ArgMatches) -> Result<Option<Task>, AllocError>
+    ensures { IfOk result (λ asked. asked ≡ permit_in (rows_of (found_of matches.now))) }
+{
+    let Some(subject) = value(alloc, matches, "subject")? else {
+        return Ok(None);
+    };
+    let Some(resource) = value(alloc, matches, "resource")? else {
+        return Ok(None);
+    };
+    let Some(action) = value(alloc, matches, "action")? else {
+        return Ok(None);
+    };
+    Ok(Some(Task::Report(Report::Permit {
+        subject,
+        resource,
+        action,
+    })))
+}
+
+/// What `permitted` asks.
+fn permitted_in(alloc: Global, matches: &ArgMatches) -> Result<Option<Task>, AllocError>
+    ensures { IfOk result (λ asked. asked ≡ permitted_in (rows_of (found_of matches.now))) }
+{
+    let Some(resource) = value(alloc, matches, "resource")? else {
+        return Ok(None);
+    };
+    let Some(action) = value(alloc, matches, "action")? else {
+        return Ok(None);
+    };
+    Ok(Some(Task::Report(Report::Permitted { resource, action })))
+}
+
+/// What `attested` asks.
+fn attested_in(alloc: Global, matches: &ArgMatches) -> Result<Option<Task>, AllocError>
+    ensures { IfOk result (λ asked. asked ≡ attested_in (rows_of (found_of matches.now))) }
+{
+    let Some(group) = value(alloc, matches, "group")? else {
+        return Ok(None);
+    };
+    let at = value(alloc, matches, "at")?;
+    Ok(Some(Task::Report(Report::Attested { group, at })))
+}
+
+/// What `attestation` asks.
+fn attestation_in(alloc: Global, matches: &ArgMatches) -> Result<Option<Task>, AllocError>
+    ensures { IfOk result (λ asked. asked ≡ attestation_in (rows_of (found_of matches.now))) }
+{
+    let Some(group) = value(alloc, matches, "group")? else {
+        return Ok(None);
+    };
+    Ok(Some(Task::Report(Report::Attestation { group })))
+}
+
 /// Reads the words of `members NAME [--at T]`.
 fn read_members(alloc: Global, words: &[String]) -> Result<Option<Task>, AllocError>
     ensures { IfOk result (λ asked. asked
@@ -160,6 +219,54 @@ fn read_serve(alloc: Global, words: &[String]) -> Result<Option<Task>, AllocErro
     }
 }
 
+/// Reads the words of `permit SUBJECT RESOURCE ACTION`.
+fn read_permit(alloc: Global, words: &[String]) -> Result<Option<Task>, AllocError>
+    ensures { IfOk result (λ asked. asked
+        ≡ read_by permit permit_in (map string_bytes words.now)) }
+{
+    let command = permit(alloc)?;
+    match found(command, words)? {
+        Some(matches) => permit_in(alloc, &matches),
+        None => Ok(None),
+    }
+}
+
+/// Reads the words of `permitted RESOURCE ACTION`.
+fn read_permitted(alloc: Global, words: &[String]) -> Result<Option<Task>, AllocError>
+    ensures { IfOk result (λ asked. asked
+        ≡ read_by permitted permitted_in (map string_bytes words.now)) }
+{
+    let command = permitted(alloc)?;
+    match found(command, words)? {
+        Some(matches) => permitted_in(alloc, &matches),
+        None => Ok(None),
+    }
+}
+
+/// Reads the words of `attested GROUP [--at T]`.
+fn read_attested(alloc: Global, words: &[String]) -> Result<Option<Task>, AllocError>
+    ensures { IfOk result (λ asked. asked
+        ≡ read_by attested attested_in (map string_bytes words.now)) }
+{
+    let command = attested(alloc)?;
+    match found(command, words)? {
+        Some(matches) => attested_in(alloc, &matches),
+        None => Ok(None),
+    }
+}
+
+/// Reads the words of `attestation GROUP`.
+fn read_attestation(alloc: Global, words: &[String]) -> Result<Option<Task>, AllocError>
+    ensures { IfOk result (λ asked. asked
+        ≡ read_by attestation attestation_in (map string_bytes words.now)) }
+{
+    let command = attestation(alloc)?;
+    match found(command, words)? {
+        Some(matches) => attestation_in(alloc, &matches),
+        None => Ok(None),
+    }
+}
+
 /// Reads the words of the command of this name.
 fn task_by(alloc: Global, word: &str, words: &[String]) -> Result<Option<Task>, AllocError>
     ensures { IfOk result (λ asked. asked ≡ task_by word.now (map string_bytes words.now)) }
@@ -173,6 +280,11 @@ fn task_by(alloc: Global, word: &str, words: &[String]) -> Result<Option<Task>, 
         "history" => read_history(alloc, words),
         "load" => read_load(alloc, words),
         "sample" => read_sample(alloc, words),
+        "permit" => read_permit(alloc, words),
+        "permitted" => read_permitted(alloc, words),
+        "attested" => read_attested(alloc, words),
+        "attestation" => read_attestation(alloc, words),
+        "reminders" => read_bare(alloc, "reminders", Task::Report(Report::Reminders), words),
         _ => Ok(None),
     }
 }

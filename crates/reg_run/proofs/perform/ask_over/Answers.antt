@@ -1,6 +1,5 @@
 use Rattle.std.proofs.Common.{refl, sym, inl, inr, append-nil, []}
 use Rattle.reg_keep.specs.JournalWords.{disk_of}
-use Rattle.reg_run.proofs.Asking.{question_asks}
 use Rattle.reg_run.proofs.Crashing.{untouched_same, survives_kept, survives_none, stops_whole, no_shorter}
 use Rattle.reg_run.proofs.Ending.{asked_ends}
 use Rattle.reg_run.proofs.Opened.{image_opens}
@@ -27,7 +26,7 @@ returns-in-Ok-clause-did g c w =
       from,
       c.in-Ok.ensures.opens,
       record {
-        ends = asked_ends _ c.ask-end.result.0 _ _ from (question_asks c.args.question.now) c.ask-end.ensures.asked;
+        ends = asked_ends _ c.ask-end.result.0 _ _ c.ask-end.ensures.asked;
         input = (refl, refl);
         clock = c.ask-end.ensures.clock;
         net = refl;

@@ -1,17 +1,30 @@
-use Rattle.std.proofs.Common.{sym, ap}
+use Rattle.std.proofs.Common.{ap, sym, inl, inr}
 use Rattle.reg_machine.specs.History.{State}
-use Rattle.reg_service.proofs.Keeping.{kept_at, stopped_at, served_later}
+use Rattle.reg_terms.specs.declared.reply.Reply.TheVariants as reply
+use Rattle.reg_service.specs.Turn.{last_reply}
 use Rattle.reg_service.proofs.service.Service.refuse.Goals as goal
 
--- the clock alone moved
-pub returns-in-Ok-clause-kept : goal.returns-in-Ok-clause-kept
-returns-in-Ok-clause-kept g c =
-    kept_at g.K.Keeper c.self.inside.machine c.self.inside.keeper _ _ _ c.self.invariant (g.met.K.Keeper.stop_now c.self.inside.keeper) (g.met.K.Keeper.stop_only_now c.self.inside.keeper) (cc) (cc) (sym (ap (λ (t : State). t.history) c.in-Ok.ensures))
+-- the clock alone moved, and the refusal is the reply
+pub returns-in-Go-clause-turn : goal.returns-in-Go-clause-turn
+returns-in-Go-clause-turn g c = inl (ap (λ (s : State). (reply.Refused c.args.refusal, s)) (rw c.in-Go.is at c.at.ensures.moved))
 
-pub returns-in-Err-clause-kept : goal.returns-in-Err-clause-kept
-returns-in-Err-clause-kept g c =
-    stopped_at g.K.Keeper c.self.inside.machine c.self.inside.keeper _ _ c.self.invariant (g.met.K.Keeper.stop_now c.self.inside.keeper) (g.met.K.Keeper.stop_only_now c.self.inside.keeper) (cc) (cc)
+pub returns-in-Go-clause-history : goal.returns-in-Go-clause-history
+returns-in-Go-clause-history g c =
+    let moved = rw c.in-Go.is at c.at.ensures.moved in
+    (ap (λ (s : State). s.history) moved, inr (ap (λ (s : State). s.clock) moved))
 
--- and so the service goes on at the later moment
-pub invariant_of-result : goal.invariant_of-result
-invariant_of-result g c = served_later c.self.inside.machine c.in-Ok.machine _ _ _ c.self.invariant (rw c.clock.ensures at c.later_of-now.ensures.no_earlier) c.in-Ok.ensures
+pub returns-in-Go-clause-kept : goal.returns-in-Go-clause-kept
+returns-in-Go-clause-kept g c = rw c.in-Go.is at c.at.ensures.kept
+
+pub returns-in-Go-clause-same : goal.returns-in-Go-clause-same
+returns-in-Go-clause-same g c = rw c.in-Go.is at c.at.ensures.same
+
+-- or there was no memory to
+pub returns-in-Stop-clause-turn : goal.returns-in-Stop-clause-turn
+returns-in-Stop-clause-turn g c = sym (ap last_reply (rw c.in-Stop.is at c.at.ensures.moved))
+
+pub returns-in-Stop-clause-kept : goal.returns-in-Stop-clause-kept
+returns-in-Stop-clause-kept g c = rw c.in-Stop.is at c.at.ensures.kept
+
+pub returns-in-Stop-clause-same : goal.returns-in-Stop-clause-same
+returns-in-Stop-clause-same g c = rw c.in-Stop.is at c.at.ensures.same

@@ -1,0 +1,4 @@
+pub mod Moments
+pub mod One
+pub mod Printing
+pub mod Standing

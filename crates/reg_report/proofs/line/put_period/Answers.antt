@@ -1,0 +1,8 @@
+use Rattle.std.proofs.Common.{append_assoc}
+use Rattle.reg_report.proofs.line.put_period.Goals as goal
+
+-- the tokens one behind the other
+pub returns-clause-ok : goal.returns-clause-ok
+returns-clause-ok c =
+    let chained = rw (c.in_ok-string.ensures.ok, c.word.ensures, c.in_ok-key-2.ensures.ok, c.in_ok-put_moment.ensures.ok, c.in_ok-key.ensures.ok, c.in_ok-begin_object.ensures.ok) at c.end_object.ensures.ok in
+    simp append_assoc at chained

@@ -1,0 +1,13 @@
+//! Reports: what a word of the program that asks once is told by a machine, as a line of JSON or,
+//! of reminders, as a line for each.
+#![tactic(auto)]
+
+mod asked;
+mod attestation;
+mod laws;
+mod line;
+mod permission;
+mod reporting;
+
+pub use laws::law_one_report;
+pub use reporting::report;
