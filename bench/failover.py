@@ -2,25 +2,37 @@
 """A registry that fails over between two machines, its journal on GlusterFS with a brick on each of three, as
 docs/SCALING.md sets them up. Each machine is a set of namespaces of this one (machines.py). On two of them a registry
 is started again and again: one has the journal locked, the other ends with status 4 until the lock is free. A client
-outside adds persons without a pause, each over a connection of its own, by turns to both machines, as a front end does;
-a machine that refuses is left out for ten seconds. Where a command wasn't answered the client asks whether it was kept,
-before it sends it again. Meanwhile machines are harmed at random: the power; the network, cut and joined again, at any
-moment or in a quiet one; a registry, a mount or a brick killed; a registry ended so that the other one takes over at
-once; the third machine's power. After each harm, and at last, every acknowledged command has to be in the journal,
-once, at the number that it was acknowledged with.
+outside adds persons without a pause, each over a connection of its own, by turns to both machines; one that refuses is
+left out for ten seconds, and where both are, both are tried anew. Where a command wasn't answered the client asks
+whether it was kept, before it sends it again. Meanwhile machines are harmed at random: the power; the network, cut and
+joined again, at any moment, in a quiet one, or as an append is to be written; a registry, a mount or a brick killed; a
+registry ended so that the other one takes over at once; the third machine's power. After each harm, and at last, every
+acknowledged command has to be in the journal, once, at the number that it was acknowledged with.
 
-Before that come two controls. Without `client.strict-locks` a machine that was cut off in a quiet moment, and comes
-back, writes beside the one that took over: that has to lose acknowledged commands, and where it loses none, the harms
-show little, and the status is 1. (It was shown with a program that didn't look at the journal's end before each
-append, as the registry does since: with that it may lose nothing. PROGRAM names an older one.) With what GlusterFS
-remembers by default, a machine that takes over at once may open a journal that is too short: that loses commands in
-some runs, so it is told and doesn't count.
+A run that loses nothing shows little where nothing could have been lost. So a control comes first, without
+`client.strict-locks`, and where it loses no acknowledged command the status is 1. There a machine has looked at the
+journal's end, as the registry does before each append, and sleeps before it writes: it is cut off, another takes over,
+it comes back, and writes. strace holds the write back; the program is the same as in the harms. `--control NAME` tries
+one control alone, up to `--harms` times, with status 1 where nothing was lost:
 
-    bench/failover.py [--harms N] [--control N] [--minutes N] [--arbiter] [--seed N] [--kinds KIND,..]
+    asleep   without strict locks, a machine sleeps between its look and its write
+    quiet    without strict locks, a machine is cut off in a quiet moment, and has a command to append as it comes back.
+             A program from before the look loses commands; today's refuses that append, which is counted
+    caches   with what GlusterFS remembers by default, a machine that takes over at once may open a journal that is too
+             short. That loses commands in some runs only
+
+    bench/failover.py [--harms N] [--minutes N] [--arbiter] [--seed N] [--kinds KIND,..] [--program FILE]
+    bench/failover.py --control NAME [--harms N] [--minutes N] [--arbiter] [--program FILE]
 
 It needs root, /dev/fuse, and what it names where it lacks (Debian's packages); it installs nothing. What it began and
-made is gone at its end, however it ends. Build the program first (./quickstart.sh), or name it by PROGRAM. A harm takes
-20 to 30 seconds."""
+made is gone at its end, however it ends. Build the program first (./quickstart.sh), or name one by `--program`. A harm
+takes 10 to 20 seconds.
+
+The program from before the look, built unproved in some six minutes:
+
+    git worktree add /tmp/before-look eb7fa29~1
+    /tmp/before-look/bench/unproved.sh /tmp/registry-before-look
+    bench/failover.py --control quiet --program /tmp/registry-before-look"""
 import argparse
 import http.client
 import json
@@ -36,21 +48,25 @@ import sys
 import tempfile
 import threading
 import time
+from dataclasses import dataclass
 from typing import Callable, Iterator, Optional
 
 from machines import JOURNAL, MOUNT, PORT, Cluster, Machine, lacking
-from serving import CODES, PROGRAM, SYSTEM, needs_program
+from serving import CODES, PROGRAM, SYSTEM
 
 # what a front end does with a machine that refuses, and how long it waits
 LEFT_OUT = 10.0
 CONNECTING, ANSWERING = 1.0, 60.0
 # a machine that is silent for five seconds as it should answer is gone
 ALIVE = ((socket.TCP_KEEPIDLE, 2), (socket.TCP_KEEPINTVL, 1), (socket.TCP_KEEPCNT, 3), (socket.TCP_USER_TIMEOUT, 5000))
-END_REGISTRY = "pkill -9 -x " + os.path.basename(PROGRAM)[:15]
 # a harm after which nothing is acknowledged for so long is a standstill
 STANDSTILL = 600.0
 SIGNALS = (signal.SIGINT, signal.SIGTERM, signal.SIGHUP)
 MENDING = 300.0
+# harms of the control that comes before the harms
+TRIES = 10
+# what a registry says as it ends since another wrote where it was to append
+REFUSED = "file too large"
 
 
 class Client(threading.Thread):
@@ -63,6 +79,7 @@ class Client(threading.Thread):
         self.turn, self.serving = 0, 0
         self.going, self.free = True, threading.Event()
         self.free.set()
+        self.is_resting = False
         # the number that each person was acknowledged with; None where only a question told that it was kept
         self.kept: dict[int, Optional[int]] = {}
         self.asked_for, self.tried = 0, [0, 0]
@@ -145,7 +162,9 @@ class Client(threading.Thread):
         self.cluster.switch.enter()
         n = 0
         while self.going:
+            self.is_resting = True
             self.free.wait()
+            self.is_resting = False
             n += 1
             self.add(n)
 
@@ -197,18 +216,32 @@ class Count:
             self.acknowledged, self.acknowledged - len(self.lost), len(self.lost), len(self.doubled), len(self.moved))
 
 
+@dataclass
+class Setting:
+    """What is set up: strict locks or not, free of caches or not, an arbiter or a third brick; and the program."""
+    is_strict: bool
+    is_fresh: bool
+    has_arbiter: bool
+    program: str
+
+    @property
+    def name(self) -> str:
+        """What the system calls the program."""
+        return os.path.basename(self.program)[:15]
+
+
 class Field:
     """The cluster with its registries and its client."""
 
-    def __init__(self, place: str, is_strict: bool, is_fresh: bool, has_arbiter: bool):
-        self.place = place
-        self.cluster = Cluster(place, is_strict, is_fresh, has_arbiter)
+    def __init__(self, place: str, setting: Setting):
+        self.place, self.setting = place, setting
+        self.cluster = Cluster(place, setting.is_strict, setting.is_fresh, setting.has_arbiter)
         self.client = Client(self.cluster)
 
     def begin(self) -> None:
         self.cluster.begin()
         first = self.cluster.hosts[0]
-        told = first.run("%s %s init && echo begun" % (PROGRAM, JOURNAL))
+        told = first.run("%s %s init && echo begun" % (self.setting.program, JOURNAL))
         if "begun" not in told:
             raise OSError("the journal wasn't begun: " + told)
         for host in self.cluster.hosts:
@@ -219,10 +252,11 @@ class Field:
     def serve(self, host: Machine) -> None:
         """Serves again and again, and mounts where the mount was shut out; not while there is a file `hold`."""
         host.start("""while :; do
-            timeout 20 stat %s > /dev/null 2>&1 || { umount -l %s; %s; }
-            [ -e %s/hold ] || { mountpoint -q %s && %s %s serve %d; }
+            timeout 20 stat {journal} > /dev/null 2>&1 || {{ umount -l {mount}; {mounting}; }}
+            [ -e {place}/hold ] || {{ mountpoint -q {mount} && {program} {journal} serve {port} 2>> {place}/notes; }}
             sleep 0.5
-        done""" % (JOURNAL, MOUNT, self.cluster.mount(host), host.place, MOUNT, PROGRAM, JOURNAL, PORT))
+        done""".format(journal=JOURNAL, mount=MOUNT, mounting=self.cluster.mount(host), place=host.place,
+                       program=self.setting.program, port=PORT))
 
     def host(self) -> Machine:
         """The machine that answered last."""
@@ -243,22 +277,34 @@ class Field:
                 raise Standstill
             time.sleep(0.1)
 
-    def mend(self) -> bool:
+    def rest(self) -> None:
+        """Waits until no command is under way; none begins until the client is freed."""
+        self.client.free.clear()
+        time.sleep(0.1)
+        self.awaits(lambda: self.client.is_resting, STANDSTILL)
+
+    def mend(self, was_away: bool) -> bool:
         """Waits until each brick has all. An open file brings nothing to a brick that was away, so the registries are
         started again meanwhile."""
         until = time.time() + MENDING
         while time.time() < until:
-            time.sleep(2)
-            self.restart()
+            if was_away:
+                time.sleep(2)
+                for host in self.cluster.hosts:
+                    self.end_registry(host)
             for _ in range(3):
                 time.sleep(1)
                 if self.cluster.is_whole():
                     return True
+            was_away = True
         return False
 
-    def restart(self) -> None:
-        for host in self.cluster.hosts:
-            host.run(END_REGISTRY)
+    def end_registry(self, host: Machine) -> None:
+        host.run("pkill -9 -x " + self.setting.name)
+
+    def refused(self) -> int:
+        """How many registries ended since another wrote where they were to append."""
+        return sum(times_in(os.path.join(host.place, "notes"), REFUSED) for host in self.cluster.hosts)
 
     def count(self) -> Count:
         """Compares what was acknowledged until now with a copy of the journal."""
@@ -304,8 +350,7 @@ def moment(field: Field, host: Machine) -> None:
 def quiet(field: Field, host: Machine) -> None:
     """Nothing is under way as the network is cut, so nothing tells the registry that it lost its lock but the first
     command after it came back."""
-    field.client.free.clear()
-    time.sleep(0.5)
+    field.rest()
     host.network(False)
     field.client.free.set()
     field.goes_on()
@@ -315,8 +360,37 @@ def quiet(field: Field, host: Machine) -> None:
     field.goes_on()
 
 
+def asleep(field: Field, host: Machine) -> None:
+    """The machine sleeps as it has looked at the journal's end and not yet written. It is cut off, another takes over,
+    it comes back, and then it writes. strace holds the first write of the next append back until it is killed."""
+    trace = os.path.join(host.place, "trace")
+    field.rest()
+    host.start("rm -f {0}; exec strace -qq -o {0} -e trace=pwrite64 -e inject=pwrite64:delay_enter=3600s:when=1 "
+               "-p $(pgrep -x {1})".format(trace, field.setting.name))
+    is_held = "grep -q 'TracerPid:.*[1-9]' /proc/$(pgrep -x %s)/status && echo yes" % field.setting.name
+    field.awaits(lambda: "yes" in host.run(is_held), STANDSTILL)
+    field.client.free.set()
+    field.awaits(lambda: times_in(trace, "pwrite64(") > 0, STANDSTILL)
+    host.network(False)
+    field.goes_on()
+    host.network(True)
+    field.awaits(lambda: "yes" in host.run("timeout 20 stat %s > /dev/null && echo yes" % JOURNAL), STANDSTILL)
+    time.sleep(random.random() * 3)
+    host.run("pkill -9 -x strace")
+    time.sleep(2)
+    field.goes_on()
+
+
+def times_in(path: str, text: str) -> int:
+    """How often a file has a text; not at all where there is none."""
+    if not os.path.exists(path):
+        return 0
+    with open(path, encoding="utf-8", errors="replace") as file:
+        return file.read().count(text)
+
+
 def program(field: Field, host: Machine) -> None:
-    host.run(END_REGISTRY)
+    field.end_registry(host)
     field.goes_on()
 
 
@@ -324,7 +398,7 @@ def handover(field: Field, host: Machine) -> None:
     """The registry ends and isn't begun there until the other one serves, as in an upgrade."""
     hold = os.path.join(host.place, "hold")
     open(hold, "w").close()
-    host.run(END_REGISTRY)
+    field.end_registry(host)
     field.goes_on()
     os.remove(hold)
 
@@ -351,10 +425,15 @@ def third(field: Field, _host: Machine) -> None:
 
 
 KINDS: dict[str, Callable[[Field, Machine], None]] = {
-    "power": power, "cut": cut, "moment": moment, "quiet": quiet, "program": program, "handover": handover,
-    "mount": mount, "brick": brick, "third": third}
+    "power": power, "cut": cut, "moment": moment, "quiet": quiet, "asleep": asleep, "program": program,
+    "handover": handover, "mount": mount, "brick": brick, "third": third}
 # after these another machine has to take over
-TAKEOVERS = ("power", "cut", "quiet", "handover")
+TAKEOVERS = ("power", "cut", "quiet", "asleep", "handover")
+# in these no brick is away
+NEAR = ("program", "handover", "mount")
+# of each control: what differs from the recipe, and its harm
+CONTROLS = {"asleep": ("no strict locks", "asleep"), "quiet": ("no strict locks", "quiet"),
+            "caches": ("with caches", "handover")}
 
 
 def harms(field: Field, kinds: list[str], count: int, seconds: float) -> Iterator[tuple[str, float, bool, Count]]:
@@ -370,19 +449,19 @@ def harms(field: Field, kinds: list[str], count: int, seconds: float) -> Iterato
         before = len(field.client.gaps)
         KINDS[kind](field, host)
         pause = max(field.client.gaps[before:], default=0.0)
-        is_whole = field.mend()
+        is_whole = field.mend(kind not in NEAR)
         field.goes_on()
         counted = field.count()
         print("longest pause %4.1f s; %s%s" % (pause, counted.told(), "" if is_whole else "; NOT HEALED"), flush=True)
         yield kind, pause, is_whole, counted
 
 
-def with_field(is_strict: bool, is_fresh: bool, has_arbiter: bool, work: Callable[[Field], bool]) -> bool:
+def with_field(setting: Setting, work: Callable[[Field], bool]) -> bool:
     """Sets all up, works with it, and takes all away again."""
     place = tempfile.mkdtemp(prefix="failover-")
     field: Optional[Field] = None
     try:
-        field = Field(place, is_strict, is_fresh, has_arbiter)
+        field = Field(place, setting)
         field.begin()
         return work(field)
     except Standstill:
@@ -402,16 +481,18 @@ def hear_signals() -> None:
         signal.signal(number, lambda *_: sys.exit(1))
 
 
-def loses(field: Field, title: str, kind: str, asked: argparse.Namespace) -> bool:
+def loses(field: Field, name: str, tries: int, seconds: float) -> bool:
     """A control: whether acknowledged commands are lost, in one of its harms."""
+    title, kind = CONTROLS[name]
     try:
-        for *_, counted in harms(field, [kind], asked.control, asked.minutes * 60):
+        for *_, counted in harms(field, [kind], tries, seconds):
             if counted.lost:
                 break
     except Standstill:
         pass
     counted = field.count()
-    print("control, %s: %s: %s" % (title, counted.told(), "it loses" if counted.lost else "NOTHING LOST"), flush=True)
+    print("control, %s, %s: %s, %d appends refused by the look: %s" % (
+        title, kind, counted.told(), field.refused(), "it loses" if counted.lost else "NOTHING LOST"), flush=True)
     return bool(counted.lost)
 
 
@@ -433,37 +514,51 @@ def keeps(field: Field, asked: argparse.Namespace) -> bool:
     field.client.join()
     counted = field.count()
     look = os.path.join(field.place, "look")
-    checked = subprocess.run([PROGRAM, look, "check"], stdout=subprocess.PIPE, text=True)
+    checked = subprocess.run([field.setting.program, look, "check"], stdout=subprocess.PIPE, text=True)
     numbers = [number for number in field.client.kept.values() if number is not None]
     print("\n".join(told_pauses(pauses)))
-    print("%d harms in %d minutes: %s; %d of them known by asking; `check`: %s" % (
+    print("%d harms in %d minutes: %s; %d of them known by asking; %d appends refused by the look; `check`: %s" % (
         sum(map(len, pauses.values())), (time.time() - began) / 60, counted.told(), field.client.asked_for,
-        checked.stdout.strip()))
+        field.refused(), checked.stdout.strip()))
     return counted.is_right() and is_whole and checked.returncode == 0 and len(numbers) == len(set(numbers))
 
 
-def main() -> int:
+def lacks(asked: argparse.Namespace) -> list[str]:
+    kinds = [CONTROLS[asked.control or "asleep"][1], *([] if asked.control else asked.kinds.split(","))]
+    return lacking() + (["strace"] if "asleep" in kinds and not shutil.which("strace") else [])
+
+
+def hear() -> argparse.Namespace:
     words = argparse.ArgumentParser(description=__doc__.split("\n\n", maxsplit=1)[0])
     words.add_argument("--harms", type=int, default=20)
-    words.add_argument("--control", type=int, default=30, help="harms of each control, until something is lost")
+    words.add_argument("--control", choices=CONTROLS, help="this control alone")
+    words.add_argument("--program", default=PROGRAM, help="in place of PROGRAM")
     words.add_argument("--minutes", type=float, default=600, help="no harm begins after so many")
     words.add_argument("--arbiter", action="store_true", help="an arbiter in place of the third brick")
     words.add_argument("--seed", type=int, default=1)
     words.add_argument("--kinds", default=",".join(KINDS), help="of the harms, one of which is drawn each time")
-    asked = words.parse_args()
-    needs_program()
-    if lacking():
-        sys.exit("failover.py needs " + ", ".join(lacking()))
+    return words.parse_args()
+
+
+def main() -> int:
+    asked = hear()
+    asked.program = os.path.abspath(asked.program)
+    if not os.access(asked.program, os.X_OK):
+        sys.exit("no %s: run ./quickstart.sh first" % asked.program)
     if set(asked.kinds.split(",")) - set(KINDS):
         sys.exit("the kinds are " + ",".join(KINDS))
+    if lacks(asked):
+        sys.exit("failover.py needs " + ", ".join(lacks(asked)))
     hear_signals()
     random.seed(asked.seed)
-    is_right = True
+    name, seconds = asked.control or "asleep", asked.minutes * 60
+    tries = asked.harms if asked.control else TRIES
+    lossy = Setting(name == "caches", name != "caches", asked.arbiter, asked.program)
+    is_lossy = with_field(lossy, lambda field: loses(field, name, tries, seconds))
     if asked.control:
-        is_right = with_field(False, True, asked.arbiter, lambda field: loses(field, "no strict locks", "quiet", asked))
-        with_field(True, False, asked.arbiter, lambda field: loses(field, "with caches", "handover", asked))
-    is_kept = not asked.harms or with_field(True, True, asked.arbiter, lambda field: keeps(field, asked))
-    return 0 if is_right and is_kept else 1
+        return 0 if is_lossy else 1
+    recipe = Setting(True, True, asked.arbiter, asked.program)
+    return 0 if with_field(recipe, lambda field: keeps(field, asked)) and is_lossy else 1
 
 
 if __name__ == "__main__":

@@ -142,7 +142,7 @@ def ask(port, sent):
 
 # The journal's format (docs/JOURNAL.md), written apart from the program.
 CODES = {"folder.add": 1, "subject.add": 5, "group.add": 6, "member.add": 10, "member.remove": 11, "grant.add": 15,
-         "inherit.add": 17, "consumer.add": 36}
+         "inherit.add": 17, "job.list": 33, "consumer.add": 36}
 WORDS = {"folder": 1, "group": 2, "definition": 3, "ONE": 1, "SUB": 2, "UPDATE": 2, "READ": 3, "VIEW": 4, "create": 10}
 
 
@@ -166,6 +166,10 @@ def word(value):
     return bytes([WORDS[value]])
 
 
+def number(value):
+    return struct.pack("<Q", value)
+
+
 # the fields of each op that the journals here hold, and how each is written
 FIELDS = {
     "folder.add": [("folder", text), ("display", text)],
@@ -175,6 +179,7 @@ FIELDS = {
     "member.remove": [("group", text), ("member", text)],
     "grant.add": [("object", text), ("privilege", word), ("holder", text)],
     "inherit.add": [("folder", text), ("kind", word), ("scope", word), ("privilege", word), ("holder", text)],
+    "job.list": [("job", text), ("folder", text), ("source", text), ("min_size", number), ("max_percent", number)],
     "consumer.add": [("consumer", text)],
 }
 
