@@ -17,5 +17,6 @@ pub mod Rising
 pub mod Ending
 pub mod Valued
 pub mod Numbered
+pub mod Owning
 pub mod Assigning
 pub mod Changes

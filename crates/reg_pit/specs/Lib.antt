@@ -4,6 +4,7 @@ pub mod Members
 pub mod Wheel
 pub mod Grants
 pub mod Lives
+pub mod Owned
 pub mod Changes
 pub mod Assigns
 pub mod Past

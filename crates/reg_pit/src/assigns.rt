@@ -1,16 +1,18 @@
 // What was assigned to each owner.
 ghost use Rattle.std.specs.Prelude.{◌≡◌, ◌==◌, ◌||◌, ℕ, [], filter, nat_le, IfOk, OnOk};
-ghost use Rattle.std.specs.Prelude.{if◌then◌else◌};
+ghost use Rattle.std.specs.Prelude.{map, if◌then◌else◌};
 ghost use Rattle.reg_terms.specs.Kinds.{same_object};
 ghost use Rattle.reg_terms.specs.declared.rows.AssignRow.{AssignRow};
 ghost use Rattle.reg_pit.specs.Assigns.{IsNew, last_of, AreAssignedBy, Noted, assigned_at};
 ghost use Rattle.reg_pit.specs.Changes.{among, assign_changes, changes_on};
-ghost use Rattle.reg_pit.specs.Lives.{values_at, row_of};
+ghost use Rattle.reg_pit.specs.Lives.{on_owner, values_at, row_of};
 ghost use Rattle.reg_pit.specs.Members.{Lists};
+ghost use Rattle.reg_pit.specs.Owned.{with_values};
 ghost use Rattle.reg_pit.specs.declared.assign_change.AssignChange.TheVariants as change;
 
 use crate::AssignChange;
 use crate::assign_lives::{AssignLife, AssignLives};
+use crate::assigned_past::{AssignedPast, PastAssign};
 use crate::moments::{add, add_ends, listed};
 use crate::value_lives::ValueLives;
 use reg_base::{AssignId, AttrId, Moment};
@@ -212,6 +214,29 @@ impl Assigns {
             }
         }
         Ok(rows)
+    }
+
+    /// The life of an assignment with those of its values.
+    fn past_of(&self, life: &AssignLife) -> Result<PastAssign, AllocError>
+        ensures { IfOk result (λ past. past ≡ with_values self.now.1 life.now) }
+    {
+        let values = self.values.lives_in(life.id)?;
+        Ok(PastAssign {
+            life: *life,
+            values,
+        })
+    }
+
+    /// What was ever assigned to an owner. Costs as much.
+    pub(crate) fn past_on(&self, owner: Object) -> Result<AssignedPast, AllocError>
+        ensures { IfOk result (λ past. past
+            ≡ map (with_values self.now.1) (on_owner owner self.now.0)) }
+    {
+        let mut assigns = Vec::new(self.alloc);
+        for life in self.lives.on(owner) {
+            assigns.push(self.past_of(life)?)?;
+        }
+        Ok(AssignedPast { assigns })
     }
 
     /// Adds the moments at which an assignment or a value in it came or went.

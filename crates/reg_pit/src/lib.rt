@@ -3,6 +3,7 @@
 
 mod assign_change;
 mod assign_lives;
+mod assigned_past;
 mod assigns;
 mod ends;
 mod grants;
@@ -14,5 +15,6 @@ mod value_lives;
 mod wheel;
 
 pub use assign_change::AssignChange;
+pub use assigned_past::AssignedPast;
 pub use intervals::Intervals;
 pub use past::Past;

@@ -14,8 +14,10 @@ ghost use Rattle.reg_pit.specs.Spans.{AreSpansOf, spans_until};
 ghost use Rattle.reg_pit.specs.Members.{Lists};
 ghost use Rattle.reg_pit.specs.Grants.{has_grant, held_cmp};
 ghost use Rattle.reg_pit.specs.Assigns.{changed, last_after};
+ghost use Rattle.reg_pit.specs.Owned.{rows_at};
 
 use crate::AssignChange;
+use crate::assigned_past::AssignedPast;
 use crate::assigns::Assigns;
 use crate::grants::Grants;
 use crate::memberships::Memberships;
@@ -308,6 +310,16 @@ impl Past {
             ≡ filter (λ (row : AssignRow). same_object row.owner owner) (assigns_at self.now t)) }
     {
         self.assigns.on(owner, t)
+    }
+
+    /// All that was ever assigned to an owner, to be asked at many moments. Costs as much. The only
+    /// error is out of memory.
+    pub fn assigned_past(&self, owner: Object) -> Result<AssignedPast, AllocError>
+        ensures { IfOk result (λ past. (t : ℕ) → rows_at past t
+            ≡ filter (λ (row : AssignRow). same_object row.owner owner) (assigns_at self.now t)) }
+    {
+        let past = self.assigns.past_on(owner)?;
+        Ok(past)
     }
 
     /// The moments at which what is assigned to an owner may have changed, in order, the first of

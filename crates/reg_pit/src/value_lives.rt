@@ -6,6 +6,7 @@ ghost use Rattle.reg_terms.specs.Values.{without_first};
 ghost use Rattle.reg_terms.specs.declared.kinds.AttrValue.{AttrValue};
 ghost use Rattle.reg_pit.specs.Changes.{among, value_changes};
 ghost use Rattle.reg_pit.specs.Lives.{stood, values_at, AreValuesBy, first_open, closed_in};
+ghost use Rattle.reg_pit.specs.Owned.{values_stood};
 ghost use Rattle.reg_pit.specs.declared.value_lives.ValueLife.{ValueLife};
 
 use crate::moments::add_ends;
@@ -55,6 +56,37 @@ impl ValueLife {
             Some(until) => { self.from.micros() <= t.micros() && t.micros() < until.micros() }
         }
     }
+
+    /// An equal life.
+    fn copy(&self, alloc: Global) -> Result<ValueLife, AllocError>
+        ensures { IfOk result (λ life. life ≡ self.now) }
+    {
+        let value = self.value.copy(alloc)?;
+        Ok(ValueLife {
+            assign: self.assign,
+            number: self.number,
+            value,
+            from: self.from,
+            until: self.until,
+        })
+    }
+}
+
+/// Of some lives the values that stood at a moment, in order.
+pub(crate) fn values_stood(
+    alloc: Global,
+    lives: &[ValueLife],
+    t: Moment,
+) -> Result<AttrValues, AllocError>
+    ensures { IfOk result (λ values. values ≡ values_stood t lives.now) }
+{
+    let mut values = AttrValues::new(alloc);
+    for life in lives {
+        if life.stood(t) {
+            values.push(life.value.copy(alloc)?)?;
+        }
+    }
+    Ok(values)
 }
 
 /// A value that stands: its assignment and its number.
@@ -223,6 +255,19 @@ impl ValueLives {
             }
         }
         Ok(values)
+    }
+
+    /// The lives of the values of an assignment, in the order in which they were added. Costs what
+    /// was ever added to it.
+    pub(crate) fn lives_in(&self, assign: AssignId) -> Result<Vec<ValueLife>, AllocError>
+        ensures { IfOk result (λ lives. lives.items
+            ≡ filter (λ (life : ValueLife). life.assign == assign) self.now) }
+    {
+        let mut lives = Vec::new(self.alloc);
+        for life in self.values.rows_of(assign) {
+            lives.push(life.copy(self.alloc)?)?;
+        }
+        Ok(lives)
     }
 
     /// Adds the moments at which a value came into an assignment, or went. Costs what was ever
