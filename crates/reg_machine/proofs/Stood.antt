@@ -1,4 +1,4 @@
--- At each moment up to the clock an object stands exactly where it lives by the steps.
+-- At each moment up to the clock the facts are sound, and an object stands exactly where it lives by the steps.
 use Rattle.std.proofs.Common.{◌≡◌, ◌≤◌, ◌<◌, ◌==◌, ℕ, List, [], ◌∷◌, ◌++◌, true, false, None, Some, nat_le, nat_lt, map, arith, refl, sym, ◌∙◌, ap, subst, inl, inr}
 use Rattle.std.proofs.lemmas.Bool.{cases_Bool}
 use Rattle.std.proofs.lemmas.Bool.Decides.{nat_tests}
@@ -75,12 +75,18 @@ lived_on t v f g o life w same made h = record {
 stood_on : (history : List Stamped) (t v : ℕ) (o : Object) → AllByRecursion (IsBy t) history → AreStood history t → t ≤ v → due t v (facts history t).rows ≡ None → stands o (facts history v) ≡ lives_at v (life_of o (steps history t))
 stood_on history t v o by h later none = ap (stands o) (none_comes t v history by later none) ∙ ((h.lived o).now ∙ sym (still_lives t v (life_of o (steps history t)) (h.lived o).by later))
 
+sound_on : (history : List Stamped) (t v : ℕ) → AllByRecursion (IsBy t) history → AreStood history t → t ≤ v → due t v (facts history t).rows ≡ None → IsSound (facts history v)
+sound_on history t v by h later none = subst IsSound (sym (none_comes t v history by later none)) (h.sound t (omega arith))
+
 pub stood_later : (history : List Stamped) (t u : ℕ) → AllByRecursion (IsBy t) history → AreStood history t → t ≤ u → due t u (facts history t).rows ≡ None → AreStood history u
 stood_later history t u by h w none =
     let same = steps_none t u history by w none in
     let facts_are = none_comes t u history by w none in
     record {
-      sound = rw facts_are h.sound;
+      sound = λ v x. elim (cases_Bool (nat_le v t)) [
+        | inl y ↦ h.sound v (grind (arith, nat_tests, y))
+        | inr n ↦ sound_on history t v by h (grind (arith, nat_tests, n)) (none_within t u v (facts history t) none x)
+      ];
       lived = λ o. rw (same, facts_are) (lived_on t u (facts history t) (facts history t) o (life_of o (steps history t)) w refl refl (h.lived o));
       stood = λ o v x. rw same (elim (cases_Bool (nat_le v t)) [
         | inl y ↦ h.stood o v (grind (arith, nat_tests, y))
@@ -129,7 +135,17 @@ stood_next history t d by h first sound =
     let life : (o : Object) → life_of o (steps history d) ≡ life_of o (steps history t) = λ o. ap (life_of o) (steps_next t d d history by first) ∙ date_life t d (facts history t) o (steps history t) in
     let lived : (o : Object) → IsLived d (facts history d) o (life_of o (steps history d)) = λ o. rw (are, life o) (lived_on t d (facts history t) (date_passed t d (facts history t)) o (life_of o (steps history t)) (omega (arith, later)) (date_stands t d (facts history t) o) (date_made t d (facts history t) o) (h.lived o)) in
     record {
-      sound = sound;
+      sound = λ v x. elim (cases_Bool (nat_le d v)) [
+        | inl y ↦
+            let same : v ≡ d = grind (arith, nat_tests, y, x) in
+            rw same sound
+        | inr n ↦
+            let less : v < d = grind (arith, nat_tests, n) in
+            elim (cases_Bool (nat_le v t)) [
+              | inl y ↦ h.sound v (grind (arith, nat_tests, y))
+              | inr m ↦ sound_on history t v by h (grind (arith, nat_tests, m)) (none_before t d v (facts history t) first less)
+            ]
+      ];
       lived = lived;
       stood = λ o v x. elim (cases_Bool (nat_le d v)) [
         | inl y ↦
@@ -163,10 +179,17 @@ stood_push history at by command before h hold sound =
     let are : facts more at ≡ acted at by command f = facts_push at by command history before in
     let lost = deltas.ended (live at f) (live at (all_happened es f)) in
     let life : (o : Object) → life_of o (steps more at) ≡ step_life at es o (life_of o (steps history at)) = λ o. ap (life_of o) (steps_push at by command history before) ∙ command_life at by command f o (steps history at) in
-    let after = λ (o : Object). events_lived at es f o (life_of o (steps history at)) h.sound (all_suit at es f hold) (h.lived o) in
+    let after = λ (o : Object). events_lived at es f o (life_of o (steps history at)) (h.sound at (omega arith)) (all_suit at es f hold) (h.lived o) in
     let lived : (o : Object) → IsLived at (facts more at) o (life_of o (steps more at)) = λ o. rw (are, life o) (lived_on at at (all_happened es f) (settle lost at (all_happened es f)) o (step_life at es o (life_of o (steps history at))) (omega arith) (settle_stands lost at (all_happened es f) o) (settle_made lost at (all_happened es f) o) (after o).0) in
     record {
-      sound = sound;
+      sound = λ v x. elim (cases_Bool (nat_le at v)) [
+        | inl y ↦
+            let same : v ≡ at = grind (arith, nat_tests, y, x) in
+            rw same sound
+        | inr n ↦
+            let less : v < at = grind (arith, nat_tests, n) in
+            subst IsSound (sym (facts_earlier history at v by command less)) (h.sound v (omega (arith, less)))
+      ];
       lived = lived;
       stood = λ o v x. elim (cases_Bool (nat_le at v)) [
         | inl y ↦
@@ -199,7 +222,7 @@ first_lived (Subject y) = record { now = refl; new = λ k. refl; by = tt }
 pub stood_start : IsSound the_facts.start → AreStood [] 0
 unfolding facts pass life_of
 stood_start sound = record {
-  sound = sound;
+  sound = λ t w. subst (λ x. IsSound (facts [] x)) (sym (let same : t ≡ 0 = omega (arith, w) in same)) sound;
   lived = λ o. rw no_steps (first_lived o);
   stood = λ o t w. let same : t ≡ 0 = omega (arith, w) in rw (same, no_steps) (first_lived o).now;
 }

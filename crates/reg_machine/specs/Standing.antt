@@ -1,4 +1,5 @@
--- Which objects stand, and that they stand exactly as long as they live by the steps of a history.
+-- Which objects stand, and that they stand exactly as long as they live by the steps of a history,
+-- whose facts are sound at each moment.
 use Rattle.std.specs.Prelude.{◌≡◌, ◌≤◌, ⊤, ℕ, List, Bool, false, Option, None, Some, nat_le}
 use Rattle.reg_terms.specs.declared.command.Stamped.{Stamped}
 use Rattle.reg_terms.specs.declared.kinds.Object.{Object}
@@ -41,9 +42,10 @@ pub record IsLived (at : ℕ) (f : Lists) (o : Object) (life : Option (ℕ × Op
   pub new : was_made f.made o ≡ false → life ≡ None
   pub by : LifeBy at life
 
--- at each moment up to the clock an object stood exactly where it lives by the steps
+-- at each moment up to the clock the facts were sound, and an object stood exactly where it lives
+-- by the steps
 pub record AreStood (history : List Stamped) (clock : ℕ) : Type 0 where
-  pub sound : IsSound (facts history clock)
+  pub sound : (t : ℕ) → t ≤ clock → IsSound (facts history t)
   pub lived : (o : Object) → IsLived clock (facts history clock) o (life_of o (steps history clock))
   pub stood : (o : Object) (t : ℕ) → t ≤ clock
       → stands o (facts history t) ≡ lives_at t (life_of o (steps history clock))

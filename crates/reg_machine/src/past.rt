@@ -19,6 +19,7 @@ ghost use Rattle.reg_facts.specs.Sound.{has_subject, is_named};
 ghost use Rattle.reg_table.specs.Keyed.{in_order};
 ghost use Rattle.reg_log.specs.Places.{place_of};
 ghost use Rattle.reg_pit.specs.Members.{Lists};
+ghost use Rattle.reg_pit.specs.Owned.{rows_at};
 ghost use Rattle.reg_pit.specs.Spans.{ends_after};
 ghost use Rattle.reg_priv.specs.Holders.{holders};
 ghost use Rattle.reg_priv.specs.May.{wheel};
@@ -37,6 +38,7 @@ use reg_effect::Kept;
 use reg_facts::Facts;
 use reg_log::{ChangeLog, Places};
 use reg_names::name_of;
+use reg_pit::AssignedPast;
 use reg_terms::{AssignRow, Holder, Object};
 use std::alloc::{AllocError, Global};
 use std::collections::BTreeSet;
@@ -318,6 +320,17 @@ impl<K: Kept> Machine<K> {
         Ok(rows)
     }
 
+    /// All that was ever assigned to an owner: what was assigned to it at each moment up to the
+    /// clock. Costs what was ever assigned to it. The only error is out of memory.
+    pub fn assigned_past(&self, owner: Object) -> Result<AssignedPast, AllocError>
+        ensures { IfOk result (λ past. (t : ℕ) → t ≤ self.now.clock → rows_at past t
+            ≡ assigns_on owner (facts self.now.history t).assigns) }
+    {
+        let past = self.recorded.audit().past();
+        let assigned = past.assigned_past(owner)?;
+        Ok(assigned)
+    }
+
     /// The moments up to the clock at which what is assigned to an owner may have changed, in
     /// order, the first of them 0: between two of them it stayed. Costs what was ever assigned to
     /// the owner, sorted. The only error is out of memory.
@@ -344,15 +357,17 @@ impl<K: Kept> Machine<K> {
         self.recorded.audit().def_of(attribute)
     }
 
-    /// Who was a member of a group at a moment up to the clock stands; what stood before a moment,
-    /// no command changes from that moment on; and an object stood at a moment up to the clock
-    /// exactly where its life has the moment, and an attribute that stood then was of the
-    /// definition of which it was made. It does nothing.
+    /// Who was a member of a group at a moment up to the clock stands, and the group was made; what
+    /// stood before a moment, no command changes from that moment on; and an object stood at a
+    /// moment up to the clock exactly where its life has the moment, and an attribute that stood
+    /// then was of the definition of which it was made. It does nothing.
     pub fn law_past(&self)
         ensures stays { (before after : List Stamped) (c t : ℕ) → self.now.history ≡ before ++ after
             → AllByRecursion (IsFrom c) after → t < c → facts self.now.history t ≡ facts before t }
         ensures known { (t g s : ℕ) → t ≤ self.now.clock → was_member self.now.history t g s ≡ true
             → has_subject s (now_facts self.now).subjects ≡ true }
+        ensures made { (t g s : ℕ) → t ≤ self.now.clock → was_member self.now.history t g s ≡ true
+            → g ≤ (now_facts self.now).made.groups }
         ensures defined { (t a : ℕ) (row : AttributeRow) → t ≤ self.now.clock
             → attribute_row a (facts self.now.history t).attributes ≡ Some row
             → def_of self.now.history self.now.clock a ≡ Some row.definition }
