@@ -6,6 +6,7 @@ ghost use Rattle.reg_base.specs.declared.entity.Entity.{Entity};
 ghost use Rattle.reg_terms.specs.declared.command.Command.{Command};
 ghost use Rattle.reg_terms.specs.declared.kinds.Member.{Member};
 ghost use Rattle.reg_terms.specs.declared.lists.LoadRow.{LoadRow};
+ghost use Rattle.reg_terms.specs.declared.refusal.Refusal.{Refusal};
 ghost use Rattle.reg_terms.specs.declared.rows.JobRow.{JobRow};
 ghost use Rattle.reg_terms.specs.declared.rows.MemberRow.{MemberRow};
 ghost use Rattle.reg_terms.specs.Rows.{is_row};
@@ -17,10 +18,13 @@ ghost use Rattle.reg_facts.specs.Suiting.{CanEdit};
 ghost use Rattle.reg_load.specs.LoadChecks.{added_rows};
 ghost use Rattle.reg_effect.specs.Order.{has_live_row};
 ghost use Rattle.reg_ops.specs.Forms.{has_form};
+ghost use Rattle.reg_priv.specs.May.{who_of};
+ghost use Rattle.reg_priv.specs.declared.who.Who.{Who};
 ghost use Rattle.reg_machine.specs.Checks as checks;
 ghost use Rattle.reg_current.specs.Circles as circles;
 ghost use Rattle.reg_current.specs.Dates.{due, is_on, pass_steps};
 ghost use Rattle.reg_machine.specs.Formed.{AreFormed};
+ghost use Rattle.reg_machine.specs.Numbers.{NoneLess, is_load, number, tests};
 ghost use Rattle.reg_machine.specs.History.{State, acted, appended, start};
 ghost use Rattle.reg_machine.specs.Refusals.{refusal, first_of};
 ghost use Rattle.reg_current.specs.Holding.{AllHold};
@@ -212,6 +216,17 @@ impl<K: Kept> Machine<K> {
     {
         let _ = &self.stamped;
         reg_rules::law_lost();
+    }
+
+    /// Of all tests of a command that hold, a load's aside, the one that is told has the least
+    /// number: what isn't found or seen, then what is demanded, then all else. It does nothing.
+    pub fn law_order(&self)
+        ensures { (by : Entity) (caller : Who) (command : Command) (r : Refusal)
+            → who_of by (now_facts self.now) ≡ Some caller → is_load command ≡ false
+            → refusal self.now.history self.now.clock by command ≡ Some r
+            → NoneLess (number r) (tests self.now.history self.now.clock by caller command) }
+    {
+        let _ = &self.stamped;
     }
 
     /// Each command of the history that adds a person to a group found the person, at its moment
