@@ -64,6 +64,10 @@ pub record Listed (at : ℕ → List AssignRow) (kind_at : ℕ → StateKind) (e
   pub stays : Stays at end rest
   pub are : AreBefore kind_at (next_of end rest) states
 
+-- the first mark that is left lies before the end
+pub within : (at : ℕ → List AssignRow) (kind_at : ℕ → StateKind) (end m : ℕ) (later : List ℕ) (states : List (ℕ × StateKind)) → Listed at kind_at end (m ∷ later) states → m < end
+within at kind_at end m later states h = h.stays.before.0
+
 -- ---- at first
 
 is_later : (a b : ℕ) → nat_cmp a b ≡ Less → a < b

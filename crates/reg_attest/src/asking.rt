@@ -1,6 +1,7 @@
 // What the assignments to a group say, by the names that their attributes have or had last.
 ghost use Rattle.std.specs.Prelude.{◌≡◌, ◌≤◌, IfOk};
 ghost use Rattle.std.specs.Str.{bytes_eq};
+ghost use Rattle.reg_pit.specs.Owned.{rows_at};
 ghost use Rattle.reg_attest.specs.Assigned.{certified_name, days_name, printed};
 ghost use Rattle.reg_attest.specs.Groups.{attribute_name, assigned};
 ghost use Rattle.reg_attest.specs.Stretches.{held_by};
@@ -11,6 +12,7 @@ use crate::stretch::Stretch;
 use reg_base::{GroupId, Moment, Text};
 use reg_effect::Kept;
 use reg_machine::Machine;
+use reg_pit::AssignedPast;
 use reg_terms::{AssignRow, Object};
 use std::alloc::{AllocError, Global};
 
@@ -95,5 +97,21 @@ pub(crate) fn held_from<K: Kept>(
         (assigned machine.now.history group from)) }
 {
     let rows = machine.assigns_at(Object::Group(group), from)?;
+    held_by(alloc, machine, rows, from)
+}
+
+/// What holds of a group from a moment on by all that was ever assigned to it. Costs a look at each
+/// of its assignments, and what stood at the moment.
+pub(crate) fn held_in<K: Kept>(
+    alloc: Global,
+    machine: &Machine<K>,
+    past: &AssignedPast,
+    from: Moment,
+) -> Result<Stretch, AllocError>
+    ensures { IfOk result (λ s. s
+        ≡ held_by from (attribute_name machine.now.history machine.now.clock)
+        (rows_at past.now from)) }
+{
+    let rows = past.at(alloc, from)?;
     held_by(alloc, machine, rows, from)
 }

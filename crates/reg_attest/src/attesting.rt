@@ -3,7 +3,7 @@ ghost use Rattle.std.specs.Prelude.{◌≡◌, ◌≤◌, IfOk};
 ghost use Rattle.reg_attest.specs.Groups.{attested_at};
 ghost use Rattle.reg_attest.specs.States.{AreStates, next_of};
 
-use crate::asking::held_from;
+use crate::asking::{held_from, held_in};
 use crate::listing::note_stretch;
 use crate::state::{State, StateKind, state_by};
 use reg_base::{GroupId, Moment};
@@ -41,8 +41,9 @@ fn next_of(moments: &[Moment], end: u64) -> u64
 
 /// The list of the states of a group's attestation at all moments up to the clock: each with the
 /// moment from which on it is so, in order, the first from 0 on, no two in a row alike. Between two
-/// changes of the group's assignments it tells when a certification grows due and overdue. Costs,
-/// for each such change, what was ever assigned to the group. The only error is out of memory.
+/// changes of the group's assignments it tells when a certification grows due and overdue. Costs
+/// what was ever assigned to the group, sorted; for each such change a look at each assignment and
+/// at each value ever in those that stood, and what stood. The only error is out of memory.
 pub fn states<K: Kept>(
     alloc: Global,
     machine: &Machine<K>,
@@ -53,11 +54,12 @@ pub fn states<K: Kept>(
         machine.now.clock list.items) }
 {
     let marks = machine.assign_moments(Object::Group(group))?;
+    let past = machine.assigned_past(Object::Group(group))?;
     let end = machine.clock().micros() + 1;
     let mut states = Vec::new(alloc);
     let mut rest = marks.as_slice();
     while let Some((from, later)) = rest.split_first() {
-        let stretch = held_from(alloc, machine, group, *from)?;
+        let stretch = held_in(alloc, machine, &past, *from)?;
         note_stretch(alloc, &mut states, &stretch, next_of(later, end))?;
         rest = later;
     }

@@ -4,7 +4,7 @@ use Rattle.reg_attest.proofs.Passing.{Listed}
 use Rattle.reg_attest.proofs.attesting.states.Given as goal
 
 abbrev pub invariant-loop-from : goal.invariant-loop-from
-invariant-loop-from g l = Listed (assigned l.machine.history l.group) (λ t. (attested_at l.machine.history l.machine.clock l.group t).kind) l.end l.rest l.states.items
+invariant-loop-from g l = Listed (assigned l.machine.history l.fn.group) (λ t. (attested_at l.machine.history l.machine.clock l.fn.group t).kind) l.end l.rest l.states.items
 
 abbrev pub decreases-loop-from : goal.decreases-loop-from
 decreases-loop-from g l = length l.rest
