@@ -1,3 +1,4 @@
 pub mod Fronts
 pub mod Later
 pub mod Sets
+pub mod Skipped

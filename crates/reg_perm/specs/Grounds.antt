@@ -1,9 +1,10 @@
 -- What a person is allowed: the grounds, of which the first decides.
-use Rattle.std.specs.Prelude.{◌≡◌, ◌==◌, ℕ, List, [], ◌∷◌, Bool, false, filter, map}
+use Rattle.std.specs.Prelude.{◌≡◌, ◌==◌, ℕ, List, [], ◌∷◌, Bool, true, false, filter, map}
 use Rattle.std.specs.Prelude.{Option, None, Some}
 use Rattle.std.specs.List.{list_any}
 use Rattle.std.specs.List.Sorted.{IsStrictlySortedBy}
 use Rattle.std.specs.Ordering.{nat_cmp}
+use Rattle.reg_graph.specs.Edges.{among}
 use Rattle.reg_effect.specs.Member.{member}
 use Rattle.reg_effect.specs.declared.live.Live.{Live}
 use Rattle.reg_facts.specs.Attributes.{definition_of}
@@ -51,6 +52,10 @@ allows (Some g) = g.allow
 -- whether a person is allowed an action on a resource: the first of the grounds decides
 abbrev pub is_allowed : Live → Lists → ℕ → List ℕ → ℕ → Bool
 is_allowed L f r a s = allows (first_of (grounds L f s r a))
+
+-- each member of some groups is among the persons of whom it is decided
+pub record AreDecided (L : Live) (groups decided : List ℕ) : Type 0 where
+  pub each : (g q : ℕ) → among g groups ≡ true → member L g q ≡ true → among q decided ≡ true
 
 -- the numbers that pass a test, ascending
 pub record AreThose (test : ℕ → Bool) (numbers : List ℕ) : Type 0 where

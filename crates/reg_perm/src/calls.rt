@@ -65,7 +65,7 @@ pub fn permit<K: Kept>(
 /// The persons who are allowed an action on a resource, by id: exactly those for whom the first of
 /// the grounds allows it. The action must be one (`is_action`), and the attribute a resource
 /// (`is_resource`). The only error is out of memory. It goes once through all assignments, and
-/// costs the members of the groups that are spoken of, and not all persons.
+/// costs the members of each group that is spoken of, once, and not all persons.
 pub fn allowed<K: Kept>(
     alloc: Global,
     machine: &Machine<K>,

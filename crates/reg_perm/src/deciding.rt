@@ -2,15 +2,16 @@
 ghost use Rattle.std.specs.Prelude.{◌≡◌, ◌==◌, ◌&&◌, ◌||◌, not, ℕ, IfOk, OnOk};
 ghost use Rattle.std.specs.List.Sorted.{IsStrictlySortedBy};
 ghost use Rattle.std.specs.Ordering.{nat_cmp};
+ghost use Rattle.reg_effect.specs.Member.{member};
 ghost use Rattle.reg_graph.specs.Edges.{among};
-ghost use Rattle.reg_perm.specs.Grounds.{AreThose, allows, first_of, ground_of, grounds};
-ghost use Rattle.reg_perm.specs.Grounds.{grounds_among, is_allowed, is_resource};
+ghost use Rattle.reg_perm.specs.Grounds.{AreDecided, AreThose, allows, first_of, ground_of};
+ghost use Rattle.reg_perm.specs.Grounds.{grounds, grounds_among, is_allowed, is_resource};
 
 use crate::Ground;
 use crate::covering::is_permission;
 use crate::spoken::statements;
 use crate::statement::Statement;
-use reg_base::{AttrId, SubjectId};
+use reg_base::{AttrId, GroupId, SubjectId};
 use reg_effect::Kept;
 use reg_facts::Facts;
 use std::alloc::{AllocError, Global};
@@ -153,8 +154,64 @@ fn decide(
     Ok(())
 }
 
+/// Decides of those members of a group of whom it isn't done.
+fn decide_members<K: Kept>(
+    kept: &K,
+    decided: &mut BTreeSet<SubjectId>,
+    allowed: &mut BTreeSet<SubjectId>,
+    group: GroupId,
+    allow: bool,
+) -> Result<(), AllocError>
+    ensures decided { OnOk result ((q : ℕ) → among q decided.new.keys
+        ≡ (member (K.held kept.now) group q || among q decided.old.keys)) }
+    ensures allowed { OnOk result ((q : ℕ) → among q allowed.new.keys
+        ≡ ((allow && (member (K.held kept.now) group q && not (among q decided.old.keys)))
+        || among q allowed.old.keys)) }
+{
+    let persons = kept.members(group)?;
+    decide(decided, allowed, &persons, allow)
+}
+
+/// Adds a group, and says whether it is new.
+#[tactic(auto, using(crate::proofs::Sets::one_more, crate::proofs::Sets::is_new))]
+fn mark(groups: &mut BTreeSet<GroupId>, group: GroupId) -> Result<bool, AllocError>
+    ensures is_new { IfOk result (λ is_new. is_new ≡ not (among group groups.old.keys)) }
+    ensures added { OnOk result ((h : ℕ) → among h groups.new.keys
+        ≡ ((group == h) || among h groups.old.keys)) }
+{
+    let is_new = groups.insert(group)?;
+    Ok(is_new)
+}
+
+/// Decides of the members of a statement's group, of whom it isn't done. They are asked for once:
+/// of the members of the groups of earlier statements all is decided.
+fn decide_group<K: Kept>(
+    kept: &K,
+    groups: &mut BTreeSet<GroupId>,
+    decided: &mut BTreeSet<SubjectId>,
+    allowed: &mut BTreeSet<SubjectId>,
+    statement: &Statement,
+) -> Result<(), AllocError>
+    requires { AreDecided (K.held kept.now) groups.old.keys decided.old.keys }
+    ensures known { OnOk result (AreDecided (K.held kept.now) groups.new.keys decided.new.keys) }
+    ensures decided { OnOk result ((q : ℕ) → among q decided.new.keys
+        ≡ (member (K.held kept.now) statement.now.source.group q || among q decided.old.keys)) }
+    ensures allowed { OnOk result ((q : ℕ) → among q allowed.new.keys
+        ≡ ((statement.now.saying.allow && (member (K.held kept.now) statement.now.source.group q
+        && not (among q decided.old.keys))) || among q allowed.old.keys)) }
+{
+    let group = statement.source.group;
+    let is_new = mark(groups, group)?;
+    if !is_new {
+        return Ok(());
+    }
+    decide_members(kept, decided, allowed, group, statement.saying.allow)?;
+    Ok(())
+}
+
 /// The persons whom some statements allow: of each the first statement decides that is of a group
-/// that has the person.
+/// that has the person. It costs a logarithm for each statement, and for each group the members
+/// once.
 fn allowed_among<K: Kept>(
     alloc: Global,
     kept: &K,
@@ -163,11 +220,11 @@ fn allowed_among<K: Kept>(
     ensures { IfOk result (λ allowed. (q : ℕ) → among q allowed.keys
         ≡ allows (first_of (grounds_among (K.held kept.now) q statements.now))) }
 {
+    let mut groups = BTreeSet::new(alloc);
     let mut decided = BTreeSet::new(alloc);
     let mut allowed = BTreeSet::new(alloc);
     for statement in statements {
-        let persons = kept.members(statement.source.group)?;
-        decide(&mut decided, &mut allowed, &persons, statement.saying.allow)?;
+        decide_group(kept, &mut groups, &mut decided, &mut allowed, statement)?;
     }
     Ok(allowed)
 }
@@ -184,8 +241,8 @@ fn listed(alloc: Global, persons: &BTreeSet<SubjectId>) -> Result<Vec<SubjectId>
     Ok(found)
 }
 
-/// The persons who are allowed an action on a resource, by id. It costs the members of the groups
-/// that are spoken of, and not all persons.
+/// The persons who are allowed an action on a resource, by id. It costs the members of each group
+/// that is spoken of, once, and not all persons.
 pub(crate) fn allowed<K: Kept>(
     alloc: Global,
     facts: &Facts,
