@@ -8,7 +8,8 @@ use Rattle.reg_prov.specs.declared.past.GroupPast.{GroupPast}
 use Rattle.reg_prov.specs.declared.turn.Turn.{Turn}
 use Rattle.reg_prov.specs.Notes.{OthersStay}
 use Rattle.reg_prov.specs.Pasts.{AreByGroup, want_in}
-use Rattle.reg_prov.specs.Spans.{ByPerson, covers, spans_in, wished}
+use Rattle.reg_pit.specs.Spans.{covers}
+use Rattle.reg_prov.specs.Spans.{ByPerson, spans_in, wished}
 use Rattle.reg_prov.specs.Steps.{change_at, change_in}
 use Rattle.reg_prov.specs.Turns.{change, held, turn_at}
 use Rattle.reg_prov.proofs.Rows.{Row, span, front, front_is, front_least, front_some, first_has, others_behind, behind_ordered}

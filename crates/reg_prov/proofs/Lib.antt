@@ -9,3 +9,12 @@ pub mod Noted
 pub mod Rows
 pub mod Grouped
 pub mod Due
+pub mod OneTurns
+pub mod Placing
+pub mod Numbered
+pub mod Told
+pub mod Gathered
+pub mod Wishes
+pub mod Lines
+pub mod OneBatch
+pub mod Answering

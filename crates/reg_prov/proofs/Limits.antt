@@ -2,7 +2,8 @@
 use Rattle.std.proofs.Common.{◌≡◌, ◌≤◌, ◌<◌, ◌&&◌, ◌||◌, ◌⊎◌, ℕ, List, [], ◌∷◌, ◌++◌, Bool, true, false, Option, Some, None, nat_le, nat_lt, arith, refl, sym, ◌∙◌, ap, inl, inr}
 use Rattle.std.proofs.lemmas.Bool.{cases_lt, le-leb, lt-leb, lt-ltb, le-ltb, or_left, or_right}
 use Rattle.std.specs.List.{list_any}
-use Rattle.reg_prov.specs.Spans.{covers, has_moment, limits, limits_of, wished}
+use Rattle.reg_pit.specs.Spans.{covers, has_moment}
+use Rattle.reg_prov.specs.Spans.{limits, limits_of, wished}
 
 pub any_append : {X : Type 0} (test : X → Bool) (xs ys : List X) → list_any test (xs ++ ys) ≡ (list_any test xs || list_any test ys)
 any_append test [] ys = refl

@@ -11,14 +11,14 @@ use Rattle.reg_prov.proofs.Ending.{start_here, start_less}
 
 -- ---- the greatest boundary up to a number
 
-start_stands : (moments : List ℕ) (n : ℕ) → is_boundary moments (start_of moments n) ≡ true
+pub start_stands : (moments : List ℕ) (n : ℕ) → is_boundary moments (start_of moments n) ≡ true
 start_stands moments zero = let here : start_of moments zero ≡ zero = start_here moments zero refl in subst (λ (k : ℕ). is_boundary moments k ≡ true) (sym here) refl
 start_stands moments (suc n) = elim (cases_Bool (is_boundary moments (suc n))) [
   | inl y ↦ subst (λ (k : ℕ). is_boundary moments k ≡ true) (sym (start_here moments (suc n) y)) y
   | inr f ↦ subst (λ (k : ℕ). is_boundary moments k ≡ true) (sym (start_less moments n f)) (start_stands moments n)
 ]
 
-start_most : (moments : List ℕ) (n : ℕ) → start_of moments n ≤ n
+pub start_most : (moments : List ℕ) (n : ℕ) → start_of moments n ≤ n
 start_most moments zero = let here : start_of moments zero ≡ zero = start_here moments zero refl in omega (arith, here)
 start_most moments (suc n) = elim (cases_Bool (is_boundary moments (suc n))) [
   | inl y ↦ omega (arith, start_here moments (suc n) y)

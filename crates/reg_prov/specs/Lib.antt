@@ -5,3 +5,5 @@ pub mod Spans
 pub mod Steps
 pub mod Notes
 pub mod Pasts
+pub mod Batches
+pub mod Wanted

@@ -1,20 +1,8 @@
 -- Intervals of moments: from a start until just before an end, or without an end.
-use Rattle.std.specs.Prelude.{◌≤◌, ⊤, ℕ, ◌==◌, ◌&&◌, List, [], ◌∷◌, Bool, true, Option, Some, None}
-use Rattle.std.specs.Prelude.{nat_le, nat_lt, if◌then◌else◌}
-use Rattle.std.specs.List.{AllByRecursion, flat_map, list_any}
-
--- whether an end, if there is one, is later than a moment
-abbrev pub ends_after : ℕ → Option ℕ → Bool
-ends_after t None = true
-ends_after t (Some e) = nat_lt t e
-
--- whether an interval has a moment
-abbrev pub has_moment : ℕ → ℕ × Option ℕ → Bool
-has_moment t span = nat_le span.0 t && ends_after t span.1
-
--- whether some interval has a moment
-abbrev pub covers : List (ℕ × Option ℕ) → ℕ → Bool
-covers spans t = list_any (has_moment t) spans
+use Rattle.std.specs.Prelude.{◌≤◌, ⊤, ℕ, ◌==◌, ◌&&◌, List, [], ◌∷◌, Bool, Option, Some, None}
+use Rattle.std.specs.Prelude.{if◌then◌else◌}
+use Rattle.std.specs.List.{AllByRecursion, flat_map}
+use Rattle.reg_pit.specs.Spans.{covers}
 
 -- whether a pair is wanted at a moment: the group was granted, and the person was a member
 abbrev pub wished : List (ℕ × Option ℕ) → List (ℕ × Option ℕ) → ℕ → Bool

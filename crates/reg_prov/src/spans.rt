@@ -1,6 +1,7 @@
 // Intervals of moments, and what becomes of a wish at a boundary.
 ghost use Rattle.std.specs.Prelude.{◌≡◌, IfOk, map};
-ghost use Rattle.reg_prov.specs.Spans.{covers, ends_after, has_moment, wished};
+ghost use Rattle.reg_pit.specs.Spans.{covers, ends_after, has_moment};
+ghost use Rattle.reg_prov.specs.Spans.{wished};
 ghost use Rattle.reg_prov.specs.Steps.{change_in};
 ghost use Rattle.reg_prov.specs.Turns.{change, held};
 
