@@ -1,10 +1,8 @@
 -- What is written of a field is read as that field.
-use Rattle.std.proofs.Common.{◌≡◌, ℕ, ℤ, pos, negsuc, Bool, true, false, List, [], ◌∷◌, map, Option, Some, None, Ok, refl, option_and_then, option_map}
-use Rattle.std.specs.List.{list_all}
+use Rattle.std.proofs.Common.{◌≡◌, ℕ, ℤ, pos, negsuc, Bool, true, false, List, Some, None, Ok, refl}
 use Rattle.std.proofs.lemmas.Bool.{and_parts, false≢true, leb-true}
-use Rattle.serde_json.specs.Data.{Data, array, string}
+use Rattle.serde_json.specs.Data.{Data, array}
 use Rattle.serde_json.specs.Find.{as_i64, get, of_integer}
-use Rattle.serde_json.specs.View.{items_of}
 use Rattle.reg_base.specs.declared.privilege.Privilege.{Privilege}
 use Rattle.reg_base.specs.declared.privilege.Privilege.TheVariants as privilege
 use Rattle.reg_base.proofs.Texts.{text_of_reads}
@@ -29,7 +27,7 @@ use Rattle.reg_json.specs.AdminReplies.{scope_word}
 use Rattle.reg_json.specs.Attributes.{def_kind, def_kind_at, flag_at, owners_at, owners_named, value_at, value_of}
 use Rattle.reg_json.specs.Fields.{composite_kind, display_at, entity_from, extension_from, folder_from, inherit_kind, inherit_kind_at, moment_from, name_from, number_at, object_from, optional_text_at, privilege_at, scope, scope_at, set_op_at, source_from, text_at, text_or_empty}
 use Rattle.reg_json.specs.Ops.{form_at, stands_at}
-use Rattle.reg_json.specs.Replies.{kind_word, strings}
+use Rattle.reg_json.specs.Replies.{kind_word}
 use Rattle.reg_json.specs.Taking.{all_of, items_in, text_in}
 use Rattle.reg_json.proofs.UnderKeys.{all_again, texts_there}
 use Rattle.reg_export.specs.Fields.{def_word, field_data, inherit_word, owner_words, row_data, row_items, value_data}

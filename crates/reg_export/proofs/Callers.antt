@@ -1,5 +1,5 @@
 -- An entity's text names that entity.
-use Rattle.std.proofs.Common.{◌≡◌, ℕ, Bool, true, false, ltb, nat_eq, codes, List, ◌++◌, length, drop, Some, refl, sym, ap, ◌∙◌, arith}
+use Rattle.std.proofs.Common.{◌≡◌, ℕ, true, false, ltb, nat_eq, codes, List, ◌++◌, length, drop, Some, refl, sym, ap, ◌∙◌, arith}
 use Rattle.std.specs.List.{starts_with}
 use Rattle.std.specs.Str.{bytes_eq}
 use Rattle.std.proofs.lemmas.Bool.{false_from_ne_true, false≢true, lt-ltb}

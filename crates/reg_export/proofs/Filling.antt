@@ -1,14 +1,13 @@
 -- What stands under which key of an object that has the fields of an op.
-use Rattle.std.proofs.Common.{◌≡◌, ℕ, ◌≤◌, Bool, true, false, ◌&&◌, not, List, [], ◌∷◌, Option, Some, None, refl, sym, ◌∙◌}
+use Rattle.std.proofs.Common.{◌≡◌, ℕ, Bool, true, false, ◌&&◌, not, List, [], ◌∷◌, Option, Some, None, refl, sym, ◌∙◌}
 use Rattle.std.specs.Prelude.{⊤}
 use Rattle.std.specs.List.{list_all}
 use Rattle.std.specs.Str.{bytes_eq}
 use Rattle.std.proofs.lemmas.Bool.{and_parts, false≢true, or_parts}
-use Rattle.serde_json.specs.Data.{Data, Members, no_members, put}
+use Rattle.serde_json.specs.Data.{Data, Members, no_members}
 use Rattle.serde_json.specs.Find.{get_member}
 use Rattle.serde_json.proofs.Views.{get_member-put, get_member-put_other}
 use Rattle.reg_ops.specs.declared.field.Field.{Field}
-use Rattle.reg_ops.specs.declared.field.FieldKind.{FieldKind}
 use Rattle.reg_export.specs.Fields.{field_data}
 use Rattle.reg_export.specs.Lines.{Keyed, has_key, with_data, with_fields}
 use Rattle.reg_export.proofs.Putting.{AreKnown, differ, is_known, known_put}

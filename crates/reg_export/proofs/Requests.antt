@@ -1,10 +1,10 @@
 -- The members of the request for a command are read as that request.
-use Rattle.std.proofs.Common.{◌≡◌, ℕ, Bool, true, false, ◌&&◌, List, [], ◌∷◌, map, codes, Option, Some, None, Result, Ok, refl, sym, subst, ap, ◌∙◌, inl, inr, ◌⊎◌, option_map}
+use Rattle.std.proofs.Common.{◌≡◌, ℕ, true, false, List, [], ◌∷◌, map, codes, Option, Some, None, Ok, refl, sym, subst, ap, ◌∙◌, inl, inr, ◌⊎◌, option_map}
 use Rattle.std.specs.List.{list_all}
 use Rattle.std.proofs.lemmas.Bool.{and_parts}
 use Rattle.serde_json.specs.Data.{Data, Members, no_members, number, object, put, string, unsigned}
 use Rattle.serde_json.specs.Find.{as_object, get, get_member}
-use Rattle.serde_json.proofs.Views.{get_member-put, get_member-put_other}
+use Rattle.serde_json.proofs.Views.{get_member-put_other}
 use Rattle.reg_terms.specs.declared.command.Command.{Command}
 use Rattle.reg_terms.specs.declared.command.Stamped.{Stamped}
 use Rattle.reg_terms.specs.declared.request.Op.{Op}
@@ -25,9 +25,9 @@ use Rattle.reg_export.specs.Fields.{entity_text, field_data, moment_data}
 use Rattle.reg_export.specs.Lines.{Keyed, front, has_id, has_key, id_data, line_members, request_members, with_data, with_fields}
 use Rattle.reg_export.specs.Telling.{IsTold, request_part, without, without_id}
 use Rattle.reg_export.proofs.Again.{form_again, stand_again}
-use Rattle.reg_export.proofs.Filling.{AllAbsent, AllThere, absent_kept, all_absent, all_there, isnt, kept_data, kept_fields, known_fields}
+use Rattle.reg_export.proofs.Filling.{AllAbsent, AllThere, absent_kept, all_absent, all_there, kept_data, kept_fields, known_fields}
 use Rattle.reg_export.proofs.Putting.{AreKnown, differ, without_put}
-use Rattle.reg_export.proofs.Rows.{IsAsked, KeysFit, asked_row, is_asked, keys_fit}
+use Rattle.reg_export.proofs.Rows.{KeysFit, asked_row, is_asked, keys_fit}
 
 -- what the table of ops says of each command
 abbrev pub TableTakes : Type 0

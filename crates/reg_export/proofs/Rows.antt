@@ -1,5 +1,5 @@
 -- What the rows of the table of ops have: keys that differ from one another and from the line's own, and words that name their ops.
-use Rattle.std.proofs.Common.{◌≡◌, Bool, true, false, List, ◌∷◌, Some, codes, refl}
+use Rattle.std.proofs.Common.{◌≡◌, Bool, true, false, List, Some, codes, refl}
 use Rattle.std.specs.List.{list_all}
 use Rattle.reg_ops.specs.Table.{command_row, field_kinds, kind_named}
 use Rattle.reg_ops.specs.declared.field.FieldKind.{FieldKind}

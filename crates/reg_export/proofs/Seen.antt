@@ -1,5 +1,5 @@
 -- Fields that are seen one behind the other, each under its key.
-use Rattle.std.proofs.Common.{◌≡◌, Bool, true, false, List, [], ◌∷◌, ◌++◌, refl}
+use Rattle.std.proofs.Common.{◌≡◌, true, false, List, [], ◌∷◌, refl}
 use Rattle.std.proofs.lemmas.Bool.{false≢true, true≢false}
 use Rattle.serde_json.specs.Data.{Members}
 use Rattle.reg_ops.specs.Parts.{seen, seen_all}

@@ -1,17 +1,16 @@
 -- A line tells its place, its moment, its caller and its command.
-use Rattle.std.proofs.Common.{◌≡◌, ◌<◌, ◌≤◌, ◌^◌, ℕ, Bool, true, false, ◌&&◌, List, [], ◌∷◌, map, codes, Option, Some, None, Ok, refl, sym, subst, ap, ◌∙◌, ◌⊎◌, inl, inr, arith}
+use Rattle.std.proofs.Common.{◌≡◌, ◌<◌, ◌≤◌, ◌^◌, ℕ, true, false, List, [], ◌∷◌, map, codes, Option, Some, None, Ok, refl, sym, subst, ◌∙◌, ◌⊎◌, arith}
 use Rattle.std.specs.List.{list_all}
 use Rattle.std.proofs.lemmas.Bool.{and_from, and_parts, le-leb, leb-true}
 use Rattle.serde_json.specs.Data.{Data, Members, number, object, put, string, unsigned}
 use Rattle.serde_json.specs.Find.{get, get_member}
 use Rattle.serde_json.proofs.Views.{get_member-put, get_member-put_other}
-use Rattle.reg_base.specs.Entities.{entity_of}
 use Rattle.reg_base.specs.MomentText.{text_of}
 use Rattle.reg_base.specs.declared.entity.Entity.{Entity}
 use Rattle.reg_base.proofs.Texts.{text_of_reads}
 use Rattle.reg_terms.specs.declared.command.Command.{Command}
 use Rattle.reg_terms.specs.declared.command.Stamped.{Stamped}
-use Rattle.reg_ops.specs.Forms.{has_form, is_entity, is_field, is_moment}
+use Rattle.reg_ops.specs.Forms.{is_entity, is_field, is_moment}
 use Rattle.reg_ops.specs.Parts.{field_kind}
 use Rattle.reg_ops.specs.Table.{command_row, fields_of, kind_of, made_command}
 use Rattle.reg_ops.specs.declared.field.Field.{Field}
@@ -19,7 +18,7 @@ use Rattle.reg_ops.specs.declared.field.FieldKind.{FieldKind}
 use Rattle.reg_ops.specs.declared.table.CommandKind.{CommandKind}
 use Rattle.reg_json.specs.Fields.{entity_from, is_within, number_at, text_at}
 use Rattle.reg_export.specs.Fields.{entity_text, field_data, moment_data}
-use Rattle.reg_export.specs.Lines.{Keyed, front, has_id, has_key, id_data, line_members, request_members, with_data, with_fields}
+use Rattle.reg_export.specs.Lines.{Keyed, front, has_id, id_data, line_members, request_members, with_data, with_fields}
 use Rattle.reg_export.specs.Telling.{IsTold, all_told, caller_at, command_worded, line_in, moment_at, told_at}
 use Rattle.reg_export.proofs.Again.{told_again}
 use Rattle.reg_export.proofs.Callers.{entity_again}

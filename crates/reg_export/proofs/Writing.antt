@@ -1,5 +1,5 @@
 -- A line has no floats and doesn't nest deep, so its bytes are its text, and read as its members.
-use Rattle.std.proofs.Common.{◌≡◌, ℕ, ◌≤◌, ℤ, pos, negsuc, true, false, List, [], ◌∷◌, codes, map, Option, Some, None, Ok, IfSome, refl, ap, ◌∙◌, arith, lit≤}
+use Rattle.std.proofs.Common.{◌≡◌, ℕ, ◌≤◌, ℤ, pos, negsuc, false, List, [], ◌∷◌, codes, map, Option, Some, None, Ok, IfSome, refl, ap, ◌∙◌, arith, lit≤}
 use Rattle.std.specs.Str.{IsUtf8}
 use Rattle.std.proofs.lemmas.Str.{is_utf8-from_IsUtf8}
 use Rattle.serde_json.specs.Data.{Data, Members, array, depth, members_depth, number, object, put, string, unsigned}

@@ -1,7 +1,7 @@
 -- A field of a command as JSON data, as a request has it; and the names and rows of a load, which
 -- no request has.
 use Rattle.std.specs.Prelude.{ℕ, Bool, true, false, List, [], ◌∷◌, ◌++◌, map, Option, Some, None}
-use Rattle.std.specs.Prelude.{codes, option_map, if◌then◌else◌}
+use Rattle.std.specs.Prelude.{codes, option_map}
 use Rattle.serde_json.specs.Data.{Data, Items, array, object, member, no_members, number, unsigned}
 use Rattle.serde_json.specs.Data.{boolean, string}
 use Rattle.serde_json.specs.Find.{of_integer}

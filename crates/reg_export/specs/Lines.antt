@@ -1,7 +1,7 @@
 -- The text of an accepted command: compact JSON whose keys ascend by bytes. It has the members of
 -- the request that asks for the command, which tell its op, its caller and its fields; its place in
 -- the history, its moment, and the id of what it made, where that has one.
-use Rattle.std.specs.Prelude.{ℕ, List, [], ◌∷◌, ◌++◌, Bool, true, false, Option, None, Some, codes}
+use Rattle.std.specs.Prelude.{ℕ, List, [], ◌∷◌, Bool, true, false, Option, None, Some, codes}
 use Rattle.std.specs.Prelude.{option_map}
 use Rattle.std.specs.List.{list_any}
 use Rattle.std.specs.Str.{bytes_eq}
@@ -9,7 +9,6 @@ use Rattle.serde_json.specs.Data.{Data, Members, no_members, number, object, put
 use Rattle.serde_json.specs.Written.{compact_text}
 use Rattle.reg_terms.specs.declared.command.Command.{Command}
 use Rattle.reg_terms.specs.declared.command.Stamped.{Stamped}
-use Rattle.reg_ops.specs.Parts.{seen}
 use Rattle.reg_ops.specs.Table.{command_row, fields_of, kind_of}
 use Rattle.reg_ops.specs.declared.field.Field.{Field}
 use Rattle.reg_ops.specs.declared.field.FieldKind.{FieldKind}
