@@ -1,0 +1,33 @@
+// What the lines of commands tell: each law is the clause of a function that does nothing.
+ghost use Rattle.std.specs.Prelude.{◌≡◌, ◌<◌, ◌^◌, ℕ, Option, Ok};
+ghost use Rattle.serde_json.specs.Data.{object};
+ghost use Rattle.reg_terms.specs.declared.command.Stamped.{Stamped};
+ghost use Rattle.reg_terms.specs.declared.request.Op.TheVariants as asked;
+ghost use Rattle.reg_ops.specs.Table.{kind_of};
+ghost use Rattle.reg_ops.specs.declared.table.CommandKind.TheVariants as command;
+ghost use Rattle.reg_json.specs.Reading.{request_in};
+ghost use Rattle.reg_export.specs.Fields.{entity_text};
+ghost use Rattle.reg_export.specs.Lines.{line_members};
+ghost use Rattle.reg_export.specs.Telling.{IsTold, line_in, request_part};
+
+use reg_ops::law_commands;
+
+/// What is left of a line without its place, its moment and the id that was made is read as a
+/// request, which asks for the same command for the same caller. No request asks for the rows of a
+/// load.
+pub fn law_request_reads_back()
+    ensures { (place : ℕ) (made : Option ℕ) (s : Stamped) → IsTold made s
+        → (kind_of s.command ≡ command.Load → ⊥)
+        → request_in (object (request_part made (line_members place made s)))
+        ≡ Ok (record { by = entity_text s.by; op = asked.Command s.command }) }
+{
+    law_commands();
+}
+
+/// A line tells the place, the moment, the caller and the command, of a load with its rows.
+pub fn law_line_reads_back()
+    ensures { (place : ℕ) (made : Option ℕ) (s : Stamped) → place < 2 ^ 64 → IsTold made s
+        → line_in (object (line_members place made s)) ≡ Ok (place, s) }
+{
+    law_commands();
+}
