@@ -38,7 +38,7 @@ ghost use Rattle.reg_report.specs.Asked.{resource_in, subject_in};
 ghost use Rattle.reg_report.specs.Gives.{Gives, IsRefusal};
 
 /// The refusal of a text that is no name.
-fn bad_name(alloc: Global, field: &str) -> Unreported
+pub fn bad_name(alloc: Global, field: &str) -> Unreported
     ensures { IsRefusal result (Refusal.BadName field.now) }
 {
     match Text::new(alloc, field) {
@@ -58,7 +58,7 @@ fn bad_moment(alloc: Global) -> Unreported
 }
 
 /// The refusal of a text that names nothing that stands.
-fn not_found(alloc: Global, text: &Text) -> Unreported
+pub fn not_found(alloc: Global, text: &Text) -> Unreported
     ensures { IsRefusal result (Refusal.NotFound text.now) }
 {
     match text.copy(alloc) {
@@ -78,7 +78,7 @@ fn wrong_kind(alloc: Global, field: &str) -> Unreported
 }
 
 /// The entity that the subject's text is.
-fn subject_in(alloc: Global, text: &Text) -> Result<Entity, Unreported>
+pub fn subject_in(alloc: Global, text: &Text) -> Result<Entity, Unreported>
     ensures { Gives result (subject_in text.now) }
 {
     match Entity::parse(alloc, text.bytes()) {
@@ -138,7 +138,7 @@ fn person_of(alloc: Global, facts: &Facts, text: &Text) -> Result<Option<Subject
 }
 
 /// The person that an entity is, if it is a person, who has to stand.
-fn person_found(
+pub fn person_found(
     alloc: Global,
     facts: &Facts,
     entity: &Entity,
@@ -176,7 +176,7 @@ fn group_found(alloc: Global, facts: &Facts, name: &Text) -> Result<GroupId, Unr
 }
 
 /// A person, and no other entity.
-fn person_in(alloc: Global, found: Option<SubjectId>) -> Result<SubjectId, Unreported>
+pub fn person_in(alloc: Global, found: Option<SubjectId>) -> Result<SubjectId, Unreported>
     ensures person { Gives result (person_in found) }
     ensures same { IfOk result (λ s. found ≡ Some s) }
 {

@@ -9,5 +9,6 @@ mod line;
 mod permission;
 mod reporting;
 
+pub use asked::{Unreported, bad_name, not_found, person_found, person_in, subject_in};
 pub use laws::law_one_report;
 pub use reporting::report;

@@ -4,6 +4,7 @@ pub mod Ending
 pub mod Loading
 pub mod Naming
 pub mod Opened
+pub mod Providing
 pub mod Reporting
 pub mod Serving
 pub mod Usage

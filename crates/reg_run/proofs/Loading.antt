@@ -176,7 +176,7 @@ fault_not_whole given bytes end old new is (inl (inl p)) whole = four (subst (λ
 fault_not_whole given bytes end old new is (inl (inr p)) whole = six (subst (λ (e : End). IsWhole (status_of e)) p.0 whole)
 fault_not_whole given bytes end old new is (inr p) whole = three (subst (λ (e : End). IsWhole (status_of e)) p.0 whole)
 
-once_whole : (s : State) (m : ℕ) (reading : Result Request Refusal) (given : Reply) (bytes : List ℕ) (end : End) (old new : Out) (answered kept : List Stamped) → TurnsOnce s m reading given answered kept
+pub once_whole : (s : State) (m : ℕ) (reading : Result Request Refusal) (given : Reply) (bytes : List ℕ) (end : End) (old new : Out) (answered kept : List Stamped) → TurnsOnce s m reading given answered kept
     → Printed (end_of_reply given) bytes end old new → IsWhole (status_of end) → answered ≡ kept
 once_whole s m reading given bytes end old new answered kept (inl t) p whole = t.2 ∙ sym t.3
 once_whole s m reading given bytes end old new answered kept (inr (inl t)) p whole = t.1 ∙ sym t.2

@@ -3,6 +3,7 @@ use Rattle.std.proofs.Common.{◌≡◌, ◌∙◌, ◌⊎◌, List, ℕ, Option
 use Rattle.reg_outside.specs.declared.disk.Disk.{Ghosts}
 use Rattle.reg_machine.specs.History.{State}
 use Rattle.reg_terms.specs.declared.command.Stamped.{Stamped}
+use Rattle.reg_words.specs.declared.task.Provision.{Provision}
 use Rattle.reg_words.specs.declared.task.Task.{Task}
 use Rattle.reg_words.specs.declared.task.Task.TheVariants as task
 use Rattle.reg_run.specs.declared.status.End.{End}
@@ -12,6 +13,7 @@ use Rattle.reg_terms.specs.declared.reply.Reply.{Reply}
 use Rattle.reg_terms.specs.declared.reply.Reply.TheVariants as reply
 use Rattle.reg_run.specs.Ends.{Did, IsIdle, IsUsage, LoadAsked, LoadBroke, RunDid}
 use Rattle.reg_run.specs.Once.{Printed, end_of_reply}
+use Rattle.reg_run.specs.Providing.{Provides}
 use Rattle.reg_run.specs.Status.{status_of}
 use Rattle.reg_run.specs.World.{Out, World}
 
@@ -50,6 +52,12 @@ load_is_use : (from : State) (job taken : List ℕ) (before after : World) (answ
 load_is_use from job taken before after answered kept (inl broke) = let is : the_end.Usage ≡ the_end.Input = broke.0 in absurd (cc)
 load_is_use from job taken before after answered kept (inr asked) = told_is_use asked.2.told _ _ _ asked.2.printed
 
+provision_is_use : (asked : Provision) (s : State) (at : ℕ) (answered kept : List Stamped) (old new : Out) → Provides asked s at the_end.Usage answered kept old new → ⊥
+provision_is_use asked s at answered kept old new (inl (keeps, (told, withheld, printed))) = told_is_use told _ old new printed
+provision_is_use asked s at answered kept old new (inr (place, last, lines, those, inl broke)) = let is : the_end.Usage ≡ the_end.Output = broke.1 in absurd (cc)
+provision_is_use asked s at answered kept old new (inr (place, last, lines, those, inr (mid, wrote, flushed, inl (less, a)))) = told_is_use a.told _ mid new a.printed
+provision_is_use asked s at answered kept old new (inr (place, last, lines, those, inr (mid, wrote, flushed, inr (same, keeps, put)))) = print_is_use _ mid new (inl put)
+
 -- no task ends so
 task_is_use : (d : Seen) (t : Task) (before after : World) → Did d t the_end.Usage before after → ⊥
 task_is_use d task.Init before after did = did.ends
@@ -65,6 +73,8 @@ task_is_use d (task.Report asked) before after (inl not) = not.cause
 task_is_use d (task.Report asked) before after (inr p) = p.2.ends
 task_is_use d (task.Load job) before after (inl not) = not.cause
 task_is_use d (task.Load job) before after (inr p) = load_is_use p.0 job p.2.taken before after _ _ p.2.ends
+task_is_use d (task.Provision asked) before after (inl not) = not.cause
+task_is_use d (task.Provision asked) before after (inr p) = provision_is_use asked _ p.2.at _ _ _ _ p.2.ends
 task_is_use d (task.Sample seed size) before after did = print_is_use _ _ _ did.printed
 
 words_are_use : {D : Type 0} (g : Ghosts D) (t : Task) (end : End) (before after : World) (old new : D) → end ≡ the_end.Usage

@@ -5,6 +5,7 @@
 mod load;
 mod perform;
 mod program;
+mod provision;
 mod question;
 mod report;
 mod sample;

@@ -18,6 +18,7 @@ ghost use Rattle.reg_run.specs.World.{Net, World, world, holding, printing, at_c
 ghost use Rattle.reg_run.specs.World.{out_of};
 
 use crate::load::load_over;
+use crate::provision::provision_over;
 use crate::question::asked_by;
 use crate::report::report_over;
 use crate::sample::print_sample;
@@ -315,6 +316,7 @@ pub fn perform<S: Source, K: Sink, D: Disk, C: Clock, L: Listener>(
         Task::Ask(question) => ask_over(alloc, question, out, disk, clock),
         Task::Report(asked) => report_over(alloc, asked, out, disk, clock),
         Task::Load { job } => load_over(alloc, job, input, out, disk, clock),
+        Task::Provision(asked) => provision_over(alloc, asked, out, disk, clock),
         Task::Sample { seed, size } => (print_sample(alloc, *seed, *size, out), disk),
     }
 }

@@ -40,3 +40,7 @@ port_in word = number_in 0 65535 word
 abbrev pub connections_in : Option (List ℕ) → Option ℕ
 connections_in None = Some 1000000
 connections_in (Some word) = number_in 1 1000000 word
+
+-- how many entries of the log a word allows
+abbrev pub entries_in : List ℕ → Option ℕ
+entries_in word = number_in 1 1000000 word

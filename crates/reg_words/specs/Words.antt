@@ -8,7 +8,7 @@ use Rattle.clap.specs.Words.{App, Kinds, Row, Rule, Text, fault_of, first_of, ma
 use Rattle.clap.specs.Words.{new_rule, with_rule}
 use Rattle.clap.specs.Simple.{on_top}
 use Rattle.clap.specs.declared.builder.action.ArgAction.TheVariants.{Set}
-use Rattle.reg_words.specs.Numbers.{connections_in, port_in, seed_in, size_in}
+use Rattle.reg_words.specs.Numbers.{connections_in, entries_in, port_in, seed_in, size_in}
 use Rattle.reg_words.specs.declared.task.Question.TheVariants as question
 use Rattle.reg_words.specs.declared.task.Report.TheVariants as report
 use Rattle.reg_words.specs.declared.task.Task.{Task}
@@ -72,6 +72,12 @@ attested = with_option (codes "at") (with_word (codes "group") (bare (codes "att
 -- `attestation GROUP`
 abbrev pub attestation : App
 attestation = with_word (codes "group") (bare (codes "attestation"))
+
+-- `provision CONSUMER SUBJECT MAX`
+abbrev pub provision : App
+provision =
+    with_word (codes "max") (with_word (codes "subject")
+    (with_word (codes "consumer") (bare (codes "provision"))))
 
 -- what `members` asks, by what it found
 abbrev pub members_in : List Row → Option Task
@@ -141,6 +147,20 @@ abbrev pub attestation_in : List Row → Option Task
 attestation_in rows =
     option_map (λ group. task.Report (report.Attestation group)) (first_of (codes "group") rows)
 
+-- what `provision` asks, by its words
+abbrev pub provision_of : Text → Text → Text → Option Task
+provision_of consumer subject max =
+    option_map (λ max. task.Provision (record { consumer = consumer; subject = subject; max = max }))
+    (entries_in max)
+
+-- the same by what it found
+abbrev pub provision_in : List Row → Option Task
+provision_in rows =
+    option_and_then (λ consumer.
+    option_and_then (λ subject.
+    option_and_then (λ max. provision_of consumer subject max) (first_of (codes "max") rows))
+    (first_of (codes "subject") rows)) (first_of (codes "consumer") rows)
+
 abbrev pub is_none : Kinds → Bool
 is_none [] = true
 is_none (k ∷ ks) = false
@@ -171,7 +191,8 @@ task_by word words =
     else (if bytes_eq word (codes "attestation") then read_by attestation attestation_in words
     else (if bytes_eq word (codes "reminders")
     then read_bare (codes "reminders") (task.Report report.Reminders) words
-    else None))))))))))))
+    else (if bytes_eq word (codes "provision") then read_by provision provision_in words
+    else None)))))))))))))
 
 -- what the words ask for
 abbrev pub task_of : List Text → Option Task

@@ -4,6 +4,7 @@ ghost use Rattle.clap.specs.Words.{app_of, fault_of, first_of, found_of, is_simp
 ghost use Rattle.clap.specs.Words.{matches_of, rows_of};
 ghost use Rattle.reg_words.specs.Words.{bare, with_word, with_option, members, history, serve};
 ghost use Rattle.reg_words.specs.Words.{load, sample, permit, permitted, attested, attestation};
+ghost use Rattle.reg_words.specs.Words.{provision};
 
 use clap::error::ErrorKind;
 use clap::{Arg, ArgAction, ArgMatches, Command};
@@ -118,6 +119,16 @@ pub fn attestation<'a>(alloc: Global) -> Result<Command<'a>, AllocError>
 {
     let command = bare(alloc, "attestation");
     with_word(alloc, command, "group")
+}
+
+/// `provision CONSUMER SUBJECT MAX`
+pub fn provision<'a>(alloc: Global) -> Result<Command<'a>, AllocError>
+    ensures { IfOk result (λ c. app_of c ≡ provision) }
+{
+    let command = bare(alloc, "provision");
+    let command = with_word(alloc, command, "consumer")?;
+    let command = with_word(alloc, command, "subject")?;
+    with_word(alloc, command, "max")
 }
 
 /// What a command finds in the words, of which the first is its own. None where it doesn't take

@@ -1,12 +1,16 @@
 // Numbers in words.
 ghost use Rattle.std.specs.Prelude.{◌≡◌};
-ghost use Rattle.reg_words.specs.Numbers.{connections_in, number_in, port_in, seed_in, size_in};
+ghost use Rattle.reg_words.specs.Numbers.{connections_in, entries_in, number_in, port_in, seed_in};
+ghost use Rattle.reg_words.specs.Numbers.{size_in};
 
 use crate::task::Size;
 use reg_base::Text;
 
 /// How many connections are served at most.
 const MOST_CONNECTIONS: u64 = 1_000_000;
+
+/// How many entries of the log a batch goes over at most.
+const MOST_ENTRIES: u64 = 1_000_000;
 
 /// The number from `least` to `most` that 1 to 20 digits give; None for any other text.
 fn number_in(text: &[u8], least: u64, most: u64) -> Option<u64>
@@ -69,4 +73,11 @@ pub fn connections_in(word: &Option<Text>) -> Option<u64>
         Some(word) => number_in(word.bytes(), 1, MOST_CONNECTIONS),
         None => Some(MOST_CONNECTIONS),
     }
+}
+
+/// How many entries of the log a word allows: a number from 1 to 1,000,000.
+pub fn entries_in(word: &Text) -> Option<u64>
+    ensures { result ≡ entries_in word.now }
+{
+    number_in(word.bytes(), 1, MOST_ENTRIES)
 }

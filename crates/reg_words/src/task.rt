@@ -82,6 +82,18 @@ pub enum Report {
     Reminders,
 }
 
+/// A batch of operations for an outside list of memberships, in the words of its caller: whether
+/// its texts are names isn't asked yet.
+#[derive(Drop)]
+pub struct Provision {
+    /// Whose place in the log the batch goes on from.
+    pub consumer: Text,
+    /// The person whose grants of READ say which groups it is about.
+    pub subject: Text,
+    /// How many entries of the log it goes over at most: from 1 to 1,000,000.
+    pub max: u64,
+}
+
 /// What the words ask for.
 #[derive(Drop)]
 pub enum Task {
@@ -100,6 +112,8 @@ pub enum Task {
     /// Run a job over a table, which is the input. Whether the job's text is a name isn't asked
     /// yet.
     Load { job: Text },
+    /// Print a batch of operations and acknowledge where it ends.
+    Provision(Provision),
     /// Put the requests of a seed and a size to a registry that keeps nothing.
     Sample { seed: u64, size: Size },
 }

@@ -4,15 +4,16 @@ ghost use Rattle.clap.specs.Words.{found_of, rows_of};
 ghost use Rattle.reg_words.specs.Words.{attestation, attestation_in, attested, attested_in};
 ghost use Rattle.reg_words.specs.Words.{history, history_in, load, load_in, members, members_in};
 ghost use Rattle.reg_words.specs.Words.{permit, permit_in, permitted, permitted_in};
+ghost use Rattle.reg_words.specs.Words.{provision, provision_in, provision_of};
 ghost use Rattle.reg_words.specs.Words.{read_bare, read_by, sample, sample_in, sample_of, serve};
 ghost use Rattle.reg_words.specs.Words.{serve_in, serve_of, task_by, task_of};
 
 use crate::commands::{
-    attestation, attested, bare, found, history, load, members, permit, permitted, sample, serve,
-    value,
+    attestation, attested, bare, found, history, load, members, permit, permitted, provision,
+    sample, serve, value,
 };
-use crate::numbers::{connections_in, port_in, seed_in, size_in};
-use crate::task::{Question, Report, Task};
+use crate::numbers::{connections_in, entries_in, port_in, seed_in, size_in};
+use crate::task::{Provision, Question, Report, Task};
 use clap::ArgMatches;
 use reg_base::Text;
 use std::alloc::{AllocError, Global};
@@ -162,6 +163,36 @@ fn attestation_in(alloc: Global, matches: &ArgMatches) -> Result<Option<Task>, A
     Ok(Some(Task::Report(Report::Attestation { group })))
 }
 
+/// What `provision` asks, by its words.
+fn provision_of(consumer: Text, subject: Text, max: &Text) -> Option<Task>
+    ensures { result ≡ provision_of consumer subject max.now }
+{
+    match entries_in(max) {
+        Some(max) => Some(Task::Provision(Provision {
+            consumer,
+            subject,
+            max,
+        })),
+        None => None,
+    }
+}
+
+/// What `provision` asks, by what it found.
+fn provision_in(alloc: Global, matches: &ArgMatches) -> Result<Option<Task>, AllocError>
+    ensures { IfOk result (λ asked. asked ≡ provision_in (rows_of (found_of matches.now))) }
+{
+    let Some(consumer) = value(alloc, matches, "consumer")? else {
+        return Ok(None);
+    };
+    let Some(person) = value(alloc, matches, "subject")? else {
+        return Ok(None);
+    };
+    let Some(max) = value(alloc, matches, "max")? else {
+        return Ok(None);
+    };
+    Ok(provision_of(consumer, person, &max))
+}
+
 /// Reads the words of `members NAME [--at T]`.
 fn read_members(alloc: Global, words: &[String]) -> Result<Option<Task>, AllocError>
     ensures { IfOk result (λ asked. asked
@@ -267,6 +298,18 @@ fn read_attestation(alloc: Global, words: &[String]) -> Result<Option<Task>, All
     }
 }
 
+/// Reads the words of `provision CONSUMER SUBJECT MAX`.
+fn read_provision(alloc: Global, words: &[String]) -> Result<Option<Task>, AllocError>
+    ensures { IfOk result (λ asked. asked
+        ≡ read_by provision provision_in (map string_bytes words.now)) }
+{
+    let command = provision(alloc)?;
+    match found(command, words)? {
+        Some(matches) => provision_in(alloc, &matches),
+        None => Ok(None),
+    }
+}
+
 /// Reads the words of the command of this name.
 fn task_by(alloc: Global, word: &str, words: &[String]) -> Result<Option<Task>, AllocError>
     ensures { IfOk result (λ asked. asked ≡ task_by word.now (map string_bytes words.now)) }
@@ -285,6 +328,7 @@ fn task_by(alloc: Global, word: &str, words: &[String]) -> Result<Option<Task>, 
         "attested" => read_attested(alloc, words),
         "attestation" => read_attestation(alloc, words),
         "reminders" => read_bare(alloc, "reminders", Task::Report(Report::Reminders), words),
+        "provision" => read_provision(alloc, words),
         _ => Ok(None),
     }
 }

@@ -18,6 +18,9 @@ returns-in-Ask-clause-did g c = rw c.in-Ask.is (c.ask_over.ensures.did (world g.
 pub returns-in-Report-clause-did : goal.returns-in-Report-clause-did
 returns-in-Report-clause-did g c = rw c.in-Report.is (c.report_over.ensures.did (world g.S.Source g.K.Sink g.D.Disk g.C.Clock c.args.input.now c.args.out.now c.args.disk c.args.clock.now (net_of g.L.Listener c.args.net.now)))
 
+pub returns-in-Provision-clause-did : goal.returns-in-Provision-clause-did
+returns-in-Provision-clause-did g c = rw c.in-Provision.is (c.provision_over.ensures.did (world g.S.Source g.K.Sink g.D.Disk g.C.Clock c.args.input.now c.args.out.now c.args.disk c.args.clock.now (net_of g.L.Listener c.args.net.now)))
+
 pub returns-in-Serve-clause-did : goal.returns-in-Serve-clause-did
 returns-in-Serve-clause-did g c = rw c.in-Serve.is (c.serve_over.ensures.did (world g.S.Source g.K.Sink g.D.Disk g.C.Clock c.args.input.now c.args.out.now c.args.disk c.args.clock.now (net_of g.L.Listener c.args.net.now)))
 

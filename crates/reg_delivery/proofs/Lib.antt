@@ -1,0 +1,3 @@
+pub mod Acknowledging
+pub mod One
+pub mod Printing

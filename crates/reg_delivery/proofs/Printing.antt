@@ -1,0 +1,15 @@
+-- The text that a value's tokens print.
+use Rattle.std.proofs.Common.{◌≡◌, ◌∙◌, ◌++◌, ◌∷◌, [], ℕ, List, ap, append_assoc}
+use Rattle.json.specs.Tree.{json_tokens}
+use Rattle.json.specs.Print.{print}
+use Rattle.serde_json.specs.Data.{Data}
+use Rattle.serde_json.specs.Written.{outline, compact_text}
+use Rattle.serde_json.proofs.Texts.{print-outline}
+use Rattle.reg_report.specs.Lines.{line}
+
+pub printed : (d : Data) → print (json_tokens (outline d)) ≡ compact_text d
+printed = print-outline
+
+-- a line behind what stood
+pub line_more : (before more : List ℕ) (d : Data) → more ≡ (before ++ print (json_tokens (outline d))) ++ 10 ∷ [] → more ≡ before ++ line d
+line_more before more d h = h ∙ (append_assoc before (print (json_tokens (outline d))) (10 ∷ []) ∙ ap (λ (text : List ℕ). before ++ (text ++ 10 ∷ [])) (printed d))
