@@ -1,6 +1,5 @@
 use Rattle.reg_delivery.proofs.delivery.deliver.Goals as goal
 
--- a batch doesn't end before its place
 pub returns-clause-ready : goal.returns-clause-ready
 returns-clause-ready g c = record {
   form = c.in_ok-place.ensures.form;
