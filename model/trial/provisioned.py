@@ -98,7 +98,7 @@ class Trial:
         if self.random.random() < 0.7:
             self.send(op="grant." + end, object="g:gsa/" + self.one_of(GROUPS), **written)
         else:
-            scope = self.one_of(["one", "subtree"])
+            scope = self.one_of(["ONE", "SUB"])
             self.send(op="inherit." + end, folder=self.one_of(["app", ":"]), kind="group",
                       scope=scope, **written)
 
