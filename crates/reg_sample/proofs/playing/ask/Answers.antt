@@ -3,8 +3,8 @@ use Rattle.std.proofs.lemmas.Result.{IfOk-weaker}
 use Rattle.reg_json.specs.Reading.{reading_of}
 use Rattle.reg_sample.specs.Lines.{line}
 use Rattle.reg_session.specs.Pending.{ReadsAs}
-use Rattle.reg_played.proofs.Asking.{asked_one, some_at}
-use Rattle.reg_played.proofs.playing.ask.Goals as goal
+use Rattle.reg_sample.proofs.Asking.{asked_one, some_at}
+use Rattle.reg_sample.proofs.playing.ask.Goals as goal
 
 -- the line was asked, and its reply counted
 pub returns-clause-asked : goal.returns-clause-asked

@@ -1,7 +1,7 @@
 use Rattle.std.proofs.Common.{◌≤◌, ◌-◌}
 use Rattle.reg_sample.specs.Lines.{count}
-use Rattle.reg_played.specs.Played.{IsAt, played}
-use Rattle.reg_played.proofs.playing.play.Given as goal
+use Rattle.reg_sample.specs.Played.{IsAt, played}
+use Rattle.reg_sample.proofs.playing.play.Given as goal
 
 -- so many lines were asked
 abbrev pub invariant-loop-number : goal.invariant-loop-number

@@ -4,12 +4,13 @@ ghost use Rattle.reg_json.specs.Reading.{reading_of};
 ghost use Rattle.reg_session.specs.Pending.{AsksFormed, ReadsAs};
 ghost use Rattle.reg_sample.specs.Lines.{count};
 ghost use Rattle.reg_machine.specs.History.{start};
-ghost use Rattle.reg_played.specs.Played.{IsAt, asked, played, summary};
+ghost use Rattle.reg_sample.specs.Played.{IsAt, asked, played, summary};
 
+use crate::lines::{count, line};
+use crate::reading::moment_of;
 use crate::tally::{Summary, Tally, counted};
 use reg_json::read_request;
 use reg_keep::{NoKeeper, Records};
-use reg_sample::{count, line, moment_of};
 use reg_service::{Next, Service};
 use reg_session::{LineReading, turn};
 use std::alloc::{AllocError, Global};

@@ -13,8 +13,8 @@ use Rattle.reg_service.specs.declared.service.Next.{Next}
 use Rattle.reg_service.specs.declared.service.Next.TheVariants as next
 use Rattle.reg_session.proofs.Answering.{follows_go}
 use Rattle.reg_sample.specs.Lines.{line}
-use Rattle.reg_played.specs.Played.{IsAt, Point, asked, counted, nothing, played}
-use Rattle.reg_played.specs.declared.tally.Tally.{Tally}
+use Rattle.reg_sample.specs.Played.{IsAt, Point, asked, counted, nothing, played}
+use Rattle.reg_sample.specs.declared.tally.Tally.{Tally}
 
 turned : (s after : State) (m : ℕ) (reading : Result Request Refusal) (told : Reply) → Turns s m reading told after → told ≢ reply.NoMemory → (told, after) ≡ turn s m reading
 turned s after m reading told (inl e) sure = e

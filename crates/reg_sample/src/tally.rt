@@ -1,7 +1,7 @@
 // What is counted of the replies, and told at the end.
 ghost use Rattle.std.specs.Prelude.{◌≡◌, ◌≢◌, ◌≤◌, ◌<◌, ◌+◌, ◌++◌, IfOk, IfSome};
 ghost use Rattle.reg_terms.specs.declared.reply.Reply.{Reply};
-ghost use Rattle.reg_played.specs.Played.{answered, counted, number_line, summary_text};
+ghost use Rattle.reg_sample.specs.Played.{answered, counted, number_line, summary_text};
 
 use reg_terms::{Answer, Reply};
 use std::alloc::{AllocError, Global};

@@ -11,8 +11,8 @@ use Rattle.reg_machine.specs.History.{State, start}
 use Rattle.reg_machine.specs.Past.{log}
 use Rattle.reg_service.specs.Turn.{turn}
 use Rattle.reg_sample.specs.Lines.{count, line}
-use Rattle.reg_played.specs.declared.tally.Summary.{Summary}
-use Rattle.reg_played.specs.declared.tally.Tally.{Tally}
+use Rattle.reg_sample.specs.declared.tally.Summary.{Summary}
+use Rattle.reg_sample.specs.declared.tally.Tally.{Tally}
 
 -- nothing was replied
 abbrev pub nothing : Tally

@@ -1,6 +1,6 @@
 use Rattle.std.proofs.Common.{refl, arith}
-use Rattle.reg_played.proofs.Asking.{played_more, played_none}
-use Rattle.reg_played.proofs.playing.play.Goals as goal
+use Rattle.reg_sample.proofs.Asking.{played_more, played_none}
+use Rattle.reg_sample.proofs.playing.play.Goals as goal
 
 -- nothing was asked yet
 pub loop-number-init : goal.loop-number-init
