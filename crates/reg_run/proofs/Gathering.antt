@@ -50,7 +50,7 @@ front_behind done lines rest bytes old mid new wrote (n, few, more) whole =
     let all : length done + length (lines ++ rest) ≡ length bytes = sym (length-append done (lines ++ rest)) ∙ ap (λ (l : List ℕ). length l) whole in
     let count = length-append lines rest in
     let front : take (length done + n) bytes ≡ done ++ take n lines =
-        ap (λ (l : List ℕ). take (length done + n) l) (sym whole) ∙ (take-append-add done (lines ++ rest) n ∙ ap (λ (l : List ℕ). done ++ l) (take-append-le n lines rest few)) in
+    ap (λ (l : List ℕ). take (length done + n) l) (sym whole) ∙ (take-append-add done (lines ++ rest) n ∙ ap (λ (l : List ℕ). done ++ l) (take-append-le n lines rest few)) in
     (length done + n, omega (arith, all, count, few), more_written done (take n lines) old mid new wrote more ∙ ap (append_known old) (sym front))
 
 -- ---- a listing

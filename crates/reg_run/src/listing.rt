@@ -42,12 +42,7 @@ fn next_record(records: &mut Records, listing: &Listing) -> Option<(u64, Bytes)>
 
 /// Goes over the command that a payload is read as. Where it is no command's, the record's place is
 /// damaged.
-fn add_command(
-    alloc: Global,
-    listing: &mut Listing,
-    at: u64,
-    payload: &[u8],
-) -> Result<(), End>
+fn add_command(alloc: Global, listing: &mut Listing, at: u64, payload: &[u8]) -> Result<(), End>
     requires { listing.old.place < listing.old.to }
     ensures added { OnOk result ((s : Stamped) → stamped_of payload.now ≡ Some s
         → listing.new ≡ with_command listing.old s) }
@@ -140,12 +135,7 @@ fn end_of(listed: Result<(), End>) -> End
 }
 
 /// Reads a journal once more, and prints the lines of its commands.
-fn print_again<K: Sink, D: Disk>(
-    alloc: Global,
-    places: &Places,
-    out: &mut K,
-    disk: D,
-) -> (End, D)
+fn print_again<K: Sink, D: Disk>(alloc: Global, places: &Places, out: &mut K, disk: D) -> (End, D)
     ensures printed { (from : State) → OpensTo (D.contents disk) (Ok from)
         → PrintsLines (due_lines places.now (D.contents disk) from.history) result.0
         (D.faults disk) (D.faults result.1) (out_of ⟦<K as Sink>⟧ out.old)
