@@ -9,6 +9,6 @@ mod line;
 mod listing;
 mod values;
 
-pub use laws::{law_line_reads_back, law_request_reads_back};
+pub use laws::{law_line_reads_back, law_listed_is_told, law_request_reads_back};
 pub use line::command_text;
 pub use listing::Listing;
