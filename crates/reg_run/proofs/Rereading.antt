@@ -91,6 +91,14 @@ not_reread places held before later out fault.NoMemory from damaged rose opens_t
     nothing None = tt
     nothing (Some bytes) = no_front out.written bytes
 
+-- faults since an earlier moment
+pub prints_since : (due : Option (List ℕ)) (end : End) (before mid later : ℕ) (old new : Out) → before ≤ mid → PrintsLines due end mid later old new → PrintsLines due end before later old new
+prints_since due end before mid later old new le (inl printed) = inl printed
+prints_since due end before mid later old new le (inr (is, rose, same)) = inr (is, risen, same)
+  where
+    risen : Rose before later
+    risen = omega (arith, le, rose)
+
 -- ---- a disk that is read once more
 
 same_after : (was : List ℕ → Type 0) (c : List ℕ) → After Same was c → was c
