@@ -1,9 +1,9 @@
 -- A file that was opened, and is read once more.
 use Rattle.std.proofs.Common.{◌≡◌, ◌≤◌, ◌++◌, ◌∷◌, [], List, ℕ, Bool, Option, Some, None, Result, Ok, Err, true, false, refl, ap, sym, subst, ◌∙◌, arith, ◌⊎◌, inl, inr, length, take, append-nil, append_assoc}
 use Rattle.std.specs.Prelude.{IfSome, nat_lt, if◌then◌else◌}
-use Rattle.std.specs.Io.KnownBytes.{append_known}
 use Rattle.reg_outside.specs.Disk.{After, Changes, Same}
 use Rattle.reg_outside.specs.Faults.{Rose}
+use Rattle.reg_outside.specs.Streams.{WritesFront}
 use Rattle.reg_outside.specs.declared.disk.Disk.{Ghosts}
 use Rattle.reg_terms.specs.declared.command.Stamped.{Stamped}
 use Rattle.reg_terms.specs.declared.refusal.Refusal.{Refusal}
@@ -17,7 +17,7 @@ use Rattle.reg_service.specs.Opening.{accepted, after_payload, after_stamped, an
 use Rattle.reg_words.specs.declared.task.Places.{Places}
 use Rattle.reg_run.specs.Crash.{AsBefore, DiskSurvives, IsSound, OpensTo, OpensWith, Survives, seen}
 use Rattle.reg_run.specs.Ends.{end_of_open}
-use Rattle.reg_run.specs.Listing.{AreRead, Lists, PrintsLines, due_lines}
+use Rattle.reg_run.specs.Listing.{AreRead, PrintsLines, due_lines}
 use Rattle.reg_run.specs.World.{Out}
 use Rattle.reg_run.specs.declared.status.End.{End}
 use Rattle.reg_run.specs.declared.status.End.TheVariants as the_end
@@ -76,20 +76,20 @@ pub reread : (held : Option (List ℕ)) (records : Records) (from : State) → O
 reread None records from opens_to opened_as = tt
 reread (Some file) records from opens_to opened_as = are_read from records (ap judged_all (sym opened_as) ∙ opens_to)
 
+undamaged : (places : Places) (held : Option (List ℕ)) (from : State) (at : ℕ) → IfSome held (λ file. opened file ≡ Err at) → OpensTo held (Ok from) → IfSome (due_lines places held from.history) (λ bytes. ⊥)
+undamaged places None from at is opens_to = tt
+undamaged places (Some file) from at is opens_to = let both : Err at ≡ Ok from = ap judged_all (sym is) ∙ opens_to in absurd (cc)
+
+nothing_written : (due : Option (List ℕ)) (w : Option (List ℕ)) → IfSome due (WritesFront w w)
+nothing_written None w = tt
+nothing_written (Some bytes) w = no_front w bytes
+
 -- and it isn't damaged
 pub not_reread : (places : Places) (held : Option (List ℕ)) (before later : ℕ) (out : Out) (f : OpenFault) (from : State) → ((at : ℕ) → f ≡ fault.Damaged at → IfSome held (λ file. opened file ≡ Err at)) → (f ≡ fault.Fault → Rose before later)
     → OpensTo held (Ok from) → PrintsLines (due_lines places held from.history) (end_of_open f) before later out out
-not_reread places held before later out (fault.Damaged at) from damaged rose opens_to = inl (never held (damaged at refl) opens_to, refl)
-  where
-    never : (o : Option (List ℕ)) → IfSome o (λ file. opened file ≡ Err at) → OpensTo o (Ok from) → IfSome (due_lines places o from.history) (λ bytes. ⊥)
-    never None is opens_as = tt
-    never (Some file) is opens_as = let both : Err at ≡ Ok from = ap judged_all (sym is) ∙ opens_as in absurd (cc)
+not_reread places held before later out (fault.Damaged at) from damaged rose opens_to = inl (undamaged places held from at (damaged at refl) opens_to, refl)
 not_reread places held before later out fault.Fault from damaged rose opens_to = inr (refl, rose refl, refl)
-not_reread places held before later out fault.NoMemory from damaged rose opens_to = inl (nothing (due_lines places held from.history), refl)
-  where
-    nothing : (due : Option (List ℕ)) → IfSome due (λ bytes. (n : ℕ) × (n ≤ length bytes) × (out.written ≡ append_known out.written (take n bytes)))
-    nothing None = tt
-    nothing (Some bytes) = no_front out.written bytes
+not_reread places held before later out fault.NoMemory from damaged rose opens_to = inl (nothing_written (due_lines places held from.history) out.written, refl)
 
 -- faults since an earlier moment
 pub prints_since : (due : Option (List ℕ)) (end : End) (before mid later : ℕ) (old new : Out) → before ≤ mid → PrintsLines due end mid later old new → PrintsLines due end before later old new
