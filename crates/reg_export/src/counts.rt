@@ -1,5 +1,5 @@
 // How many things that have an id and no name commands have made.
-ghost use Rattle.std.specs.Prelude.{◌≡◌, ◌<◌, ◌^◌};
+ghost use Rattle.std.specs.Prelude.{◌≡◌, ◌≤◌, ◌<◌, ◌+◌, ◌^◌};
 ghost use Rattle.reg_export.specs.Listing.{made_after, made_by, nothing_made};
 
 use reg_terms::Command;
@@ -24,8 +24,8 @@ pub fn nothing_made() -> Counts
 /// The id of what a command makes after commands that made so many, where it has one and no name.
 #[tactic(auto, unfolding(crate::specs::Listing::made_by))]
 pub fn made_by(counts: Counts, command: &Command) -> Option<u64>
-    requires assigns { counts.assigns < 2 ^ 64 - 1 }
-    requires rules { counts.rules < 2 ^ 64 - 1 }
+    requires assigns { counts.assigns + 1 < 2 ^ 64 }
+    requires rules { counts.rules + 1 < 2 ^ 64 }
     ensures { result ≡ made_by counts command.now }
 {
     match command {
@@ -39,7 +39,7 @@ pub fn made_by(counts: Counts, command: &Command) -> Option<u64>
 }
 
 fn one_assign_more(counts: Counts) -> Counts
-    requires { counts.assigns < 2 ^ 64 - 1 }
+    requires { counts.assigns + 1 < 2 ^ 64 }
     ensures { result ≡ record counts { assigns = counts.assigns + 1 } }
 {
     Counts {
@@ -49,7 +49,7 @@ fn one_assign_more(counts: Counts) -> Counts
 }
 
 fn one_rule_more(counts: Counts) -> Counts
-    requires { counts.rules < 2 ^ 64 - 1 }
+    requires { counts.rules + 1 < 2 ^ 64 }
     ensures { result ≡ record counts { rules = counts.rules + 1 } }
 {
     Counts {
@@ -61,8 +61,8 @@ fn one_rule_more(counts: Counts) -> Counts
 /// How many there are after a command.
 #[tactic(auto, unfolding(crate::specs::Listing::made_after))]
 pub fn made_after(counts: Counts, command: &Command) -> Counts
-    requires assigns { counts.assigns < 2 ^ 64 - 1 }
-    requires rules { counts.rules < 2 ^ 64 - 1 }
+    requires assigns { counts.assigns + 1 < 2 ^ 64 }
+    requires rules { counts.rules + 1 < 2 ^ 64 }
     ensures counts { result ≡ made_after counts command.now }
     ensures assigns { result.assigns ≤ counts.assigns + 1 }
     ensures rules { result.rules ≤ counts.rules + 1 }
