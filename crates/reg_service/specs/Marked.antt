@@ -1,0 +1,268 @@
+-- The laws of an output that keeps up: from one moment to the next, and of a single reply.
+use Rattle.std.specs.Prelude.{◌≡◌, ◌⊎◌, ◌≤◌, ◌+◌, ℕ, List, [], ◌∷◌, ◌++◌, All, Option, Some, None}
+use Rattle.std.specs.Prelude.{Result, Ok, IfSome, is_some, true, length, take, option_map}
+use Rattle.std.specs.Io.KnownBytes.{append_known}
+use Rattle.std.proofs.Common.{refl, ap, sym, ◌∙◌, subst, inl, inr, arith, append_assoc, append-nil, suc}
+use Rattle.std.proofs.Common.{length-append}
+use Rattle.std.proofs.lemmas.List.{take_all, take-append-le}
+use Rattle.std.proofs.lemmas.List.Elements.{All-append, All-nil, All-cons}
+use Rattle.reg_outside.specs.Disk.{Leaves}
+use Rattle.reg_outside.specs.Marks.{Mark}
+use Rattle.reg_outside.specs.Streams.{WritesFront}
+use Rattle.reg_terms.specs.declared.command.Stamped.{Stamped}
+use Rattle.reg_keep.specs.declared.keeper.Keeper.{Ghosts}
+use Rattle.reg_service.specs.Opening.{payloads_of}
+use Rattle.reg_service.specs.Kept.{KeptOn, IsBetween}
+use Rattle.reg_service.specs.Marks.{Writing, texts, LeavesAtLeast, IsAmong, IsMarked, AtEach}
+use Rattle.reg_service.specs.Marks.{AreMarked, Output, WritesAll, KeepsUpBy, KeepsUp, KeepsUpInPart}
+
+among_front : (mark : Mark) (ms ns : List Mark) → IsAmong mark ms → IsAmong mark (ms ++ ns)
+among_front mark [] ns is = absurd is
+among_front mark (m ∷ ms) ns (inl e) = inl e
+among_front mark (m ∷ ms) ns (inr is) = inr (among_front mark ms ns is)
+
+among_last : (mark : Mark) (ms : List Mark) → IsAmong mark (ms ++ mark ∷ [])
+among_last mark [] = inl refl
+among_last mark (m ∷ ms) = inr (among_last mark ms)
+
+texts_more : (ws vs : List Writing) → texts (ws ++ vs) ≡ texts ws ++ texts vs
+texts_more [] vs = refl
+texts_more (w ∷ ws) vs =
+    ap (λ (l : List ℕ). w.text ++ l) (texts_more ws vs) ∙ sym (append_assoc w.text (texts ws) (texts vs))
+
+if_so : (P Q : ℕ → Type 0) (o : Option ℕ) → ((n : ℕ) → P n → Q n) → IfSome o P → IfSome o Q
+if_so P Q None h p = tt
+if_so P Q (Some n) h p = h n p
+
+each_so : (P Q : ℕ → ℕ → Type 0) (at : ℕ) (ws : List Writing)
+    → ((at n : ℕ) → P at n → Q at n) → AtEach P at ws → AtEach Q at ws
+each_so P Q at [] h p = tt
+each_so P Q at (w ∷ ws) h p =
+    (if_so (P at) (Q at) w.number (h at) p.0, each_so P Q (at + length w.text) ws h p.1)
+
+each_then : (P : ℕ → ℕ → Type 0) (at : ℕ) (ws vs : List Writing) → AtEach P at ws
+    → AtEach P (at + length (texts ws)) vs → AtEach P at (ws ++ vs)
+each_then P at [] vs p q = subst (λ (n : ℕ). AtEach P n vs) (omega arith) q
+each_then P at (w ∷ ws) vs p q =
+    (p.0, each_then P (at + length w.text) ws vs p.1 (subst (λ (n : ℕ). AtEach P n vs) there q))
+  where
+    there : at + length (w.text ++ texts ws) ≡ at + length w.text + length (texts ws)
+    there = omega (arith, length-append w.text (texts ws))
+
+least_more : (n : ℕ) (h1 h2 more : List Stamped) (r : Result (List (List ℕ)) ℕ)
+    → h2 ≡ h1 ++ more → LeavesAtLeast n h1 r → LeavesAtLeast n h2 r
+least_more n h1 h2 more r grown l =
+    let front : take l.0 h2 ≡ take l.0 h1 = rw grown (take-append-le l.0 h1 more l.2) in
+    let long = ap (λ (x : List Stamped). length x) grown in
+    (l.0, l.1, omega (arith, long, length-append h1 more, l.2), rw front l.3)
+
+-- a command stays kept from its mark on, over a later history, and among more marks
+marked_later : {K : Type 0} (g : Ghosts K) (k1 k2 : K) (h1 h2 more : List Stamped)
+    (ms ns : List Mark) (at n : ℕ) → h2 ≡ h1 ++ more
+    → Leaves g.keep_moment g.stopped_since (IsBetween h1 h2) k1 k2 → IsMarked g k1 h1 ms at n
+    → IsMarked g k2 h2 (ms ++ ns) at n
+marked_later g k1 k2 h1 h2 more ms ns at n grown l m = record {
+  mark = m.mark;
+  set = among_front m.mark ms ns m.set;
+  written = m.written;
+  known = m.known;
+  before = m.before;
+  past = omega (arith, m.past, l.later);
+  there = omega (arith, m.there, ap (λ (x : List Stamped). length x) grown, length-append h1 more);
+  leaves = λ r left. either r (l.since m.mark.moment r m.past left);
+}
+  where
+    either : (r : Result (List (List ℕ)) ℕ)
+        → g.stopped_since k1 m.mark.moment r ⊎ IsBetween h1 h2 r → LeavesAtLeast n h2 r
+    either r (inl left) = least_more n h1 h2 more r grown (m.leaves r left)
+    either r (inr b) = (b.0, omega (arith, m.there, b.1), b.2, b.3)
+
+are_later : {K : Type 0} (g : Ghosts K) (k1 k2 : K) (h1 h2 more : List Stamped)
+    (ms ns : List Mark) (at : ℕ) (ws : List Writing) → h2 ≡ h1 ++ more
+    → Leaves g.keep_moment g.stopped_since (IsBetween h1 h2) k1 k2 → AreMarked g k1 h1 ms at ws
+    → AreMarked g k2 h2 (ms ++ ns) at ws
+are_later g k1 k2 h1 h2 more ms ns at ws grown l m =
+    each_so (IsMarked g k1 h1 ms) (IsMarked g k2 h2 (ms ++ ns)) at ws
+    (λ a n x. marked_later g k1 k2 h1 h2 more ms ns a n grown l x) m
+
+sets_more : (old mid new : Option (List Mark)) (a b : List Mark)
+    → mid ≡ option_map (λ ms. ms ++ a) old → new ≡ option_map (λ ms. ms ++ b) mid
+    → new ≡ option_map (λ ms. ms ++ (a ++ b)) old
+sets_more None mid new a b x y = y ∙ ap (λ (o : Option (List Mark)). option_map (λ ms. ms ++ b) o) x
+sets_more (Some ms) mid new a b x y =
+    y ∙ (ap (λ (o : Option (List Mark)). option_map (λ ms. ms ++ b) o) x
+    ∙ ap (λ (l : List Mark). Some l) (append_assoc ms a b))
+
+-- all that is acknowledged up to a second moment, at the third
+both_marked : {K : Type 0} (g : Ghosts K) (k1 k2 : K) (h1 h2 more : List Stamped)
+    (ws vs : List Writing) (ns : List Mark) (p0 p1 : Option (List (List ℕ)))
+    (w0 w1 : Option (List ℕ)) (m1 m2 : Option (List Mark)) → h2 ≡ h1 ++ more
+    → IfSome p0 (λ ps. is_some p1 ≡ true) → w1 ≡ append_known w0 (texts ws)
+    → m2 ≡ option_map (λ ms. ms ++ ns) m1
+    → IfSome p1 (λ ps. Leaves g.keep_moment g.stopped_since (IsBetween h1 h2) k1 k2)
+    → IfSome p0 (λ ps. IfSome w0 (λ bytes. IfSome m1 (λ ms. AreMarked g k1 h1 ms (length bytes) ws)))
+    → IfSome p1 (λ ps. IfSome w1 (λ bytes. IfSome m2 (λ ms. AreMarked g k2 h2 ms (length bytes) vs)))
+    → IfSome p0 (λ ps. IfSome w0 (λ bytes.
+    IfSome m2 (λ ms. AreMarked g k2 h2 ms (length bytes) (ws ++ vs))))
+both_marked g k1 k2 h1 h2 more ws vs ns None p1 w0 w1 m1 m2 grown told e f l a b = tt
+both_marked g k1 k2 h1 h2 more ws vs ns (Some ps) None w0 w1 m1 m2 grown told e f l a b = absurd (cc)
+both_marked g k1 k2 h1 h2 more ws vs ns (Some ps) (Some qs) None w1 m1 m2 grown told e f l a b = tt
+both_marked g k1 k2 h1 h2 more ws vs ns (Some ps) (Some qs) (Some bytes) w1 None m2 grown told e f l a b =
+    subst (λ (o : Option (List Mark)). IfSome o (λ ms. AreMarked g k2 h2 ms (length bytes) (ws ++ vs))) (sym f) tt
+both_marked g k1 k2 h1 h2 more ws vs ns (Some ps) (Some qs) (Some bytes) w1 (Some ms) m2 grown told e f l a b =
+    subst (λ (o : Option (List Mark)). IfSome o (λ ms. AreMarked g k2 h2 ms (length bytes) (ws ++ vs))) (sym f)
+    (each_then (IsMarked g k2 h2 (ms ++ ns)) (length bytes) ws vs
+    (are_later g k1 k2 h1 h2 more ms ns (length bytes) ws grown l a)
+    (subst (λ (n : ℕ). AreMarked g k2 h2 (ms ++ ns) n vs) (length-append bytes (texts ws)) behind))
+  where
+    told_so : IfSome m2 (λ ms. AreMarked g k2 h2 ms (length (bytes ++ texts ws)) vs)
+    told_so = subst (λ (o : Option (List ℕ)). IfSome o (λ bytes. IfSome m2 (λ ms. AreMarked g k2 h2 ms (length bytes) vs))) e b
+
+    behind : AreMarked g k2 h2 (ms ++ ns) (length (bytes ++ texts ws)) vs
+    behind = subst (λ (o : Option (List Mark)). IfSome o (λ ms. AreMarked g k2 h2 ms (length (bytes ++ texts ws)) vs)) f told_so
+
+all_then : (w0 w1 w2 : Option (List ℕ)) (bs cs : List ℕ) → WritesAll w0 w1 bs
+    → WritesAll w1 w2 cs → WritesAll w0 w2 (bs ++ cs)
+all_then None w1 w2 bs cs a b = b ∙ ap (λ (o : Option (List ℕ)). append_known o cs) a
+all_then (Some xs) w1 w2 bs cs a b =
+    b ∙ (ap (λ (o : Option (List ℕ)). append_known o cs) a
+    ∙ ap (λ (l : List ℕ). Some l) (append_assoc xs bs cs))
+
+take_behind : (n : ℕ) (bs cs : List ℕ) → take (length bs + n) (bs ++ cs) ≡ bs ++ take n cs
+take_behind n [] cs = ap (λ (k : ℕ). take k cs) (omega arith)
+take_behind n (b ∷ bs) cs =
+    let on : length (b ∷ bs) + n ≡ suc (length bs + n) = omega arith in
+    ap (λ (k : ℕ). take k (b ∷ bs ++ cs)) on ∙ ap (λ (l : List ℕ). b ∷ l) (take_behind n bs cs)
+
+part_then : (w0 w1 w2 : Option (List ℕ)) (bs cs : List ℕ) → WritesAll w0 w1 bs
+    → WritesFront w1 w2 cs → WritesFront w0 w2 (bs ++ cs)
+part_then w0 w1 w2 bs cs a b =
+    (length bs + b.0, omega (arith, length-append bs cs, b.1), subst (λ (l : List ℕ). w2 ≡ append_known w0 l) (sym (take_behind b.0 bs cs)) (all_then w0 w1 w2 bs (take b.0 cs) a b.2))
+
+then_by : {K : Type 0} (W : Option (List ℕ) → Option (List ℕ) → List ℕ → Type 0) (g : Ghosts K)
+    (R : Writing → Type 0) (h0 h1 h2 : List Stamped) (k0 k1 k2 : K) (o0 o1 o2 : Output)
+    → ((bs cs : List ℕ) → WritesAll o0.written o1.written bs → W o1.written o2.written cs
+    → W o0.written o2.written (bs ++ cs)) → KeptOn g h0 k0 h1 k1 → KeptOn g h1 k1 h2 k2
+    → KeepsUp g R k0 o0 o1 h1 k1 → KeepsUpBy W g R k1 o1 o2 h2 k2 → KeepsUpBy W g R k0 o0 o2 h2 k2
+then_by W g R h0 h1 h2 k0 k1 k2 o0 o1 o2 join x y a b = record {
+  writings = a.writings ++ b.writings;
+  replies = All-append R a.writings b.writings a.replies b.replies;
+  text = subst (W o0.written o2.written) (sym (texts_more a.writings b.writings)) (join (texts a.writings) (texts b.writings) a.text b.text);
+  more = a.more ++ b.more;
+  set = sets_more o0.marks o1.marks o2.marks a.more b.more a.set b.set;
+  marked = both_marked g k1 k2 h1 h2 y.more a.writings b.writings b.more (g.payloads k0) (g.payloads k1) o0.written o1.written o1.marks o2.marks y.grown x.told a.text b.set y.crash a.marked b.marked;
+}
+
+-- from one moment to a second, and from that to a third
+pub keeps_up_then : {K : Type 0} (g : Ghosts K) (R : Writing → Type 0) (h0 h1 h2 : List Stamped)
+    (k0 k1 k2 : K) (o0 o1 o2 : Output) → KeptOn g h0 k0 h1 k1 → KeptOn g h1 k1 h2 k2
+    → KeepsUp g R k0 o0 o1 h1 k1 → KeepsUp g R k1 o1 o2 h2 k2 → KeepsUp g R k0 o0 o2 h2 k2
+keeps_up_then g R h0 h1 h2 k0 k1 k2 o0 o1 o2 x y a b =
+    then_by WritesAll g R h0 h1 h2 k0 k1 k2 o0 o1 o2 (all_then o0.written o1.written o2.written) x y a b
+
+-- and to one where the last reply is cut short
+pub part_keeps_up_then : {K : Type 0} (g : Ghosts K) (R : Writing → Type 0)
+    (h0 h1 h2 : List Stamped) (k0 k1 k2 : K) (o0 o1 o2 : Output) → KeptOn g h0 k0 h1 k1
+    → KeptOn g h1 k1 h2 k2 → KeepsUp g R k0 o0 o1 h1 k1 → KeepsUpInPart g R k1 o1 o2 h2 k2
+    → KeepsUpInPart g R k0 o0 o2 h2 k2
+part_keeps_up_then g R h0 h1 h2 k0 k1 k2 o0 o1 o2 x y a b =
+    then_by WritesFront g R h0 h1 h2 k0 k1 k2 o0 o1 o2 (part_then o0.written o1.written o2.written) x y a b
+
+by_none : (W : Option (List ℕ) → Option (List ℕ) → List ℕ → Type 0) {K : Type 0} (g : Ghosts K)
+    (R : Writing → Type 0) (first k : K) (h : List Stamped) (old new : Output)
+    → W old.written new.written [] → new.marks ≡ old.marks → KeepsUpBy W g R first old new h k
+by_none W g R first k h old new none same = record {
+  writings = [];
+  replies = All-nil R;
+  text = none;
+  more = [];
+  set = same ∙ unchanged old.marks;
+  marked = marked (g.payloads first) old.written new.marks;
+}
+  where
+    unchanged : (o : Option (List Mark)) → o ≡ option_map (λ ms. ms ++ []) o
+    unchanged None = refl
+    unchanged (Some ms) = ap (λ (l : List Mark). Some l) (sym (append-nil ms))
+
+    marked : (p : Option (List (List ℕ))) (w : Option (List ℕ)) (m : Option (List Mark))
+        → IfSome p (λ ps. IfSome w (λ bytes. IfSome m (λ ms. AreMarked g k h ms (length bytes) [])))
+    marked None w m = tt
+    marked (Some ps) None m = tt
+    marked (Some ps) (Some bytes) None = tt
+    marked (Some ps) (Some bytes) (Some ms) = tt
+
+-- nothing was written
+pub keeps_up_none : {K : Type 0} (g : Ghosts K) (R : Writing → Type 0) (first k : K)
+    (h : List Stamped) (old new : Output) → new.written ≡ old.written → new.marks ≡ old.marks
+    → KeepsUp g R first old new h k
+keeps_up_none g R first k h old new bytes same =
+    by_none WritesAll g R first k h old new (bytes ∙ nothing old.written) same
+  where
+    nothing : (o : Option (List ℕ)) → o ≡ append_known o []
+    nothing None = refl
+    nothing (Some xs) = ap (λ (l : List ℕ). Some l) (sym (append-nil xs))
+
+-- all that was written is a front of itself
+pub part_of_whole : {K : Type 0} (g : Ghosts K) (R : Writing → Type 0) (first k : K)
+    (h : List Stamped) (old new : Output) → KeepsUp g R first old new h k
+    → KeepsUpInPart g R first old new h k
+part_of_whole g R first k h old new a = record {
+  writings = a.writings;
+  replies = a.replies;
+  text = (length (texts a.writings), omega arith, a.text ∙ ap (λ (l : List ℕ). append_known old.written l) (sym (take_all (length (texts a.writings)) (texts a.writings) (omega arith))));
+  more = a.more;
+  set = a.set;
+  marked = a.marked;
+}
+
+-- a reply with a mark set just before it: it acknowledges no command, or one of the history that
+-- each stop leaves since this moment
+pub keeps_up_one : (W : Option (List ℕ) → Option (List ℕ) → List ℕ → Type 0) {K : Type 0}
+    (g : Ghosts K) (R : Writing → Type 0) (first k : K) (h : List Stamped) (old new : Output)
+    (w : Writing) (moment : ℕ) → R w → W old.written new.written w.text
+    → new.marks ≡ option_map (λ ms. ms
+    ++ (record { moment = moment; written = option_map length old.written }) ∷ []) old.marks
+    → IfSome w.number (λ n. (n ≤ length h) × (moment ≤ g.keep_moment k)
+    × ((r : Result (List (List ℕ)) ℕ) → g.stopped_since k moment r → r ≡ Ok (payloads_of h)))
+    → KeepsUpBy W g R first old new h k
+keeps_up_one W g R first k h old new w moment reply wrote set leaves = record {
+  writings = w ∷ [];
+  replies = All-cons R w [] reply (All-nil R);
+  text = subst (W old.written new.written) (sym (append-nil w.text)) wrote;
+  more = mark old.written ∷ [];
+  set = set;
+  marked = marked (g.payloads first) old.written old.marks new.marks set w.number leaves;
+}
+  where
+    mark : Option (List ℕ) → Mark
+    mark o = record { moment = moment; written = option_map length o }
+
+    one : (bytes : List ℕ) (ms : List Mark) (n : ℕ) → (n ≤ length h) × (moment ≤ g.keep_moment k)
+        × ((r : Result (List (List ℕ)) ℕ) → g.stopped_since k moment r → r ≡ Ok (payloads_of h))
+        → IsMarked g k h (ms ++ mark (Some bytes) ∷ []) (length bytes) n
+    one bytes ms n is = record {
+      mark = mark (Some bytes);
+      set = among_last (mark (Some bytes)) ms;
+      written = length bytes;
+      known = refl;
+      before = omega arith;
+      past = is.1;
+      there = is.0;
+      leaves = λ r left. (length h, is.0, omega arith, is.2 r left ∙ ap (λ (l : List Stamped). Ok (payloads_of l)) (sym (take_all (length h) h (omega arith))));
+    }
+
+    each : (bytes : List ℕ) (ms : List Mark) (o : Option ℕ) → IfSome o (λ n. (n ≤ length h) × (moment ≤ g.keep_moment k)
+        × ((r : Result (List (List ℕ)) ℕ) → g.stopped_since k moment r → r ≡ Ok (payloads_of h)))
+        → IfSome o (IsMarked g k h (ms ++ mark (Some bytes) ∷ []) (length bytes))
+    each bytes ms o is = if_so _ (IsMarked g k h (ms ++ mark (Some bytes) ∷ []) (length bytes)) o (one bytes ms) is
+
+    marked : (p : Option (List (List ℕ))) (o : Option (List ℕ)) (m0 m1 : Option (List Mark)) → m1 ≡ option_map (λ ms. ms ++ mark o ∷ []) m0
+        → (number : Option ℕ) → IfSome number (λ n. (n ≤ length h) × (moment ≤ g.keep_moment k)
+        × ((r : Result (List (List ℕ)) ℕ) → g.stopped_since k moment r → r ≡ Ok (payloads_of h)))
+        → IfSome p (λ ps. IfSome o (λ bytes. IfSome m1 (λ ms. IfSome number (IsMarked g k h ms (length bytes)) × Unit {0})))
+    marked None o m0 m1 e number is = tt
+    marked (Some ps) None m0 m1 e number is = tt
+    marked (Some ps) (Some bytes) None m1 e number is =
+        subst (λ (o : Option (List Mark)). IfSome o (λ ms. IfSome number (IsMarked g k h ms (length bytes)) × Unit {0})) (sym e) tt
+    marked (Some ps) (Some bytes) (Some ms) m1 e number is =
+        subst (λ (o : Option (List Mark)). IfSome o (λ ms. IfSome number (IsMarked g k h ms (length bytes)) × Unit {0})) (sym e) (each bytes ms number is, tt)
