@@ -74,8 +74,8 @@ fn serve_piece<K: Keeper, C: Connection, T: Clock>(
         (output_of ⟦<C as Sink>⟧ conn.old) (output_of ⟦<C as Sink>⟧ conn.new) after) }
     ensures keeps_up_to { IfErr result (λ e. TurnsKeepUp ⟦<K as Keeper>⟧
         (point ⟦<C as Sink>⟧ ⟦<T as Clock>⟧ conn.old clock.old service.state) service.keeper
-        (fed reader.old piece.now) (output_of ⟦<C as Sink>⟧ conn.old) (output_of ⟦<C as Sink>⟧ conn.new)
-        (T.moments clock.new) e) }
+        (fed reader.old piece.now) (output_of ⟦<C as Sink>⟧ conn.old)
+        (output_of ⟦<C as Sink>⟧ conn.new) (T.moments clock.new) e) }
     ensures failed { IfErr result (λ e. e.0 ≡ Ended.Failed
         → Rose (C.write_faults conn.old) (C.write_faults conn.new)) }
     ensures left { C.left conn.new ≡ C.left conn.old }
@@ -170,8 +170,8 @@ fn serve_bytes<K: Keeper, C: Connection, T: Clock>(
         (C.left conn.old) (C.left conn.new) (C.written conn.new) (T.moments clock.new) result }
     ensures keeps_up { SessionKeepsUp ⟦<K as Keeper>⟧
         (point ⟦<C as Sink>⟧ ⟦<T as Clock>⟧ conn.old clock.old service.state) service.keeper
-        (C.left conn.old) (C.left conn.new) (output_of ⟦<C as Sink>⟧ conn.old) (output_of ⟦<C as Sink>⟧ conn.new)
-        (T.moments clock.new) result }
+        (C.left conn.old) (C.left conn.new) (output_of ⟦<C as Sink>⟧ conn.old)
+        (output_of ⟦<C as Sink>⟧ conn.new) (T.moments clock.new) result }
     ensures failed { result.0 ≡ Ended.Failed
         → Rose (C.read_faults conn.old) (C.read_faults conn.new)
         ⊎ Rose (C.write_faults conn.old) (C.write_faults conn.new) }
@@ -209,8 +209,8 @@ pub(crate) fn serve_routed<K: Keeper, C: Connection, T: Clock>(
         (C.left conn.old) (C.left conn.new) (C.written conn.new) (T.moments clock.new) result }
     ensures keeps_up { SessionKeepsUp ⟦<K as Keeper>⟧
         (point ⟦<C as Sink>⟧ ⟦<T as Clock>⟧ conn.old clock.old service.state) service.keeper
-        (C.left conn.old) (C.left conn.new) (output_of ⟦<C as Sink>⟧ conn.old) (output_of ⟦<C as Sink>⟧ conn.new)
-        (T.moments clock.new) result }
+        (C.left conn.old) (C.left conn.new) (output_of ⟦<C as Sink>⟧ conn.old)
+        (output_of ⟦<C as Sink>⟧ conn.new) (T.moments clock.new) result }
     ensures failed { result.0 ≡ Ended.Failed
         → Rose (C.read_faults conn.old) (C.read_faults conn.new)
         ⊎ Rose (C.write_faults conn.old) (C.write_faults conn.new) }
@@ -238,8 +238,8 @@ pub fn serve_connection<K: Keeper, C: Connection, T: Clock>(
         (C.left conn.old) (C.left conn.new) (C.written conn.new) (T.moments clock.new) result }
     ensures keeps_up { SessionKeepsUp ⟦<K as Keeper>⟧
         (point ⟦<C as Sink>⟧ ⟦<T as Clock>⟧ conn.old clock.old service.state) service.keeper
-        (C.left conn.old) (C.left conn.new) (output_of ⟦<C as Sink>⟧ conn.old) (output_of ⟦<C as Sink>⟧ conn.new)
-        (T.moments clock.new) result }
+        (C.left conn.old) (C.left conn.new) (output_of ⟦<C as Sink>⟧ conn.old)
+        (output_of ⟦<C as Sink>⟧ conn.new) (T.moments clock.new) result }
     ensures failed { result.0 ≡ Ended.Failed
         → Rose (C.read_faults conn.old) (C.read_faults conn.new)
         ⊎ Rose (C.write_faults conn.old) (C.write_faults conn.new) }
