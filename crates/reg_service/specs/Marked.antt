@@ -7,14 +7,25 @@ use Rattle.std.proofs.Common.{length-append}
 use Rattle.std.proofs.lemmas.List.{take_all, take-append-le}
 use Rattle.std.proofs.lemmas.List.Elements.{All-append, All-nil, All-cons}
 use Rattle.reg_outside.specs.Disk.{Leaves}
-use Rattle.reg_outside.specs.Marks.{Mark}
+use Rattle.reg_outside.specs.Marks.{Mark, marked}
 use Rattle.reg_outside.specs.Streams.{WritesFront}
 use Rattle.reg_terms.specs.declared.command.Stamped.{Stamped}
+use Rattle.reg_terms.specs.declared.refusal.Refusal.{Refusal}
+use Rattle.reg_terms.specs.declared.request.Request.{Request}
+use Rattle.reg_terms.specs.declared.reply.Reply.{Reply}
+use Rattle.reg_terms.specs.declared.reply.Reply.TheVariants as reply
+use Rattle.reg_machine.specs.History.{State}
 use Rattle.reg_keep.specs.declared.keeper.Keeper.{Ghosts}
-use Rattle.reg_service.specs.Opening.{payloads_of}
-use Rattle.reg_service.specs.Kept.{KeptOn, IsBetween}
+use Rattle.reg_service.specs.Opening.{payloads_of, Served}
+use Rattle.reg_service.specs.Kept.{KeptOn, IsBetween, keeper_of}
+use Rattle.reg_service.specs.Turn.{Follows, GoesOn, KeepsHistory, last_reply}
+use Rattle.reg_service.specs.declared.service.Cause.{Cause}
+use Rattle.reg_service.specs.declared.service.Cause.TheVariants as cause
+use Rattle.reg_service.specs.declared.service.Next.{Next}
+use Rattle.reg_service.specs.declared.service.Next.TheVariants as next
 use Rattle.reg_service.specs.Marks.{Writing, texts, LeavesAtLeast, IsAmong, IsMarked, AtEach}
 use Rattle.reg_service.specs.Marks.{AreMarked, Output, WritesAll, KeepsUpBy, KeepsUp, KeepsUpInPart}
+use Rattle.reg_service.specs.Marks.{number_of, LeavesSince, IsNumbered}
 
 among_front : (mark : Mark) (ms ns : List Mark) → IsAmong mark ms → IsAmong mark (ms ++ ns)
 among_front mark [] ns is = absurd is
@@ -177,19 +188,19 @@ by_none W g R first k h old new none same = record {
   text = none;
   more = [];
   set = same ∙ unchanged old.marks;
-  marked = marked (g.payloads first) old.written new.marks;
+  marked = all (g.payloads first) old.written new.marks;
 }
   where
     unchanged : (o : Option (List Mark)) → o ≡ option_map (λ ms. ms ++ []) o
     unchanged None = refl
     unchanged (Some ms) = ap (λ (l : List Mark). Some l) (sym (append-nil ms))
 
-    marked : (p : Option (List (List ℕ))) (w : Option (List ℕ)) (m : Option (List Mark))
+    all : (p : Option (List (List ℕ))) (w : Option (List ℕ)) (m : Option (List Mark))
         → IfSome p (λ ps. IfSome w (λ bytes. IfSome m (λ ms. AreMarked g k h ms (length bytes) [])))
-    marked None w m = tt
-    marked (Some ps) None m = tt
-    marked (Some ps) (Some bytes) None = tt
-    marked (Some ps) (Some bytes) (Some ms) = tt
+    all None w m = tt
+    all (Some ps) None m = tt
+    all (Some ps) (Some bytes) None = tt
+    all (Some ps) (Some bytes) (Some ms) = tt
 
 -- nothing was written
 pub keeps_up_none : {K : Type 0} (g : Ghosts K) (R : Writing → Type 0) (first k : K)
@@ -215,30 +226,31 @@ part_of_whole g R first k h old new a = record {
   marked = a.marked;
 }
 
--- a reply with a mark set just before it: it acknowledges no command, or one of the history that
--- each stop leaves since this moment
+-- a command of this history, which each stop leaves since this moment, that has come
+abbrev pub IsLeft : {K : Type 0} → Ghosts K → K → List Stamped → ℕ → ℕ → Type 0
+IsLeft g k h moment n =
+    (n ≤ length h) × (moment ≤ g.keep_moment k)
+    × ((r : Result (List (List ℕ)) ℕ) → g.stopped_since k moment r → r ≡ Ok (payloads_of h))
+
+-- a reply with a mark set just before it
 pub keeps_up_one : (W : Option (List ℕ) → Option (List ℕ) → List ℕ → Type 0) {K : Type 0}
     (g : Ghosts K) (R : Writing → Type 0) (first k : K) (h : List Stamped) (old new : Output)
     (w : Writing) (moment : ℕ) → R w → W old.written new.written w.text
-    → new.marks ≡ option_map (λ ms. ms
-    ++ (record { moment = moment; written = option_map length old.written }) ∷ []) old.marks
-    → IfSome w.number (λ n. (n ≤ length h) × (moment ≤ g.keep_moment k)
-    × ((r : Result (List (List ℕ)) ℕ) → g.stopped_since k moment r → r ≡ Ok (payloads_of h)))
-    → KeepsUpBy W g R first old new h k
+    → new.marks ≡ option_map (marked moment old.written) old.marks
+    → IfSome w.number (IsLeft g k h moment) → KeepsUpBy W g R first old new h k
 keeps_up_one W g R first k h old new w moment reply wrote set leaves = record {
   writings = w ∷ [];
   replies = All-cons R w [] reply (All-nil R);
   text = subst (W old.written new.written) (sym (append-nil w.text)) wrote;
   more = mark old.written ∷ [];
   set = set;
-  marked = marked (g.payloads first) old.written old.marks new.marks set w.number leaves;
+  marked = all (g.payloads first) old.written old.marks new.marks set w.number leaves;
 }
   where
     mark : Option (List ℕ) → Mark
     mark o = record { moment = moment; written = option_map length o }
 
-    one : (bytes : List ℕ) (ms : List Mark) (n : ℕ) → (n ≤ length h) × (moment ≤ g.keep_moment k)
-        × ((r : Result (List (List ℕ)) ℕ) → g.stopped_since k moment r → r ≡ Ok (payloads_of h))
+    one : (bytes : List ℕ) (ms : List Mark) (n : ℕ) → IsLeft g k h moment n
         → IsMarked g k h (ms ++ mark (Some bytes) ∷ []) (length bytes) n
     one bytes ms n is = record {
       mark = mark (Some bytes);
@@ -251,18 +263,71 @@ keeps_up_one W g R first k h old new w moment reply wrote set leaves = record {
       leaves = λ r left. (length h, is.0, omega arith, is.2 r left ∙ ap (λ (l : List Stamped). Ok (payloads_of l)) (sym (take_all (length h) h (omega arith))));
     }
 
-    each : (bytes : List ℕ) (ms : List Mark) (o : Option ℕ) → IfSome o (λ n. (n ≤ length h) × (moment ≤ g.keep_moment k)
-        × ((r : Result (List (List ℕ)) ℕ) → g.stopped_since k moment r → r ≡ Ok (payloads_of h)))
+    each : (bytes : List ℕ) (ms : List Mark) (o : Option ℕ) → IfSome o (IsLeft g k h moment)
         → IfSome o (IsMarked g k h (ms ++ mark (Some bytes) ∷ []) (length bytes))
-    each bytes ms o is = if_so _ (IsMarked g k h (ms ++ mark (Some bytes) ∷ []) (length bytes)) o (one bytes ms) is
+    each bytes ms o is = if_so (IsLeft g k h moment) (IsMarked g k h (ms ++ mark (Some bytes) ∷ []) (length bytes)) o (one bytes ms) is
 
-    marked : (p : Option (List (List ℕ))) (o : Option (List ℕ)) (m0 m1 : Option (List Mark)) → m1 ≡ option_map (λ ms. ms ++ mark o ∷ []) m0
-        → (number : Option ℕ) → IfSome number (λ n. (n ≤ length h) × (moment ≤ g.keep_moment k)
-        × ((r : Result (List (List ℕ)) ℕ) → g.stopped_since k moment r → r ≡ Ok (payloads_of h)))
+    all : (p : Option (List (List ℕ))) (o : Option (List ℕ)) (m0 m1 : Option (List Mark)) → m1 ≡ option_map (marked moment o) m0
+        → (number : Option ℕ) → IfSome number (IsLeft g k h moment)
         → IfSome p (λ ps. IfSome o (λ bytes. IfSome m1 (λ ms. IfSome number (IsMarked g k h ms (length bytes)) × Unit {0})))
-    marked None o m0 m1 e number is = tt
-    marked (Some ps) None m0 m1 e number is = tt
-    marked (Some ps) (Some bytes) None m1 e number is =
+    all None o m0 m1 e number is = tt
+    all (Some ps) None m0 m1 e number is = tt
+    all (Some ps) (Some bytes) None m1 e number is =
         subst (λ (o : Option (List Mark)). IfSome o (λ ms. IfSome number (IsMarked g k h ms (length bytes)) × Unit {0})) (sym e) tt
-    marked (Some ps) (Some bytes) (Some ms) m1 e number is =
+    all (Some ps) (Some bytes) (Some ms) m1 e number is =
         subst (λ (o : Option (List Mark)). IfSome o (λ ms. IfSome number (IsMarked g k h ms (length bytes)) × Unit {0})) (sym e) (each bytes ms number is, tt)
+
+-- SCRATCH CUT
+-- a reply with a mark set just before it, of a service that goes on
+pub keeps_up_go : (W : Option (List ℕ) → Option (List ℕ) → List ℕ → Type 0) {K : Type 0}
+    (g : Ghosts K) (R : Writing → Type 0) (first : K) (old new : Output) (told : Reply)
+    (text : List ℕ) (moment : ℕ) (n : Next K) (s : Served K)
+    → R (record { text = text; number = number_of told }) → W old.written new.written text
+    → new.marks ≡ option_map (marked moment old.written) old.marks
+    → moment ≡ g.keep_moment (keeper_of n) → LeavesSince g moment n → IsNumbered told n
+    → n ≡ next.Go s → KeepsUpBy W g R first old new s.state.history s.keeper
+keeps_up_go W {K = K} g R first old new told text moment n s reply wrote set now leaves numbered is =
+    keeps_up_one W g R first s.keeper s.state.history old new
+    (record { text = text; number = number_of told }) moment reply wrote set
+    (if_so (λ k. k ≤ length s.state.history) (IsLeft g s.keeper s.state.history moment) (number_of told)
+    (λ k there. (there, omega (arith, at), since)) (subst (IsNumbered told) is numbered))
+  where
+    at : moment ≡ g.keep_moment s.keeper
+    at = now ∙ ap (λ (m : Next K). g.keep_moment (keeper_of m)) is
+
+    since : (r : Result (List (List ℕ)) ℕ) → g.stopped_since s.keeper moment r
+        → r ≡ Ok (payloads_of s.state.history)
+    since = subst (LeavesSince g moment) is leaves
+
+-- of one that stopped, whatever its keeper has
+pub keeps_up_stop : (W : Option (List ℕ) → Option (List ℕ) → List ℕ → Type 0) {K : Type 0}
+    (g : Ghosts K) (R : Writing → Type 0) (first : K) (old new : Output) (told : Reply)
+    (text : List ℕ) (moment : ℕ) (n : Next K) (why : Cause) (k keeper : K) (h : List Stamped)
+    → R (record { text = text; number = number_of told }) → W old.written new.written text
+    → new.marks ≡ option_map (marked moment old.written) old.marks → IsNumbered told n
+    → n ≡ next.Stop why k → KeepsUpBy W g R first old new h keeper
+keeps_up_stop W g R first old new told text moment n why k keeper h reply wrote set numbered is =
+    let none : number_of told ≡ None = subst (IsNumbered told) is numbered in
+    keeps_up_one W g R first keeper h old new (record { text = text; number = number_of told })
+    moment reply wrote set (subst (λ (o : Option ℕ). IfSome o (IsLeft g keeper h moment)) (sym none) tt)
+
+stopped_numbers : (why : Cause) → number_of (last_reply why) ≡ None
+stopped_numbers cause.Memory = refl
+stopped_numbers cause.Disk = refl
+
+going_numbers : (s : State) (told : Reply) (after : State) → KeepsHistory s told after
+    → IfSome (number_of told) (λ n. n ≤ length after.history)
+going_numbers s (reply.Number n id) after h = omega (arith, h.2)
+going_numbers s (reply.Loaded n counts) after h = omega (arith, h.2)
+going_numbers s (reply.Answer a) after h = tt
+going_numbers s (reply.Refused r) after h = tt
+going_numbers s reply.NoMemory after h = tt
+going_numbers s reply.KeepFault after h = tt
+
+-- a request's reply tells no number but that of a command of the history
+pub numbered_by : {K : Type 0} (s : State) (m : ℕ) (reading : Result Request Refusal)
+    (told : Reply) (n : Next K) → Follows s m reading (told, n) → GoesOn s m (told, n)
+    → IsNumbered told n
+numbered_by s m reading told (next.Go after) follows on = going_numbers s told after.state on.0
+numbered_by s m reading told (next.Stop why keeper) follows on =
+    ap number_of follows ∙ stopped_numbers why
