@@ -18,8 +18,7 @@ use Rattle.reg_view.specs.AtClock.{told}
 use Rattle.reg_service.specs.Turn.{AsksNoChange, IsQuery, answered, at_moment, requested, turn}
 use Rattle.reg_session.specs.Answered.{Point}
 use Rattle.reg_session.specs.Lines.{lines, IsCutAtLineFeeds}
-use Rattle.reg_session.specs.Marks.{IsLine}
-use Rattle.reg_session.specs.Replies.{line_of}
+use Rattle.reg_session.specs.Replies.{IsLine, line_of}
 use Rattle.reg_session.specs.Input.{EndsInput, StopsInput, Takes}
 use Rattle.reg_session.specs.declared.stop.Stop.{Stop}
 use Rattle.reg_session.specs.declared.stop.Stop.TheVariants as stop

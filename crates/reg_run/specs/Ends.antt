@@ -19,8 +19,7 @@ use Rattle.reg_keep.specs.declared.open.OpenFault.TheVariants as fault
 use Rattle.reg_service.specs.Opening.{at_last}
 use Rattle.reg_service.specs.Turn.{turn}
 use Rattle.reg_session.specs.Lines.{lines, IsCutAtLineFeeds}
-use Rattle.reg_session.specs.Marks.{IsLine}
-use Rattle.reg_session.specs.Replies.{line_of}
+use Rattle.reg_session.specs.Replies.{IsLine, line_of}
 use Rattle.reg_session.specs.Answered.{Point, Accepted}
 use Rattle.reg_session.specs.Input.{Takes, EndsInput}
 use Rattle.reg_session.specs.declared.stop.Stop.{Stop}

@@ -2,7 +2,7 @@ use Rattle.std.proofs.Common.{refl, ap, inl, inr, arith, ◌-◌, length, option
 use Rattle.reg_keep.specs.JournalWords.{disk_of}
 use Rattle.reg_keep.specs.Keeping.{kept_in}
 use Rattle.reg_service.specs.Marked.{part_of_whole}
-use Rattle.reg_session.specs.Marks.{IsLine}
+use Rattle.reg_session.specs.Replies.{IsLine}
 use Rattle.reg_run.proofs.Crashing.{untouched_same, survives_kept, stops_whole, stops_halted, no_shorter, answered_front}
 use Rattle.reg_run.specs.Ends.{end_of_stop}
 use Rattle.reg_run.specs.declared.status.End.TheVariants as the_end
@@ -49,7 +49,7 @@ returns-in-Err-answer_input-clause-did g c n =
     let from = c.in-Ok.service.state in
     let mid = disk_of c.in-Ok.service.keeper in
     let new = disk_of c.in-Err-answer_input.keeper in
-    let s = c.in-Err-answer_input.ensures.keeps_up_err.0 in
+    let s = c.in-Err-answer_input.ensures.keeps_up_to.0 in
     let h = s.halted in
     rw (c.into_disk.ensures, c.end_of_stop.ensures) (inr (
       from,
@@ -61,5 +61,5 @@ returns-in-Err-answer_input-clause-did g c n =
           h.kept.grown h.first h.last (whole_stop _ _ _ _ _ _ _ _ _ _ s) (stops_halted from.history h.answered h.after c.in-Ok.service.keeper c.in-Err-answer_input.keeper h.kept.crash h.stopped))
           (disk_keeps_up _ g.D.Disk IsLine c.in-Ok.service.keeper c.in-Err-answer_input.keeper c.args.disk new _ _ from.history h.kept.more h.after h.kept.grown
           (stopped_fronts _ _ h.answered h.after _ h.stopped) (record { moment = refl; stops = λ t r s. s }) (ap (option_map kept_in) c.in-Ok.ensures.same)
-          c.in-Err-answer_input.ensures.keeps_up_err.1),
+          c.in-Err-answer_input.ensures.keeps_up_to.1),
     ))
