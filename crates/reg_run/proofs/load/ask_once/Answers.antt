@@ -22,7 +22,7 @@ returns-in-Go-clause-asked g c told reads =
         printed = c.print_marked-end.ensures.printed;
         sure = c.print_marked-end.ensures.sure;
       },
-      subst (λ (k : g.J.Self). KeepsUpInPart g.J.Keeper IsLine c.args.service.keeper (output_of g.K.Sink c.args.out.now) (output_of g.K.Sink c.print_marked-end.new.out) c.in-Go.service.state.history k) (sym c.into_keeper.ensures.keeper)
+      subst (λ (k : _). KeepsUpInPart g.J.Keeper IsLine c.args.service.keeper (output_of g.K.Sink c.args.out.now) (output_of g.K.Sink c.print_marked-end.new.out) c.in-Go.service.state.history k) (sym c.into_keeper.ensures.keeper)
           (go_keeps_up g.J.Keeper c.args.service.keeper c.turn-reply.result.1 c.in-Go.service c.turn-reply.result.0 _ _ c.in-Go.is c.turn-reply.ensures.numbered c.print_marked-end.ensures.leaves
           (printed_front _ _ _ _ _ c.print_marked-end.ensures.printed) c.print_marked-end.ensures.marks),
     )
