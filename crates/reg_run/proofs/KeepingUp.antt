@@ -12,7 +12,7 @@ use Rattle.reg_keep.specs.Frames.{opened, payloads_in}
 use Rattle.reg_keep.specs.Keeping.{kept_in}
 use Rattle.reg_keep.specs.Stops.{Stop}
 use Rattle.reg_keep.specs.declared.keeper.Keeper as keeper
-use Rattle.reg_service.specs.Kept.{Stopped, keeper_of}
+use Rattle.reg_service.specs.Kept.{Halted, Stopped, keeper_of}
 use Rattle.reg_service.specs.Marked.{keeps_up_one}
 use Rattle.reg_service.specs.Marks.{AreMarked, AtEach, IsMarked, IsNumbered, KeepsUpInPart, LeavesAtLeast, LeavesSince, Output, Writing, number_of}
 use Rattle.reg_service.specs.Opening.{FrontsReopen, Served, payloads_of}
@@ -73,10 +73,9 @@ if_both None so x y = tt
 if_both (Some a) so x y = so x y
 
 -- an output keeps up with the disk of a keeper, whose history goes on from an earlier one
-pub disk_keeps_up : {K D : Type 0} (j : keeper.Ghosts K) (g : Ghosts D) (R : Writing → Type 0) (first k : K) (old new : D) (out after : Output) (before more history : List Stamped) → history ≡ before ++ more
-    → IfSome (j.payloads first) (λ ps. FrontsReopen history) → StandsOn j g k new → j.payloads first ≡ option_map kept_in (g.contents old) → KeepsUpInPart j R first out after history k
-    → DiskKeepsUp (seen g old new) (before ++ more) R out after
-disk_keeps_up j g R first k old new out after before more history grown again on told a =
+pub disk_keeps_up : {K D : Type 0} (j : keeper.Ghosts K) (g : Ghosts D) (R : Writing → Type 0) (first k : K) (old new : D) (out after : Output) (before more history : List Stamped) → KeepsUpInPart j R first out after history k
+    → history ≡ before ++ more → IfSome (j.payloads first) (λ ps. FrontsReopen history) → StandsOn j g k new → j.payloads first ≡ option_map kept_in (g.contents old) → DiskKeepsUp (seen g old new) (before ++ more) R out after
+disk_keeps_up j g R first k old new out after before more history a grown again on told =
     subst (λ (h : List Stamped). DiskKeepsUp (seen g old new) h R out after) grown (where_told _ (g.contents old) (j.payloads first) told (if_both (j.payloads first) run again a.marked))
   where
     run : FrontsReopen history → IfSome out.written (λ bytes. IfSome after.marks (λ ms. AreMarked j k history ms (length bytes) a.writings)) → KeepsUp (seen g old new) history R out after
@@ -92,9 +91,13 @@ pub sure_fronts : (told : Option (List (List ℕ))) (history : List Stamped) →
 sure_fronts None history again = tt
 sure_fronts (Some ps) history again = again
 
-pub stopped_fronts : {K : Type 0} (j : keeper.Ghosts K) (told : Option (List (List ℕ))) (answered after : List Stamped) (k : K) → IfSome told (λ ps. Stopped j answered after k) → IfSome told (λ ps. FrontsReopen after)
-stopped_fronts j None answered after k s = tt
-stopped_fronts j (Some ps) answered after k s = s.0
+-- and where it stopped
+pub halted_fronts : {K : Type 0} (j : keeper.Ghosts K) (before : List Stamped) (old k : K) (h : Halted j before old k) → IfSome (j.payloads old) (λ ps. FrontsReopen h.after)
+halted_fronts j before old k h = fronts (j.payloads old) h.stopped
+  where
+    fronts : (told : Option (List (List ℕ))) → IfSome told (λ ps. Stopped j h.answered h.after k) → IfSome told (λ ps. FrontsReopen h.after)
+    fronts None s = tt
+    fronts (Some ps) s = s.0
 
 -- ---- one reply
 

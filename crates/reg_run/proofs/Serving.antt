@@ -63,11 +63,11 @@ if_err_so (Ok x) so is = tt
 if_err_so (Err e) so is = so e is
 
 -- each connection keeps up with the disk of a keeper
-pub visits_keep_up : {K D : Type 0} (j : Ghosts K) (g : disk.Ghosts D) (first k : K) (old new : D) (told later : Option Connections) (visits : List Visit) (before more history : List Stamped) → history ≡ before ++ more
-    → IfSome (j.payloads first) (λ ps. FrontsReopen history) → StandsOn j g k new → j.payloads first ≡ option_map kept_in (g.contents old) → Visits told later visits → VisitsKeepUp j first history k visits
+pub visits_keep_up : {K D : Type 0} (j : Ghosts K) (g : disk.Ghosts D) (first k : K) (old new : D) (told later : Option Connections) (visits : List Visit) (before more history : List Stamped) → VisitsKeepUp j first history k visits → Visits told later visits
+    → history ≡ before ++ more → IfSome (j.payloads first) (λ ps. FrontsReopen history) → StandsOn j g k new → j.payloads first ≡ option_map kept_in (g.contents old)
     → ConnectionsKeepUp (seen g old new) (before ++ more) told later
-visits_keep_up j g first k old new told later visits before more history grown again on same are a =
-    run (g.contents old) _ (λ i v within. disk_keeps_up j g IsResponse first k old new _ _ before more history grown again on same (a i v within))
+visits_keep_up j g first k old new told later visits before more history a are grown again on same =
+    run (g.contents old) _ (λ i v within. disk_keeps_up j g IsResponse first k old new _ _ before more history (a i v within) grown again on same)
   where
     run : (held : Option (List ℕ)) (P : Visit → Type 0) → All (λ v. IfSome held (λ file. P v)) visits → IfSome held (λ file. (vs : List Visit) × Visits told later vs × All P vs)
     run None P all = tt

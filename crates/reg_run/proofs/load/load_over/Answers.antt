@@ -3,7 +3,7 @@ use Rattle.reg_keep.specs.JournalWords.{disk_of}
 use Rattle.reg_keep.specs.Keeping.{kept_in}
 use Rattle.reg_session.specs.Replies.{IsLine}
 use Rattle.reg_run.proofs.Crashing.{untouched_same, survives_kept, stops_halted, answered_front}
-use Rattle.reg_run.proofs.KeepingUp.{disk_keeps_up, stopped_fronts}
+use Rattle.reg_run.proofs.KeepingUp.{disk_keeps_up, halted_fronts}
 use Rattle.reg_run.proofs.Loading.{load_did, load_ends, load_whole}
 use Rattle.reg_run.specs.World.{World, world}
 use Rattle.reg_run.proofs.load.load_over.Goals as goal
@@ -43,7 +43,7 @@ returns-in-Ok-clause-did g c n =
         net = refl;
         disk = survives_kept g.D.Disk from.history h.answered h.after h.kept.more _ c.args.disk mid new c.in-Ok.ensures.crash (g.met.D.Disk.only_now c.args.disk) c.in-Ok.ensures.same (g.met.D.Disk.reads_now new)
             h.kept.grown h.first h.last (load_whole from c.args.job.now l.taken _ _ _ _ _ _ _ c.load-end.result.0 h.answered h.after l.ends) (stops_halted from.history h.answered h.after c.in-Ok.service.keeper c.load-end.result.1 h.kept.crash h.stopped);
-        keeps_up = disk_keeps_up _ g.D.Disk IsLine c.in-Ok.service.keeper c.load-end.result.1 c.args.disk new _ _ from.history h.kept.more h.after h.kept.grown (stopped_fronts _ _ h.answered h.after _ h.stopped)
-            (record { moment = refl; stops = λ t r s. s }) (ap (option_map kept_in) c.in-Ok.ensures.same) c.load-end.ensures.1;
+        keeps_up = disk_keeps_up _ g.D.Disk IsLine c.in-Ok.service.keeper c.load-end.result.1 c.args.disk new _ _ from.history h.kept.more h.after
+            c.load-end.ensures.1 h.kept.grown (halted_fronts _ _ _ _ h) (record { moment = refl; stops = λ t r s. s }) (ap (option_map kept_in) c.in-Ok.ensures.same);
       },
     ))
