@@ -179,6 +179,53 @@ pub part_keeps_up_then : {K : Type 0} (g : Ghosts K) (R : Writing → Type 0)
 part_keeps_up_then g R h0 h1 h2 k0 k1 k2 o0 o1 o2 x y a b =
     then_by WritesFront g R h0 h1 h2 k0 k1 k2 o0 o1 o2 (part_then o0.written o1.written o2.written) x y a b
 
+-- the same output, at a later moment
+pub keeps_up_later : (W : Option (List ℕ) → Option (List ℕ) → List ℕ → Type 0) {K : Type 0}
+    (g : Ghosts K) (R : Writing → Type 0) (h0 h1 h2 : List Stamped) (k0 k1 k2 : K)
+    (old new : Output) → KeptOn g h0 k0 h1 k1 → KeptOn g h1 k1 h2 k2
+    → KeepsUpBy W g R k0 old new h1 k1 → KeepsUpBy W g R k0 old new h2 k2
+keeps_up_later W g R h0 h1 h2 k0 k1 k2 old new x y a = record {
+  writings = a.writings;
+  replies = a.replies;
+  text = a.text;
+  more = a.more;
+  set = a.set;
+  marked = later (g.payloads k0) (g.payloads k1) old.written new.marks x.told y.crash a.marked;
+}
+  where
+    later : (p0 p1 : Option (List (List ℕ))) (w : Option (List ℕ)) (m : Option (List Mark))
+        → IfSome p0 (λ ps. is_some p1 ≡ true)
+        → IfSome p1 (λ ps. Leaves g.keep_moment g.stopped_since (IsBetween h1 h2) k1 k2)
+        → IfSome p0 (λ ps. IfSome w (λ bytes. IfSome m (λ ms. AreMarked g k1 h1 ms (length bytes) a.writings)))
+        → IfSome p0 (λ ps. IfSome w (λ bytes. IfSome m (λ ms. AreMarked g k2 h2 ms (length bytes) a.writings)))
+    later None p1 w m told l f = tt
+    later (Some ps) None w m told l f = absurd (cc)
+    later (Some ps) (Some qs) None m told l f = tt
+    later (Some ps) (Some qs) (Some bytes) None told l f = tt
+    later (Some ps) (Some qs) (Some bytes) (Some ms) told l f =
+        subst (λ (ns : List Mark). AreMarked g k2 h2 ns (length bytes) a.writings) (append-nil ms)
+        (are_later g k1 k2 h1 h2 y.more ms [] (length bytes) a.writings y.grown l f)
+
+-- the same output, looked at from an earlier moment on
+pub keeps_up_sooner : (W : Option (List ℕ) → Option (List ℕ) → List ℕ → Type 0) {K : Type 0}
+    (g : Ghosts K) (R : Writing → Type 0) (h0 h1 h2 : List Stamped) (k0 k1 k2 : K)
+    (old new : Output) → KeptOn g h0 k0 h1 k1 → KeepsUpBy W g R k1 old new h2 k2
+    → KeepsUpBy W g R k0 old new h2 k2
+keeps_up_sooner W g R h0 h1 h2 k0 k1 k2 old new x a = record {
+  writings = a.writings;
+  replies = a.replies;
+  text = a.text;
+  more = a.more;
+  set = a.set;
+  marked = sooner _ (g.payloads k0) (g.payloads k1) x.told a.marked;
+}
+  where
+    sooner : (P : Type 0) (p0 p1 : Option (List (List ℕ))) → IfSome p0 (λ ps. is_some p1 ≡ true)
+        → IfSome p1 (λ ps. P) → IfSome p0 (λ ps. P)
+    sooner P None p1 told f = tt
+    sooner P (Some ps) None told f = absurd (cc)
+    sooner P (Some ps) (Some qs) told f = f
+
 by_none : (W : Option (List ℕ) → Option (List ℕ) → List ℕ → Type 0) {K : Type 0} (g : Ghosts K)
     (R : Writing → Type 0) (first k : K) (h : List Stamped) (old new : Output)
     → W old.written new.written [] → new.marks ≡ old.marks → KeepsUpBy W g R first old new h k
@@ -277,7 +324,6 @@ keeps_up_one W g R first k h old new w moment reply wrote set leaves = record {
     all (Some ps) (Some bytes) (Some ms) m1 e number is =
         subst (λ (o : Option (List Mark)). IfSome o (λ ms. IfSome number (IsMarked g k h ms (length bytes)) × Unit {0})) (sym e) (each bytes ms number is, tt)
 
--- SCRATCH CUT
 -- a reply with a mark set just before it, of a service that goes on
 pub keeps_up_go : (W : Option (List ℕ) → Option (List ℕ) → List ℕ → Type 0) {K : Type 0}
     (g : Ghosts K) (R : Writing → Type 0) (first : K) (old new : Output) (told : Reply)
