@@ -154,7 +154,7 @@ ends_behind g k0 k1 p q old mid w ms e served kept r = record {
 
 -- ---- the connection as a whole
 
-abbrev FedLaw : Type 0
+abbrev pub FedLaw : Type 0
 FedLaw = (bytes piece : List ℕ) (calls : List Call) (reading : Reading) → HasGiven bytes calls reading → HasGiven (bytes ++ piece) calls (fed reading piece)
 
 takes_none : (left : Option (List ℕ)) → Takes left [] left

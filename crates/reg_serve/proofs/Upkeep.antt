@@ -1,7 +1,8 @@
 -- That the responses of a connection keep up, from message to message.
-use Rattle.std.proofs.Common.{◌≡◌, ◌≤◌, ◌++◌, ◌∷◌, [], List, ℕ, Bool, Option, Some, None, Result, Ok, Err, refl, ap, sym, subst, ◌∙◌, inl, inr, ◌⊎◌, arith, length, option_map, append-nil}
+use Rattle.std.proofs.Common.{◌≡◌, ◌≤◌, ◌+◌, ◌^◌, ◌++◌, ◌∷◌, [], List, ℕ, Bool, Option, Some, None, Result, Ok, Err, refl, ap, sym, subst, ◌∙◌, inl, inr, ◌⊎◌, arith, length, option_map, append-nil}
 use Rattle.std.specs.Prelude.{IfSome, IfOk, IfErr}
-use Rattle.std.specs.Io.KnownBytes.{append_known}
+use Rattle.std.specs.Io.KnownBytes.{append_known, prepend_known}
+use Rattle.std.proofs.lemmas.List.{take_all}
 use Rattle.std.proofs.lemmas.List.Elements.{All-nil, All-cons}
 use Rattle.reg_outside.specs.Marks.{Mark, marked}
 use Rattle.reg_outside.specs.Streams.{WritesFront}
@@ -44,7 +45,7 @@ use Rattle.reg_calls.specs.declared.asked.Asked.{Asked}
 use Rattle.reg_serve.specs.Answered.{MayReply, Outcome, Question, goes, last_response, reads, refuses, stops}
 use Rattle.reg_serve.specs.Keeping.{IsLeft, TurnLeaves}
 use Rattle.reg_serve.specs.KeepingUp.{IsResponse, KeepsUpOn, KeepsUpTo, ReadKeepsUp, SessionKeepsUp, TurnKeepsUp, TurnsKeepUp}
-use Rattle.reg_serve.specs.Sent.{Finishes}
+use Rattle.reg_serve.specs.Sent.{Finishes, SentFault, SentFaultFront}
 use Rattle.reg_serve.specs.Sessions.{HasServed, Serves}
 use Rattle.reg_serve.specs.declared.ended.Ended.{Ended}
 use Rattle.reg_serve.specs.declared.ended.Ended.TheVariants as ended
@@ -103,22 +104,23 @@ may_of s after (reads reading) at given m = turns_of s after m.0 reading given m
 response : (a : Asked) (close : Bool) (shown : Reply) → IsResponse (record { text = response_to a close shown; number = number_of shown })
 response a close shown = record { told = shown; numbered = refl; text = inl (a, close, refl) }
 
--- each stop since this moment leaves the history of a service
-abbrev IsKept : {K : Type 0} → Ghosts K → Served K → Type 0
-IsKept g s = (r : Result (List (List ℕ)) ℕ) → g.stopped_since s.keeper (g.keep_moment s.keeper) r → r ≡ Ok (payloads_of s.state.history)
+-- this moment has come, and each stop since then leaves the history of a service
+pub record IsKept {K : Type 0} (g : Ghosts K) (moment : ℕ) (s : Served K) : Type 0 where
+  pub past : moment ≤ g.keep_moment s.keeper
+  pub leaves : (r : Result (List (List ℕ)) ℕ) → g.stopped_since s.keeper moment r → r ≡ Ok (payloads_of s.state.history)
 
 -- behind a mark of this moment
-response_up : (W : Option (List ℕ) → Option (List ℕ) → List ℕ → Type 0) {K : Type 0} (g : Ghosts K) (first : K) (s : Served K) (w w2 : Option (List ℕ)) (ms ms2 : Option (List Mark)) (a : Asked) (close : Bool) (due shown : Reply)
-    → IsOf s.state.history due → IsKept g s → ms2 ≡ option_map (marked (g.keep_moment s.keeper) w) ms → IsShown due shown → W w w2 (response_to a close shown)
+response_up : (W : Option (List ℕ) → Option (List ℕ) → List ℕ → Type 0) {K : Type 0} (g : Ghosts K) (first : K) (moment : ℕ) (s : Served K) (w w2 : Option (List ℕ)) (ms ms2 : Option (List Mark)) (a : Asked) (close : Bool) (due shown : Reply)
+    → IsOf s.state.history due → IsKept g moment s → ms2 ≡ option_map (marked moment w) ms → IsShown due shown → W w w2 (response_to a close shown)
     → KeepsUpBy W g IsResponse first (record { written = w; marks = ms }) (record { written = w2; marks = ms2 }) s.state.history s.keeper
-response_up W g first s w w2 ms ms2 a close due shown of kept set shows wrote =
-    keeps_up_one W g IsResponse first s.keeper s.state.history (record { written = w; marks = ms }) (record { written = w2; marks = ms2 }) (record { text = response_to a close shown; number = number_of shown }) (g.keep_moment s.keeper)
+response_up W g first moment s w w2 ms ms2 a close due shown of kept set shows wrote =
+    keeps_up_one W g IsResponse first s.keeper s.state.history (record { written = w; marks = ms }) (record { written = w2; marks = ms2 }) (record { text = response_to a close shown; number = number_of shown }) moment
     (response a close shown) wrote set (with_law (number_of shown) (shown_of s.state.history due shown of shows))
   where
     with_law : (o : Option ℕ) → IfSome o (λ n. n ≤ length s.state.history)
-        → IfSome o (λ n. (n ≤ length s.state.history) × (g.keep_moment s.keeper ≤ g.keep_moment s.keeper) × ((r : Result (List (List ℕ)) ℕ) → g.stopped_since s.keeper (g.keep_moment s.keeper) r → r ≡ Ok (payloads_of s.state.history)))
+        → IfSome o (λ n. (n ≤ length s.state.history) × (moment ≤ g.keep_moment s.keeper) × ((r : Result (List (List ℕ)) ℕ) → g.stopped_since s.keeper moment r → r ≡ Ok (payloads_of s.state.history)))
     with_law None is = tt
-    with_law (Some n) is = (is, omega arith, kept)
+    with_law (Some n) is = (is, kept.past, kept.leaves)
 
 -- one that acknowledges nothing needs no mark
 silent_up : {K : Type 0} (g : Ghosts K) (first k : K) (history : List Stamped) (old new : Output) (w : Writing) → IsResponse w → w.number ≡ None → WritesFront old.written new.written w.text → new.marks ≡ old.marks
@@ -162,33 +164,33 @@ up_still g first k history o0 o1 o2 bytes same a =
 -- ---- a message
 
 -- after a response the service goes on
-pub finishes_up : {K : Type 0} (g : Ghosts K) (first : K) (w w2 : Option (List ℕ)) (ms ms2 : Option (List Mark)) (s : Served K) (a : Asked) (call : Call) (due : Reply) (r : Result (Served K) (Ended × Next K)) → IsOf s.state.history due → IsKept g s
-    → ms2 ≡ option_map (marked (g.keep_moment s.keeper) w) ms → Finishes a call due w w2 s r → IfOk r (KeepsUpOn g first (record { written = w; marks = ms }) (record { written = w2; marks = ms2 }))
-finishes_up g first w w2 ms ms2 s a call due (Ok after) of kept set f = rw f.0 (response_up WritesAll g first s w w2 ms ms2 a false due f.2.0 of kept set f.2.1 f.2.2)
-finishes_up g first w w2 ms ms2 s a call due (Err e) of kept set f = tt
+pub finishes_up : {K : Type 0} (g : Ghosts K) (first : K) (moment : ℕ) (w w2 : Option (List ℕ)) (ms ms2 : Option (List Mark)) (s : Served K) (a : Asked) (call : Call) (due : Reply) (r : Result (Served K) (Ended × Next K)) → IsOf s.state.history due → IsKept g moment s
+    → ms2 ≡ option_map (marked moment w) ms → Finishes a call due w w2 s r → IfOk r (λ (after : Served K). KeepsUpOn g first (record { written = w; marks = ms }) (record { written = w2; marks = ms2 }) after)
+finishes_up g first moment w w2 ms ms2 s a call due (Ok after) of kept set f = rw f.0 (response_up WritesAll g first moment s w w2 ms ms2 a false due f.2.0 of kept set f.2.1 f.2.2)
+finishes_up g first moment w w2 ms ms2 s a call due (Err e) of kept set f = tt
 
 -- or the connection ends
-finishes_part : {K : Type 0} (g : Ghosts K) (first : K) (w w2 : Option (List ℕ)) (ms ms2 : Option (List Mark)) (s : Served K) (a : Asked) (call : Call) (due : Reply) (e : Ended × Next K) → IsOf s.state.history due → IsKept g s
-    → ms2 ≡ option_map (marked (g.keep_moment s.keeper) w) ms → Finishes a call due w w2 s (Err e)
+finishes_part : {K : Type 0} (g : Ghosts K) (first : K) (moment : ℕ) (w w2 : Option (List ℕ)) (ms ms2 : Option (List Mark)) (s : Served K) (a : Asked) (call : Call) (due : Reply) (e : Ended × Next K) → IsOf s.state.history due → IsKept g moment s
+    → ms2 ≡ option_map (marked moment w) ms → Finishes a call due w w2 s (Err e)
     → (e.1 ≡ next.Go s) × KeepsUpInPart g IsResponse first (record { written = w; marks = ms }) (record { written = w2; marks = ms2 }) s.state.history s.keeper
-finishes_part g first w w2 ms ms2 s a call due (ended.Closed, n) of kept set f =
-    (f.0, part_of_whole g IsResponse first s.keeper s.state.history (record { written = w; marks = ms }) (record { written = w2; marks = ms2 }) (response_up WritesAll g first s w w2 ms ms2 a true due f.2.0 of kept set f.2.1 f.2.2))
-finishes_part g first w w2 ms ms2 s a call due (ended.Failed, n) of kept set f = (f.0, response_up WritesFront g first s w w2 ms ms2 a (closes_by a call) due f.1.0 of kept set f.1.1 f.1.2)
-finishes_part g first w w2 ms ms2 s a call due (ended.NoMemory, n) of kept set f =
-    (f.0, response_up WritesFront g first s w w2 ms ms2 a (closes_by a call) due due of kept set (inl refl) (front_none w w2 (response_to a (closes_by a call) due) f.2))
-finishes_part g first w w2 ms ms2 s a call due (ended.Bad, n) of kept set f = absurd f
-finishes_part g first w w2 ms ms2 s a call due (ended.TooMuch, n) of kept set f = absurd f
-finishes_part g first w w2 ms ms2 s a call due (ended.Stopped, n) of kept set f = absurd f
+finishes_part g first moment w w2 ms ms2 s a call due (ended.Closed, n) of kept set f =
+    (f.0, part_of_whole g IsResponse first s.keeper s.state.history (record { written = w; marks = ms }) (record { written = w2; marks = ms2 }) (response_up WritesAll g first moment s w w2 ms ms2 a true due f.2.0 of kept set f.2.1 f.2.2))
+finishes_part g first moment w w2 ms ms2 s a call due (ended.Failed, n) of kept set f = (f.0, response_up WritesFront g first moment s w w2 ms ms2 a (closes_by a call) due f.1.0 of kept set f.1.1 f.1.2)
+finishes_part g first moment w w2 ms ms2 s a call due (ended.NoMemory, n) of kept set f =
+    (f.0, response_up WritesFront g first moment s w w2 ms ms2 a (closes_by a call) due due of kept set (inl refl) (front_none w w2 (response_to a (closes_by a call) due) f.2))
+finishes_part g first moment w w2 ms ms2 s a call due (ended.Bad, n) of kept set f = absurd f
+finishes_part g first moment w w2 ms ms2 s a call due (ended.TooMuch, n) of kept set f = absurd f
+finishes_part g first moment w w2 ms ms2 s a call due (ended.Stopped, n) of kept set f = absurd f
 
 up_go : {K : Type 0} (g : Ghosts K) (first : K) (old new : Output) (n : Next K) (to : Outcome) (s : Served K) → n ≡ next.Go s → KeepsUpInPart g IsResponse first old new s.state.history s.keeper → KeepsUpTo g first old new n to
 up_go g first old new n to s is up = rw is up
 
-pub finishes_up_to : {K : Type 0} (g : Ghosts K) (first : K) (p : Point) (ms2' : Option (List ℕ)) (w w2 : Option (List ℕ)) (ms ms2 : Option (List Mark)) (s : Served K) (a : Asked) (call : Call) (t : Turn) (due : Reply) (r : Result (Served K) (Ended × Next K))
-    → IsOf s.state.history due → IsKept g s → ms2 ≡ option_map (marked (g.keep_moment s.keeper) w) ms → Finishes a call due w w2 s r → IfErr r (TurnLeaves g p first t w2 ms2')
-    → IfErr r (TurnKeepsUp g p first t (record { written = w; marks = ms }) (record { written = w2; marks = ms2 }) ms2')
-finishes_up_to g first p ms2' w w2 ms ms2 s a call t due (Ok after) of kept set f left = tt
-finishes_up_to g first p ms2' w w2 ms ms2 s a call t due (Err e) of kept set f left =
-    let part = finishes_part g first w w2 ms ms2 s a call due e of kept set f in
+pub finishes_up_to : {K : Type 0} (g : Ghosts K) (first : K) (moment : ℕ) (p : Point) (later : Option (List ℕ)) (w w2 : Option (List ℕ)) (ms ms2 : Option (List Mark)) (s : Served K) (a : Asked) (call : Call) (t : Turn) (due : Reply) (r : Result (Served K) (Ended × Next K))
+    → IsOf s.state.history due → IsKept g moment s → ms2 ≡ option_map (marked moment w) ms → Finishes a call due w w2 s r → IfErr r (λ (e : Ended × Next K). TurnLeaves g p first t w2 later e)
+    → IfErr r (λ (e : Ended × Next K). TurnKeepsUp g p first t (record { written = w; marks = ms }) (record { written = w2; marks = ms2 }) later e)
+finishes_up_to g first moment p later w w2 ms ms2 s a call t due (Ok after) of kept set f left = tt
+finishes_up_to g first moment p later w w2 ms ms2 s a call t due (Err e) of kept set f left =
+    let part = finishes_part g first moment w w2 ms ms2 s a call due e of kept set f in
     (left, up_go g first (record { written = w; marks = ms }) (record { written = w2; marks = ms2 }) e.1 left.to s part.0 part.1)
 
 -- the service stopped at it
@@ -201,15 +203,19 @@ stop_up g first k old new a why after to is front same =
     none cause.Memory = refl
     none cause.Disk = refl
 
--- a head isn't taken
-pub fault_up : {K : Type 0} (g : Ghosts K) (first k : K) (history : List Stamped) (old new : Output) (r : Refusal) (shown : Reply) → IsShown (reply.Refused r) shown → WritesFront old.written new.written (fault_response shown) → new.marks ≡ old.marks
-    → KeepsUpInPart g IsResponse first old new history k
-fault_up g first k history old new r shown shows front same =
-    silent_up g first k history old new (record { text = fault_response shown; number = number_of shown }) (record { told = shown; numbered = refl; text = inr refl }) (none shows) front same
+-- a head isn't taken: a front of its response was sent, or all of it
+pub fault_up : {K : Type 0} (g : Ghosts K) (first k : K) (history : List Stamped) (old new : Output) (r : Refusal) → SentFaultFront (reply.Refused r) old.written new.written → new.marks ≡ old.marks → KeepsUpInPart g IsResponse first old new history k
+fault_up g first k history old new r sent same =
+    silent_up g first k history old new (record { text = fault_response sent.0; number = number_of sent.0 }) (record { told = sent.0; numbered = refl; text = inr refl }) (none sent.1) sent.2 same
   where
-    none : IsShown (reply.Refused r) shown → number_of shown ≡ None
+    none : IsShown (reply.Refused r) sent.0 → number_of sent.0 ≡ None
     none (inl e) = rw e refl
     none (inr e) = rw e.0 refl
+
+pub fault_whole_up : {K : Type 0} (g : Ghosts K) (first k : K) (history : List Stamped) (old new : Output) (r : Refusal) → SentFault (reply.Refused r) old.written new.written → new.marks ≡ old.marks → KeepsUpInPart g IsResponse first old new history k
+fault_whole_up g first k history old new r sent same =
+    let text = fault_response sent.0 in
+    fault_up g first k history old new r (sent.0, sent.1, (length text, omega arith, sent.2 ∙ ap (append_known old.written) (sym (take_all (length text) text (omega arith))))) same
 
 -- ---- from message to message
 
@@ -245,6 +251,7 @@ pub session_piece_up : {K : Type 0} (g : Ghosts K) (k0 k1 : K) (law : FedLaw) (l
     → HasServed left mid p q before count → KeptOn g p.state.history k0 q.state.history k1 → mid ≡ prepend_known piece now → count + length piece ≤ 2 ^ 32 → KeepsUp g IsResponse k0 o0 o1 q.state.history k1
     → TurnsKeepUp g q k1 (fed before piece) o1 o2 ms e → SessionKeepsUp g p k0 left now o0 o2 ms e
 unfolding session_piece
-session_piece_up g k0 k1 law left mid now p q before count piece o0 o1 o2 ms e h kept read few a t =
-    (session_piece g k0 k1 law left mid now p q before count piece o2.written ms e h kept read few t.0,
-    up_behind g p.state.history q.state.history k0 k1 t.0.turns.last.state.history t.0.to e.1 o0 o1 o2 kept t.0.leaves a t.1)
+session_piece_up g k0 k1 law left mid now p q before count piece o0 o1 o2 ms e h kept read few a t = (
+  session_piece g k0 k1 law left mid now p q before count piece o2.written ms e h kept read few t.0,
+  up_behind g p.state.history q.state.history k0 k1 t.0.turns.last.state.history t.0.to e.1 o0 o1 o2 kept t.0.leaves a t.1,
+)

@@ -23,7 +23,7 @@ use Rattle.reg_serve.specs.declared.ended.Ended.{Ended}
 
 -- ---- what a listener tells
 
-abbrev NoneComes : Option Connections → Type 0
+abbrev pub NoneComes : Option Connections → Type 0
 NoneComes told = IfSome told (λ (c : Connections). c.coming ≡ [])
 
 abbrev IsSteady : Option Connections → Type 0
@@ -131,7 +131,7 @@ stops_at_last : (s : State) (ms : Option (List ℕ)) (v : Visit) (e : Ended) (la
     → answered ≡ is.session.last.state.history → StopsAtLast s ms (v ∷ []) later answered after why
 stops_at_last s ms v e later why answered after is done = record { earlier = []; visit = v; cut = refl; mid = s; between = ms; sessions = (refl, refl); end = e; last = is; done = done }
 
-ceases_stopped : {K : Type 0} (g : Ghosts K) (s : State) (k keeper : K) (ms : Option (List ℕ)) (old new : Option Connections) (later : Option (List ℕ)) (visit : Visit) (e : Ended) (why cause : Cause) (after : List Stamped)
+pub ceases_stopped : {K : Type 0} (g : Ghosts K) (s : State) (k keeper : K) (ms : Option (List ℕ)) (old new : Option Connections) (later : Option (List ℕ)) (visit : Visit) (e : Ended) (why cause : Cause) (after : List Stamped)
     → (v : IsVisit s ms visit e (stops cause after) later) (h : Halted g s.history k keeper) → why ≡ cause → h.answered ≡ v.session.last.state.history → h.after ≡ after → Visits old new (visit ∷ [])
     → CeasesNext g s k ms old new later (ceased_of why) keeper
 ceases_stopped g s k keeper ms old new later visit e why cause after v h same answered kept told =

@@ -1,9 +1,8 @@
 // One message after another.
 ghost use Rattle.std.specs.Prelude.{◌≡◌, ◌≤◌, ◌⊎◌, ◌∷◌, [], List, ℕ, Option, None, true, false};
-ghost use Rattle.std.specs.Prelude.{unwrap_or, option_map, IfOk, IfErr};
+ghost use Rattle.std.specs.Prelude.{unwrap_or, IfOk, IfErr};
 ghost use Rattle.std.specs.Io.KnownBytes.{append_known};
 ghost use Rattle.reg_outside.specs.Faults.{Rose};
-ghost use Rattle.reg_outside.specs.Marks.{marked};
 ghost use Rattle.reg_outside.specs.Streams.{WritesFront};
 ghost use Rattle.reg_calls.specs.Reading.{reading_of};
 ghost use Rattle.reg_session.specs.Answered.{point};
@@ -106,13 +105,11 @@ fn finish_call<K: Keeper, C: Connection>(
         (C.written conn.new) service result }
     ensures failed { IfErr result (λ e. e.0 ≡ Ended.Failed
         → Rose (C.write_faults conn.old) (C.write_faults conn.new)) }
-    ensures noted { C.marks conn.new ≡ option_map (marked (K.keep_moment service.keeper)
-        (C.written conn.old)) (C.marks conn.old) }
+    ensures marks { C.marks conn.new ≡ C.marks conn.old }
     ensures left { C.left conn.new ≡ C.left conn.old }
     ensures reads { C.read_faults conn.old ≤ C.read_faults conn.new }
     ensures writes { C.write_faults conn.old ≤ C.write_faults conn.new }
 {
-    conn.note(&service.stamp());
     let close = closes_by(asked, call);
     let sent = send_reply(alloc, conn, asked, close, &reply);
     // by a call, and not at each exit below: there it would be taken apart by its kinds
@@ -158,7 +155,8 @@ fn stop_call<C: Connection>(conn: &mut C, cause: Cause) -> Ended
     }
 }
 
-/// Answers a message.
+/// Answers a message. Where the service goes on, a mark is set before the response: no other response
+/// acknowledges a command.
 pub(crate) fn serve_call<K: Keeper, C: Connection, T: Clock>(
     alloc: Global,
     routes: &Routes,
@@ -194,7 +192,7 @@ pub(crate) fn serve_call<K: Keeper, C: Connection, T: Clock>(
     let (reply, next) = answer(alloc, service, asked, call, clock);
     match next {
         Next::Go(service) => {
-            service.law_marks();
+            conn.note(&service.stamp());
             finish_call(alloc, conn, &asked, call, reply, service)
         }
         Next::Stop(cause, keeper) => {
