@@ -3,23 +3,17 @@ use Rattle.std.proofs.Common.{◌≡◌, ◌≤◌, ◌+◌, ◌++◌, ◌∷◌
 use Rattle.std.specs.Prelude.{IfSome, All}
 use Rattle.std.specs.Io.KnownBytes.{append_known}
 use Rattle.std.proofs.lemmas.List.{take_all}
-use Rattle.reg_outside.specs.Marks.{Mark, marked}
+use Rattle.reg_outside.specs.Marks.{Mark}
 use Rattle.reg_outside.specs.Streams.{WritesFront}
 use Rattle.reg_outside.specs.declared.disk.Disk.{Ghosts}
 use Rattle.reg_terms.specs.declared.command.Stamped.{Stamped}
-use Rattle.reg_terms.specs.declared.reply.Reply.{Reply}
 use Rattle.reg_keep.specs.Frames.{opened, payloads_in}
 use Rattle.reg_keep.specs.Keeping.{kept_in}
 use Rattle.reg_keep.specs.Stops.{Stop}
 use Rattle.reg_keep.specs.declared.keeper.Keeper as keeper
-use Rattle.reg_service.specs.Kept.{Halted, Stopped, keeper_of}
-use Rattle.reg_service.specs.Marked.{keeps_up_one}
-use Rattle.reg_service.specs.Marks.{AreMarked, AtEach, IsMarked, IsNumbered, KeepsUpInPart, LeavesAtLeast, LeavesSince, Output, Writing, number_of}
-use Rattle.reg_service.specs.Opening.{FrontsReopen, Served, payloads_of}
-use Rattle.reg_service.specs.declared.service.Cause.{Cause}
-use Rattle.reg_service.specs.declared.service.Next.{Next}
-use Rattle.reg_service.specs.declared.service.Next.TheVariants as next
-use Rattle.reg_session.specs.Replies.{IsLine, line_of}
+use Rattle.reg_service.specs.Kept.{Halted, Stopped}
+use Rattle.reg_service.specs.Marks.{AreMarked, AtEach, IsMarked, KeepsUpInPart, LeavesAtLeast, Output, Writing}
+use Rattle.reg_service.specs.Opening.{FrontsReopen}
 use Rattle.reg_run.specs.Crash.{seen}
 use Rattle.reg_run.specs.KeepsUp.{DiskKeepsUp, HasCommand, IsKept, KeepsUp}
 use Rattle.reg_run.specs.Once.{Printed}
@@ -99,8 +93,6 @@ halted_fronts j before old k h = fronts (j.payloads old) h.stopped
     fronts None s = tt
     fronts (Some ps) s = s.0
 
--- ---- one reply
-
 -- what was printed is a front of it
 pub printed_front : (good : End) (bytes : List ℕ) (end : End) (old new : Out) → Printed good bytes end old new → WritesFront old.written new.written bytes
 printed_front good bytes end old new (inl (inl p)) = (length bytes, omega arith, p.1 ∙ ap (append_known old.written) (sym (take_all (length bytes) bytes (omega arith))))
@@ -110,30 +102,3 @@ printed_front good bytes end old new (inr p) = (0, omega arith, ap (λ (o : Out)
     nothing : (o : Option (List ℕ)) → o ≡ append_known o []
     nothing None = refl
     nothing (Some bytes) = ap (λ (l : List ℕ). Some l) (sym (append-nil bytes))
-
--- the reply that it told, written down
-abbrev writing_of : Reply → Writing
-writing_of told = record { text = line_of told; number = number_of told }
-
--- the reply of a service that goes on, behind a mark of its moment
-pub go_keeps_up : {K : Type 0} (j : keeper.Ghosts K) (first : K) (n : Next K) (s : Served K) (told : Reply) (old new : Output) → n ≡ next.Go s → IsNumbered told n → LeavesSince j (j.keep_moment (keeper_of n)) n
-    → WritesFront old.written new.written (line_of told) → new.marks ≡ option_map (marked (j.keep_moment (keeper_of n)) old.written) old.marks → KeepsUpInPart j IsLine first old new s.state.history s.keeper
-go_keeps_up {K = K} j first n s told old new is numbered leaves wrote set =
-    keeps_up_one WritesFront j IsLine first s.keeper s.state.history old new (writing_of told) (j.keep_moment s.keeper) (told, refl, refl) wrote
-    (subst (λ (x : Next K). new.marks ≡ option_map (marked (j.keep_moment (keeper_of x)) old.written) old.marks) is set)
-    (each (number_of told) (subst (IsNumbered told) is numbered) (subst (λ (x : Next K). LeavesSince j (j.keep_moment (keeper_of x)) x) is leaves))
-  where
-    each : (o : Option ℕ) → IfSome o (λ m. m ≤ length s.state.history) → ((r : Result (List (List ℕ)) ℕ) → j.stopped_since s.keeper (j.keep_moment s.keeper) r → r ≡ Ok (payloads_of s.state.history))
-        → IfSome o (λ m. (m ≤ length s.state.history) × (j.keep_moment s.keeper ≤ j.keep_moment s.keeper) × ((r : Result (List (List ℕ)) ℕ) → j.stopped_since s.keeper (j.keep_moment s.keeper) r → r ≡ Ok (payloads_of s.state.history)))
-    each None few left = tt
-    each (Some m) few left = (few, omega arith, left)
-
--- that of one that stopped acknowledges nothing
-pub stop_keeps_up : {K : Type 0} (j : keeper.Ghosts K) (first : K) (n : Next K) (why : Cause) (k : K) (told : Reply) (history : List Stamped) (moment : ℕ) (old new : Output) → n ≡ next.Stop why k → IsNumbered told n
-    → WritesFront old.written new.written (line_of told) → new.marks ≡ option_map (marked moment old.written) old.marks → KeepsUpInPart j IsLine first old new history k
-stop_keeps_up j first n why k told history moment old new is numbered wrote set =
-    keeps_up_one WritesFront j IsLine first k history old new (writing_of told) moment (told, refl, refl) wrote set (none (number_of told) (subst (IsNumbered told) is numbered))
-  where
-    none : {P : ℕ → Type 0} (o : Option ℕ) → o ≡ None → IfSome o P
-    none None e = tt
-    none (Some m) e = absurd (cc)

@@ -1,10 +1,12 @@
 use Rattle.std.proofs.Common.{refl, sym, subst, inl}
 use Rattle.reg_session.proofs.Answering.{follows_go, follows_stop}
 use Rattle.reg_session.proofs.Halting.{go_halted, next_began, next_cause, next_halted, next_kept, told_of, turn_one}
+use Rattle.reg_outside.specs.Streams.{WritesFront}
 use Rattle.reg_service.specs.Kept.{RoseAt}
+use Rattle.reg_service.specs.Marked.{keeps_up_go, keeps_up_stop}
 use Rattle.reg_service.specs.Marks.{KeepsUpInPart, output_of}
-use Rattle.reg_session.specs.Replies.{IsLine}
-use Rattle.reg_run.proofs.KeepingUp.{go_keeps_up, printed_front, stop_keeps_up}
+use Rattle.reg_session.specs.Replies.{IsLine, line_of}
+use Rattle.reg_run.proofs.KeepingUp.{printed_front}
 use Rattle.reg_run.proofs.Loading.{goes_sure, stops_disk, stops_once}
 use Rattle.reg_run.proofs.load.ask_once.Goals as goal
 
@@ -23,8 +25,8 @@ returns-in-Go-clause-asked g c told reads =
         sure = c.print_marked-end.ensures.sure;
       },
       subst (λ (k : _). KeepsUpInPart g.J.Keeper IsLine c.args.service.keeper (output_of g.K.Sink c.args.out.now) (output_of g.K.Sink c.print_marked-end.new.out) c.in-Go.service.state.history k) (sym c.into_keeper.ensures.keeper)
-          (go_keeps_up g.J.Keeper c.args.service.keeper c.turn-reply.result.1 c.in-Go.service c.turn-reply.result.0 _ _ c.in-Go.is c.turn-reply.ensures.numbered c.print_marked-end.ensures.leaves
-          (printed_front _ _ _ _ _ c.print_marked-end.ensures.printed) c.print_marked-end.ensures.marks),
+          (keeps_up_go WritesFront g.J.Keeper IsLine c.args.service.keeper _ _ c.turn-reply.result.0 (line_of c.turn-reply.result.0) _ c.turn-reply.result.1 c.in-Go.service (c.turn-reply.result.0, refl, refl)
+          (printed_front _ _ _ _ _ c.print_marked-end.ensures.printed) c.print_marked-end.ensures.marks refl c.print_marked-end.ensures.leaves c.turn-reply.ensures.numbered c.in-Go.is),
     )
 
 pub returns-in-Go-clause-disk : goal.returns-in-Go-clause-disk
@@ -51,8 +53,8 @@ returns-in-Stop-clause-asked g c told reads =
         printed = c.print_marked-end.ensures.printed;
         sure = c.print_marked-end.ensures.sure;
       },
-      stop_keeps_up g.J.Keeper c.args.service.keeper c.turn-reply.result.1 c.in-Stop.field-0 c.in-Stop.keeper c.turn-reply.result.0 h.after _ _ _ c.in-Stop.is c.turn-reply.ensures.numbered
-          (printed_front _ _ _ _ _ c.print_marked-end.ensures.printed) c.print_marked-end.ensures.marks,
+      keeps_up_stop WritesFront g.J.Keeper IsLine c.args.service.keeper _ _ c.turn-reply.result.0 (line_of c.turn-reply.result.0) _ c.turn-reply.result.1 c.in-Stop.field-0 c.in-Stop.keeper c.in-Stop.keeper h.after
+          (c.turn-reply.result.0, refl, refl) (printed_front _ _ _ _ _ c.print_marked-end.ensures.printed) c.print_marked-end.ensures.marks c.turn-reply.ensures.numbered c.in-Stop.is,
     )
 
 pub returns-in-Stop-clause-disk : goal.returns-in-Stop-clause-disk
