@@ -16,6 +16,7 @@ use Rattle.reg_serve.specs.Visits.{CeasesAt, CeasesServing, Visit, Visits}
 use Rattle.reg_serve.specs.declared.ended.Ceased.{Ceased}
 use Rattle.reg_serve.specs.declared.ended.Ceased.TheVariants as ceased
 use Rattle.reg_run.specs.Crash.{IsWhole, seen}
+use Rattle.reg_run.specs.KeepsUp.{KeepsUp}
 use Rattle.reg_run.specs.Serving.{ConnectionsKeepUp, ServedSome, ServeEnds, end_of_serve}
 use Rattle.reg_run.specs.Status.{status_of}
 use Rattle.reg_run.specs.World.{World}
@@ -67,7 +68,7 @@ pub visits_keep_up : {K D : Type 0} (j : Ghosts K) (g : disk.Ghosts D) (first k 
     → history ≡ before ++ more → IfSome (j.payloads first) (λ ps. FrontsReopen history) → StandsOn j g k new → j.payloads first ≡ option_map kept_in (g.contents old)
     → ConnectionsKeepUp (seen g old new) (before ++ more) told later
 visits_keep_up j g first k old new told later visits before more history a are grown again on same =
-    run (g.contents old) _ (λ i v within. disk_keeps_up j g IsResponse first k old new _ _ before more history (a i v within) grown again on same)
+    run (g.contents old) (λ (v : Visit). KeepsUp (seen g old new) (before ++ more) IsResponse (output_seen v.came) (output_seen v.back)) (λ i v within. disk_keeps_up j g IsResponse first k old new _ _ before more history (a i v within) grown again on same)
   where
     run : (held : Option (List ℕ)) (P : Visit → Type 0) → All (λ v. IfSome held (λ file. P v)) visits → IfSome held (λ file. (vs : List Visit) × Visits told later vs × All P vs)
     run None P all = tt

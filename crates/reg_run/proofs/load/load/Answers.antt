@@ -9,8 +9,7 @@ use Rattle.reg_run.proofs.load.load.Goals as goal
 pub returns-in-Ok : goal.returns-in-Ok
 returns-in-Ok g c =
     let t = c.in-Ok.ensures.table in
-    let asked = c.ask_once.ensures.asked (load_of c.args.job.now t.taken) (c.load_of-reading.ensures.reads t.taken t.held) in
-    (
+    let asked = c.ask_once.ensures.asked (load_of c.args.job.now t.taken) (c.load_of-reading.ensures.reads t.taken t.held) in (
       record {
         taken = t.taken;
         input = t.input;
@@ -25,8 +24,7 @@ returns-in-Ok g c =
 -- the input failed
 pub returns-in-Err : goal.returns-in-Err
 returns-in-Err g c =
-    let t = c.in-Err.ensures.some in
-    (
+    let t = c.in-Err.ensures.some in (
       record {
         taken = t.0;
         input = t.1;
