@@ -158,7 +158,8 @@ fn print_marked<J: Keeper, K: Sink>(
         (K.written out.old)) (K.marks out.old) }
     ensures leaves { LeavesSince ⟦<J as Keeper>⟧ (J.keep_moment (keeper_of next.now)) next.now }
 {
-    out.mark(&next.stamp());
+    let stamp = next.stamp();
+    out.mark(&stamp);
     print_reply(alloc, reply, out)
 }
 
