@@ -226,6 +226,21 @@ keeps_up_sooner W g R h0 h1 h2 k0 k1 k2 old new x a = record {
     sooner P (Some ps) None told f = absurd (cc)
     sooner P (Some ps) (Some qs) told f = f
 
+-- where nothing more was written and no mark set, and the keeper is the same
+pub keeps_up_still : (W : Option (List ℕ) → Option (List ℕ) → List ℕ → Type 0) {K : Type 0}
+    (g : Ghosts K) (R : Writing → Type 0) (h : List Stamped) (first k0 k1 : K)
+    (old mid new : Output) → new.written ≡ mid.written → new.marks ≡ mid.marks → k1 ≡ k0
+    → KeepsUpBy W g R first old mid h k0 → KeepsUpBy W g R first old new h k1
+keeps_up_still W {K = K} g R h first k0 k1 old mid new bytes same is a =
+    subst (λ (k : K). KeepsUpBy W g R first old new h k) (sym is) (record {
+      writings = a.writings;
+      replies = a.replies;
+      text = subst (λ (o : Option (List ℕ)). W old.written o (texts a.writings)) (sym bytes) a.text;
+      more = a.more;
+      set = same ∙ a.set;
+      marked = subst (λ (o : Option (List Mark)). IfSome (g.payloads first) (λ ps. IfSome old.written (λ xs. IfSome o (λ ms. AreMarked g k0 h ms (length xs) a.writings)))) (sym same) a.marked;
+    })
+
 by_none : (W : Option (List ℕ) → Option (List ℕ) → List ℕ → Type 0) {K : Type 0} (g : Ghosts K)
     (R : Writing → Type 0) (first k : K) (h : List Stamped) (old new : Output)
     → W old.written new.written [] → new.marks ≡ old.marks → KeepsUpBy W g R first old new h k
