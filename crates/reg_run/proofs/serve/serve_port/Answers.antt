@@ -10,6 +10,9 @@ returns-in-Err-clause-ceased g c =
     (none.0, inl none.1, none.2)
 
 -- it was, and then the connections were served
+pub returns-in-Ok-clause-served : goal.returns-in-Ok-clause-served
+returns-in-Ok-clause-served g c = rw c.in-Ok.ensures.same at c.serve_connections.ensures.keeps_up
+
 pub returns-in-Ok-clause-ceased : goal.returns-in-Ok-clause-ceased
 returns-in-Ok-clause-ceased g c =
-    if_err_so c.serve_connections.result (λ e x. (x.0, inr (c.serve_connections.ensures.port ∙ c.in-Ok.ensures.port), x.1)) (rw c.listen.ensures.same at c.serve_connections.ensures.keeps_up_to)
+    if_err_so c.serve_connections.result (λ e x. (x.0, inr (c.serve_connections.ensures.port ∙ c.in-Ok.ensures.port), x.1)) (rw c.in-Ok.ensures.same at c.serve_connections.ensures.keeps_up_to)
