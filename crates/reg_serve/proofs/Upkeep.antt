@@ -1,5 +1,5 @@
 -- That the responses of a connection keep up, from message to message.
-use Rattle.std.proofs.Common.{◌≡◌, ◌≤◌, ◌+◌, ◌^◌, ◌++◌, ◌∷◌, [], List, ℕ, Bool, Option, Some, None, Result, Ok, Err, refl, ap, sym, subst, ◌∙◌, inl, inr, ◌⊎◌, arith, length, option_map, append-nil}
+use Rattle.std.proofs.Common.{◌≡◌, ◌≤◌, ◌+◌, ◌^◌, ◌++◌, ◌∷◌, [], List, ℕ, Bool, Option, Some, None, true, false, Result, Ok, Err, refl, ap, sym, subst, ◌∙◌, inl, inr, ◌⊎◌, arith, length, option_map, append-nil}
 use Rattle.std.specs.Prelude.{IfSome, IfOk, IfErr}
 use Rattle.std.specs.Io.KnownBytes.{append_known, prepend_known}
 use Rattle.std.proofs.lemmas.List.{take_all}
@@ -25,7 +25,7 @@ use Rattle.reg_view.specs.AtClock.{told}
 use Rattle.reg_keep.specs.declared.keeper.Keeper.{Ghosts}
 use Rattle.reg_service.specs.Kept.{KeptOn}
 use Rattle.reg_service.specs.Marked.{keeps_up_none, keeps_up_one, part_keeps_up_then, part_of_whole}
-use Rattle.reg_service.specs.Marks.{KeepsUp, KeepsUpBy, KeepsUpInPart, Output, Writing, WritesAll, number_of}
+use Rattle.reg_service.specs.Marks.{IsMarked, KeepsUp, KeepsUpBy, KeepsUpInPart, Output, Writing, WritesAll, number_of}
 use Rattle.reg_service.specs.Opening.{Served, payloads_of}
 use Rattle.reg_service.specs.Turn.{answered, at_moment, decided, load_ordered, loaded, ordered, requested, turn, Turns, last_reply}
 use Rattle.reg_service.specs.declared.service.Cause.{Cause}
@@ -131,18 +131,18 @@ silent_up g first k history old new w is none wrote same = record {
   text = subst (WritesFront old.written new.written) (sym (append-nil w.text)) wrote;
   more = [];
   set = same ∙ unchanged old.marks;
-  marked = silent (g.payloads first) old.written new.marks;
+  marked = silent (λ bytes ms. IsMarked g k history ms (length bytes)) (g.payloads first) old.written new.marks;
 }
   where
     unchanged : (o : Option (List Mark)) → o ≡ option_map (λ ms. ms ++ []) o
     unchanged None = refl
     unchanged (Some ms) = ap (λ (l : List Mark). Some l) (sym (append-nil ms))
 
-    silent : {P : List (List ℕ) → List ℕ → List Mark → ℕ → Type 0} (p : Option (List (List ℕ))) (o : Option (List ℕ)) (m : Option (List Mark)) → IfSome p (λ ps. IfSome o (λ bytes. IfSome m (λ ms. IfSome w.number (P ps bytes ms) × Unit {0})))
-    silent None o m = tt
-    silent (Some ps) None m = tt
-    silent (Some ps) (Some bytes) None = tt
-    silent (Some ps) (Some bytes) (Some ms) = (rw none tt, tt)
+    silent : (P : List ℕ → List Mark → ℕ → Type 0) (p : Option (List (List ℕ))) (o : Option (List ℕ)) (m : Option (List Mark)) → IfSome p (λ ps. IfSome o (λ bytes. IfSome m (λ ms. IfSome w.number (P bytes ms) × Unit {0})))
+    silent P None o m = tt
+    silent P (Some ps) None m = tt
+    silent P (Some ps) (Some bytes) None = tt
+    silent P (Some ps) (Some bytes) (Some ms) = (rw none tt, tt)
 
 -- nothing was written
 pub quiet_up : {K : Type 0} (g : Ghosts K) (first k : K) (history : List Stamped) (old new : Output) → new.written ≡ old.written → new.marks ≡ old.marks → KeepsUpInPart g IsResponse first old new history k
