@@ -1,17 +1,14 @@
 -- That the responses of connections keep up, from connection to connection.
-use Rattle.std.proofs.Common.{◌≡◌, ◌≤◌, ◌<◌, ◌+◌, ◌++◌, ◌∷◌, [], List, ℕ, Option, Some, None, Result, Ok, Err, true, refl, ap, sym, subst, ◌∙◌, inl, inr, ◌⊎◌, arith, length, length-append, take, append-nil, option_map}
-use Rattle.std.specs.Prelude.{IfSome, is_some}
-use Rattle.std.proofs.lemmas.List.{take-append-le}
+use Rattle.std.proofs.Common.{◌≡◌, ◌≤◌, ◌<◌, ◌+◌, ◌++◌, ◌∷◌, [], List, ℕ, Option, Some, Result, Ok, refl, ◌⊎◌}
 use Rattle.std.proofs.lemmas.List.Elements.{All-append, All-cons, All-nil, All-weaker}
-use Rattle.reg_outside.specs.Connections.{Accepts, Connections, Seen, gives_back}
-use Rattle.reg_outside.specs.Disk.{Leaves}
-use Rattle.reg_outside.specs.Marks.{Mark}
+use Rattle.reg_outside.specs.Connections.{Accepts, Connections, Seen}
 use Rattle.reg_outside.specs.Streams.{WritesFront}
 use Rattle.reg_terms.specs.declared.command.Stamped.{Stamped}
 use Rattle.reg_machine.specs.History.{State}
 use Rattle.reg_keep.specs.declared.keeper.Keeper.{Ghosts}
-use Rattle.reg_service.specs.Kept.{Halted, IsBetween, KeptOn}
-use Rattle.reg_service.specs.Marks.{AtEach, IsMarked, KeepsUpInPart, LeavesAtLeast, Output, Writing}
+use Rattle.reg_service.specs.Kept.{Halted, KeptOn}
+use Rattle.reg_service.specs.Marked.{keeps_up_later, keeps_up_sooner}
+use Rattle.reg_service.specs.Marks.{KeepsUpInPart}
 use Rattle.reg_service.specs.Opening.{Served}
 use Rattle.reg_service.specs.declared.service.Cause.{Cause}
 use Rattle.reg_service.specs.declared.service.Next.{Next}
@@ -22,78 +19,7 @@ use Rattle.reg_serve.specs.KeepingUp.{BackKeepsUp, IsResponse, KeepsUpTo, Visits
 use Rattle.reg_serve.specs.Visits.{CeasesNext, CeasesServing, IsVisit, ServedSo, ServesVisits, Visit, Visits, ceased_of}
 use Rattle.reg_serve.specs.declared.ended.Ceased.{Ceased}
 use Rattle.reg_serve.specs.declared.ended.Ceased.TheVariants as ceased
-use Rattle.reg_serve.specs.declared.ended.Ended.{Ended}
 use Rattle.reg_serve.proofs.Visiting.{NoneComes, ceases_first, ceases_listener, ceases_stopped, ceases_then, one_told, served_none, served_then, serves_all}
-
--- ---- what keeps up goes on to keep up
-
-least_more : (n : ℕ) (h1 h2 more : List Stamped) (r : Result (List (List ℕ)) ℕ) → h2 ≡ h1 ++ more → LeavesAtLeast n h1 r → LeavesAtLeast n h2 r
-least_more n h1 h2 more r grown l =
-    let front : take l.0 h2 ≡ take l.0 h1 = rw grown (take-append-le l.0 h1 more l.2) in
-    (l.0, l.1, omega (arith, ap (λ (x : List Stamped). length x) grown, length-append h1 more, l.2), rw front l.3)
-
-marked_later : {K : Type 0} (g : Ghosts K) (k1 k2 : K) (h1 h2 more : List Stamped) (ms : List Mark) (at n : ℕ) → h2 ≡ h1 ++ more → Leaves g.keep_moment g.stopped_since (IsBetween h1 h2) k1 k2 → IsMarked g k1 h1 ms at n → IsMarked g k2 h2 ms at n
-marked_later g k1 k2 h1 h2 more ms at n grown l m = record {
-  mark = m.mark;
-  set = m.set;
-  written = m.written;
-  known = m.known;
-  before = m.before;
-  past = omega (arith, m.past, l.later);
-  there = omega (arith, m.there, ap (λ (x : List Stamped). length x) grown, length-append h1 more);
-  leaves = λ r left. either r (l.since m.mark.moment r m.past left);
-}
-  where
-    either : (r : Result (List (List ℕ)) ℕ) → g.stopped_since k1 m.mark.moment r ⊎ IsBetween h1 h2 r → LeavesAtLeast n h2 r
-    either r (inl left) = least_more n h1 h2 more r grown (m.leaves r left)
-    either r (inr b) = (b.0, omega (arith, m.there, b.1), b.2, b.3)
-
-some_so : {A : Type 0} (P Q : A → Type 0) (o : Option A) → ((a : A) → P a → Q a) → IfSome o P → IfSome o Q
-some_so P Q None h p = tt
-some_so P Q (Some a) h p = h a p
-
-each_so : (P Q : ℕ → ℕ → Type 0) (at : ℕ) (ws : List Writing) → ((at n : ℕ) → P at n → Q at n) → AtEach P at ws → AtEach Q at ws
-each_so P Q at [] h p = tt
-each_so P Q at (w ∷ ws) h p = (some_so (P at) (Q at) w.number (h at) p.0, each_so P Q (at + length w.text) ws h p.1)
-
--- with a later history and keeper
-up_later : {K : Type 0} (g : Ghosts K) (h0 h1 h2 : List Stamped) (k0 k1 k2 : K) (old new : Output) → KeptOn g h0 k0 h1 k1 → KeptOn g h1 k1 h2 k2 → KeepsUpInPart g IsResponse k0 old new h1 k1 → KeepsUpInPart g IsResponse k0 old new h2 k2
-up_later g h0 h1 h2 k0 k1 k2 old new x y a = record {
-  writings = a.writings;
-  replies = a.replies;
-  text = a.text;
-  more = a.more;
-  set = a.set;
-  marked = later (g.payloads k0) (g.payloads k1) x.told y.crash a.marked;
-}
-  where
-    later : (p q : Option (List (List ℕ))) → IfSome p (λ ps. is_some q ≡ true) → IfSome q (λ ps. Leaves g.keep_moment g.stopped_since (IsBetween h1 h2) k1 k2)
-        → IfSome p (λ ps. IfSome old.written (λ bytes. IfSome new.marks (λ ms. AtEach (IsMarked g k1 h1 ms) (length bytes) a.writings)))
-        → IfSome p (λ ps. IfSome old.written (λ bytes. IfSome new.marks (λ ms. AtEach (IsMarked g k2 h2 ms) (length bytes) a.writings)))
-    later None q told l m = tt
-    later (Some ps) None told l m = absurd (cc)
-    later (Some ps) (Some qs) told l m =
-        some_so (λ bytes. IfSome new.marks (λ ms. AtEach (IsMarked g k1 h1 ms) (length bytes) a.writings)) (λ bytes. IfSome new.marks (λ ms. AtEach (IsMarked g k2 h2 ms) (length bytes) a.writings)) old.written
-        (λ bytes. some_so (λ ms. AtEach (IsMarked g k1 h1 ms) (length bytes) a.writings) (λ ms. AtEach (IsMarked g k2 h2 ms) (length bytes) a.writings) new.marks
-        (λ ms. each_so (IsMarked g k1 h1 ms) (IsMarked g k2 h2 ms) (length bytes) a.writings (λ at n. marked_later g k1 k2 h1 h2 y.more ms at n y.grown l))) m
-
--- from an earlier keeper on
-up_sooner : {K : Type 0} (g : Ghosts K) (h0 h1 h2 : List Stamped) (k0 k1 k2 : K) (old new : Output) → KeptOn g h0 k0 h1 k1 → KeepsUpInPart g IsResponse k1 old new h2 k2 → KeepsUpInPart g IsResponse k0 old new h2 k2
-up_sooner g h0 h1 h2 k0 k1 k2 old new x a = record {
-  writings = a.writings;
-  replies = a.replies;
-  text = a.text;
-  more = a.more;
-  set = a.set;
-  marked = sooner (g.payloads k0) (g.payloads k1) x.told a.marked;
-}
-  where
-    sooner : (p q : Option (List (List ℕ))) → IfSome p (λ ps. is_some q ≡ true)
-        → IfSome q (λ ps. IfSome old.written (λ bytes. IfSome new.marks (λ ms. AtEach (IsMarked g k2 h2 ms) (length bytes) a.writings)))
-        → IfSome p (λ ps. IfSome old.written (λ bytes. IfSome new.marks (λ ms. AtEach (IsMarked g k2 h2 ms) (length bytes) a.writings)))
-    sooner None q told m = tt
-    sooner (Some ps) None told m = absurd (cc)
-    sooner (Some ps) (Some qs) told m = m
 
 -- one connection
 abbrev IsUp : {K : Type 0} → Ghosts K → K → List Stamped → K → Visit → Type 0
@@ -103,8 +29,8 @@ IsUp g first after keeper v = KeepsUpInPart g IsResponse first (output_seen v.ca
 both_up : {K : Type 0} (g : Ghosts K) (h0 h1 h2 : List Stamped) (k0 k1 k2 : K) (xs ys : List Visit) → KeptOn g h0 k0 h1 k1 → KeptOn g h1 k1 h2 k2 → VisitsKeepUp g k0 h1 k1 xs → VisitsKeepUp g k1 h2 k2 ys → VisitsKeepUp g k0 h2 k2 (xs ++ ys)
 both_up g h0 h1 h2 k0 k1 k2 xs ys x y a b =
     All-append (IsUp g k0 h2 k2) xs ys
-    (All-weaker (IsUp g k0 h1 k1) (IsUp g k0 h2 k2) (λ v. up_later g h0 h1 h2 k0 k1 k2 (output_seen v.came) (output_seen v.back) x y) xs a)
-    (All-weaker (IsUp g k1 h2 k2) (IsUp g k0 h2 k2) (λ v. up_sooner g h0 h1 h2 k0 k1 k2 (output_seen v.came) (output_seen v.back) x) ys b)
+    (All-weaker (IsUp g k0 h1 k1) (IsUp g k0 h2 k2) (λ v. keeps_up_later WritesFront g IsResponse h0 h1 h2 k0 k1 k2 (output_seen v.came) (output_seen v.back) x y) xs a)
+    (All-weaker (IsUp g k1 h2 k2) (IsUp g k0 h2 k2) (λ v. keeps_up_sooner WritesFront g IsResponse h0 h1 h2 k0 k1 k2 (output_seen v.came) (output_seen v.back) x) ys b)
 
 one_up : {K : Type 0} (g : Ghosts K) (first keeper : K) (after : List Stamped) (v : Visit) → KeepsUpInPart g IsResponse first (output_seen v.came) (output_seen v.back) after keeper → VisitsKeepUp g first after keeper (v ∷ [])
 one_up g first keeper after v up = All-cons (IsUp g first after keeper) v [] up (All-nil (IsUp g first after keeper))
