@@ -1,5 +1,5 @@
 -- The laws of an output that keeps up: from one moment to the next, and of a single reply.
-use Rattle.std.specs.Prelude.{◌≡◌, ◌⊎◌, ◌≤◌, ◌+◌, ℕ, List, [], ◌∷◌, ◌++◌, All, Option, Some, None}
+use Rattle.std.specs.Prelude.{◌≡◌, ◌⊎◌, ◌≤◌, ◌+◌, ℕ, List, [], ◌∷◌, ◌++◌, Option, Some, None}
 use Rattle.std.specs.Prelude.{Result, Ok, IfSome, is_some, true, length, take, option_map}
 use Rattle.std.specs.Io.KnownBytes.{append_known}
 use Rattle.std.proofs.Common.{refl, ap, sym, ◌∙◌, subst, inl, inr, arith, suc, length-append}
@@ -339,8 +339,8 @@ keeps_up_one W g R first k h old new w moment reply wrote set leaves = record {
     mark : Option (List ℕ) → Mark
     mark o = record { moment = moment; written = option_map length o }
 
-    whole : Ok (payloads_of (take (length h) h)) ≡ Ok (payloads_of h)
-    whole = ap (λ (l : List Stamped). Ok (payloads_of l)) (take_all (length h) h (omega arith))
+    whole : take (length h) h ≡ h
+    whole = take_all (length h) h (omega arith)
 
     one : (bytes : List ℕ) (ms : List Mark) (n : ℕ) → IsLeft g k h moment n
         → IsMarked g k h (ms ++ mark (Some bytes) ∷ []) (length bytes) n
@@ -352,7 +352,9 @@ keeps_up_one W g R first k h old new w moment reply wrote set leaves = record {
       before = omega arith;
       past = is.1;
       there = is.0;
-      leaves = λ r left. (length h, is.0, omega arith, is.2 r left ∙ sym whole);
+      leaves = λ r left.
+          let all = ap (λ (l : List Stamped). Ok (payloads_of l)) (sym whole) in
+          (length h, is.0, omega arith, is.2 r left ∙ all);
     }
 
     each : (bytes : List ℕ) (ms : List Mark) (o : Option ℕ) → IfSome o (IsLeft g k h moment)
