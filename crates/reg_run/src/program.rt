@@ -43,9 +43,9 @@ fn follow<S: Source, K: Sink, D: Disk, C: Clock, L: Listener>(
 /// (`docs/REQUESTS.md`, "The program"): `init` begins a journal, `apply` answers each line of the
 /// input with a line of output, `serve PORT [--connections N]` answers the messages of so many
 /// connections, one after another, `check` opens the journal, `members NAME [--at T]` and
-/// `history NAME` ask it, and `provision CONSUMER SUBJECT MAX` prints operations for an outside list
-/// and acknowledges them. A status other than 0 has a note on `notes`; that it can't be written
-/// changes nothing.
+/// `history NAME` ask it, and `provision CONSUMER SUBJECT MAX` prints operations for an outside
+/// list and acknowledges them. A status other than 0 has a note on `notes`; that it can't be
+/// written changes nothing.
 pub fn run<S: Source, K: Sink, N: Sink, D: Disk, C: Clock, L: Listener>(
     alloc: Global,
     words: &[String],
@@ -56,8 +56,8 @@ pub fn run<S: Source, K: Sink, N: Sink, D: Disk, C: Clock, L: Listener>(
     clock: &mut C,
     net: &mut L,
 ) -> u8
-    // One end tells the status, its cause, what was done and what is left of the disk, and the
-    // note.
+    // One end tells the status, its cause, what was done and what is left of the disk, that what
+    // was acknowledged had been on it before, and the note.
     ensures ends { (end : End) × (result ≡ status_of end)
         × RunDid ⟦<D as Disk>⟧ (task_of (map string_bytes words.now)) end
         (world ⟦<S as Source>⟧ ⟦<K as Sink>⟧ ⟦<D as Disk>⟧ ⟦<C as Clock>⟧ input.old out.old disk.old
