@@ -14,7 +14,7 @@ use std::alloc::{AllocError, Global};
 
 /// The commands, each at the moment of its number. Ann is in `app:vpn` from 9 until just before 10,
 /// and from 11 on; Bob is in the wheel group.
-const COMMANDS: [(&str, &str); 13] = [
+const COMMANDS: &[(&str, &str)] = &[
     ("folder.add", "\"folder\":\"etc\""),
     ("group.add", "\"group\":\"etc:sysadmingroup\""),
     ("folder.add", "\"folder\":\"app\""),
@@ -35,7 +35,7 @@ const COMMANDS: [(&str, &str); 13] = [
     ),
     (
         "grant.add",
-        "\"object\":\"app:vpn\",\"privilege\":\"read\",\"holder\":\"uni/ann\"",
+        "\"object\":\"app:vpn\",\"privilege\":\"READ\",\"holder\":\"uni/ann\"",
     ),
 ];
 
@@ -57,7 +57,7 @@ fn dev() -> GroupId {
 /// The registry after the first so many of the commands.
 fn registry_after(alloc: Global, count: usize) -> Result<Service<NoKeeper>, Otherwise> {
     let mut lines = Vec::new(alloc);
-    for (op, fields) in COMMANDS.iter().take(count) {
+    for &(op, fields) in COMMANDS.iter().take(count) {
         put_line(alloc, &mut lines, op, fields)?;
     }
     after(alloc, lines, count as u64)
@@ -145,12 +145,12 @@ pub fn play_edit(alloc: Global) -> Result<(), Otherwise> {
     let before = registry_after(alloc, 5)?;
     let names = edited(alloc, before.machine().facts());
     drop(before);
+    let names = names?;
     let after = registry_after(alloc, 6)?;
-    let facts = after.machine().facts();
-    expect(
-        names_it(&names?, facts, "app:web:dev", &Object::Group(dev())),
-        "the new group is found",
-    )
+    let object = Object::Group(dev());
+    let is_found = names_it(&names, after.machine().facts(), "app:web:dev", &object);
+    drop(after);
+    expect(is_found, "the new group is found")
 }
 
 /// A person's entity.
@@ -158,64 +158,70 @@ fn person(alloc: Global, text: &str) -> Result<Entity, AllocError> {
     Ok(Entity::Person(Text::new(alloc, text)?))
 }
 
+/// Whether a person has a privilege on `app:vpn`.
+fn person_may(
+    alloc: Global,
+    machine: &Machine<Incremental>,
+    text: &str,
+    privilege: Privilege,
+) -> Result<bool, AllocError> {
+    let caller = person(alloc, text)?;
+    let object = Object::Group(vpn());
+    let names = machine.names();
+    may(
+        machine.facts(),
+        names,
+        machine.kept(),
+        &caller,
+        &object,
+        privilege,
+    )
+}
+
 /// What Ann may by a grant, Bob by the wheel group, and who is no caller not at all.
 pub fn play_may(alloc: Global, machine: &Machine<Incremental>) -> Result<(), Otherwise> {
-    let (facts, names, kept) = (machine.facts(), machine.names(), machine.kept());
-    let object = Object::Group(vpn());
-    for (text, may_read, may_update) in [
-        ("uni/ann", true, false),
-        ("uni/bob", true, true),
-        ("uni/eve", false, false),
-    ] {
-        let caller = person(alloc, text)?;
-        let reads = may(facts, names, kept, &caller, &object, Privilege::Read);
-        let updates = may(facts, names, kept, &caller, &object, Privilege::Update);
-        drop(caller);
-        expect(
-            reads? == may_read,
-            "by a grant and the wheel group alone a caller may read",
-        )?;
-        expect(
-            updates? == may_update,
-            "by the wheel group alone a caller may update",
-        )?;
-    }
-    Ok(())
+    let ann_reads = person_may(alloc, machine, "uni/ann", Privilege::Read)?;
+    let ann_updates = person_may(alloc, machine, "uni/ann", Privilege::Update)?;
+    let bob_updates = person_may(alloc, machine, "uni/bob", Privilege::Update)?;
+    let eve_reads = person_may(alloc, machine, "uni/eve", Privilege::Read)?;
+    expect(ann_reads, "Ann may read by her grant")?;
+    expect(!ann_updates, "it doesn't give her more")?;
+    expect(bob_updates, "Bob may update by the wheel group")?;
+    expect(!eve_reads, "who is no caller may not read")
+}
+
+/// Whether a caller may do everything.
+fn is_caller_root(machine: &Machine<Incremental>, caller: &Entity) -> Result<bool, AllocError> {
+    is_root(machine.facts(), machine.names(), machine.kept(), caller)
 }
 
 /// Who may do everything: GrouperSystem, and who is in the wheel group.
 pub fn play_root(alloc: Global, machine: &Machine<Incremental>) -> Result<(), Otherwise> {
-    let (facts, names, kept) = (machine.facts(), machine.names(), machine.kept());
-    let ann = is_root(facts, names, kept, &person(alloc, "uni/ann")?)?;
-    let bob = is_root(facts, names, kept, &person(alloc, "uni/bob")?)?;
+    let ann = is_caller_root(machine, &person(alloc, "uni/ann")?)?;
+    let bob = is_caller_root(machine, &person(alloc, "uni/bob")?)?;
+    let system = is_caller_root(machine, &Entity::System)?;
+    let everyone = is_caller_root(machine, &Entity::Everyone)?;
     expect(!ann, "who isn't in the wheel group may not do everything")?;
     expect(bob, "who is in it may")?;
-    expect(
-        is_root(facts, names, kept, &Entity::System)?,
-        "GrouperSystem may",
-    )?;
-    expect(
-        !is_root(facts, names, kept, &Entity::Everyone)?,
-        "what is no caller may not",
-    )
+    expect(system, "GrouperSystem may")?;
+    expect(!everyone, "what is no caller may not")
 }
 
 /// What is in the scope of `app`: directly in it, or at any depth below it.
 pub fn play_scopes(machine: &Machine<Incremental>) -> Result<(), Otherwise> {
     let facts = machine.facts();
-    for (object, is_in_one, is_in_sub) in [
-        (Object::Group(vpn()), true, true),
-        (Object::Group(dev()), false, true),
-        (Object::Folder(app()), false, false),
-        (Object::Group(GroupId::new(1)), false, false),
-    ] {
-        let one = in_scope(facts, app(), Scope::One, &object);
-        let sub = in_scope(facts, app(), Scope::Sub, &object);
-        expect(
-            one == is_in_one,
-            "scope ONE has what is directly in the folder",
-        )?;
-        expect(sub == is_in_sub, "scope SUB has what is in it or below it")?;
-    }
-    Ok(())
+    let (near, far) = (Object::Group(vpn()), Object::Group(dev()));
+    let (own, other) = (Object::Folder(app()), Object::Group(GroupId::new(1)));
+    let is_near_in_one = in_scope(facts, app(), Scope::One, &near);
+    let is_far_in_one = in_scope(facts, app(), Scope::One, &far);
+    expect(is_near_in_one, "`app:vpn` is directly in the folder")?;
+    expect(!is_far_in_one, "`app:web:dev` isn't")?;
+    let is_near_in_sub = in_scope(facts, app(), Scope::Sub, &near);
+    let is_far_in_sub = in_scope(facts, app(), Scope::Sub, &far);
+    expect(is_near_in_sub, "`app:vpn` is in it or below it")?;
+    expect(is_far_in_sub, "and so is `app:web:dev`")?;
+    let is_own = in_scope(facts, app(), Scope::Sub, &own);
+    let is_other = in_scope(facts, app(), Scope::Sub, &other);
+    expect(!is_own, "a folder isn't in its own scope")?;
+    expect(!is_other, "nor is a group of another folder")
 }
