@@ -91,16 +91,19 @@ fn otherwise_told(machine: &Machine<Incremental>) -> u64 {
 /// All commands are accepted, and each change of a membership is in the log. The last group has all
 /// persons of the first one; who joined last and left was in it at each moment at which it had
 /// joined, and at no other.
-pub fn play(alloc: Global) -> Result<(), Otherwise> {
-    let service = after(alloc, commands(alloc)?, LAST)?;
-    let machine = service.machine();
+fn judge(machine: &Machine<Incremental>) -> Result<(), Otherwise> {
     expect_number(machine.commands() as u64, LAST, "accepted commands")?;
     expect_number(machine.log().last(), 504_400, "entries of the log")?;
     let members = machine.kept().members(GroupId::new(200))?;
     expect_number(members.len() as u64, 2_000, "members of the last group")?;
-    expect_number(
-        otherwise_told(machine),
-        0,
-        "moments of which the past tells otherwise",
-    )
+    let wrong = otherwise_told(machine);
+    expect_number(wrong, 0, "moments of which the past tells otherwise")
+}
+
+/// The chain is made, and judged.
+pub fn play(alloc: Global) -> Result<(), Otherwise> {
+    let service = after(alloc, commands(alloc)?, LAST)?;
+    let judged = judge(service.machine());
+    drop(service);
+    judged
 }

@@ -1,5 +1,5 @@
 // The objects over the system: no clause can say what a file, a stream or the system's clock gives.
-use super::otherwise::{Otherwise, expect, expect_number};
+use super::otherwise::{Findings, Otherwise, expect, expect_number};
 use reg_outside::{
     Absent, Clock, Disk, Failed, FileDisk, Sink, Source, StdSink, StdSource, SureSink, SystemClock,
     write_whole,
@@ -22,105 +22,118 @@ const LINK: &str = "file_disk_link";
 
 const LINKED: &str = "file_disk_linked";
 
-/// A file gives back what was written, and none to another disk before the first one is dropped.
+/// A file gives back what was written, and nothing to another disk before the first one is dropped.
 pub fn play_file(rt: &HostRuntime) -> Result<(), Otherwise> {
     let _ = remove_file(rt, FILE);
+    let mut test = Findings::new();
     let mut disk = FileDisk::new(rt, FILE, Absent::Make);
     let mut other = FileDisk::new(rt, FILE, Absent::Make);
     let mut buf = [0u8; 8];
-    expect(
+    test.expect(
         disk.write_at(0, b"abc") == Ok(()),
         "three bytes are written",
-    )?;
-    expect(
+    );
+    test.expect(
         disk.write_at(2, b"de") == Ok(()),
-        "two are written over the last and behind it",
-    )?;
-    expect(disk.sync() == Ok(()), "they are synced")?;
-    expect(
+        "two are written from the third on",
+    );
+    test.expect(disk.sync() == Ok(()), "they are synced");
+    test.expect(
         disk.read_at(1, &mut buf) == Ok(3),
         "three are read from the second on",
-    )?;
-    expect(buf.starts_with(b"bde"), "they are those that were written")?;
-    expect(
+    );
+    test.expect(buf.starts_with(b"bde"), "they are those that were written");
+    test.expect(
         disk.read_at(4, &mut buf) == Ok(0),
         "none is read at the end",
-    )?;
-    expect(
+    );
+    test.expect(
         other.len() == Err(Failed),
         "another disk has no length of a locked file",
-    )?;
-    expect(
+    );
+    test.expect(
         other.write_at(0, b"x") == Err(Failed),
         "and writes nothing to it",
-    )?;
+    );
     drop(disk);
-    expect(
+    test.expect(
         other.len() == Ok(4),
         "it has the length once the lock is gone",
-    )?;
-    expect(remove_file(rt, FILE).is_ok(), "the file can be removed")
+    );
+    test.expect(remove_file(rt, FILE).is_ok(), "the file can be removed");
+    test.end()
+}
+
+/// The mode of a file.
+fn mode_of(rt: &HostRuntime, path: &str) -> Option<u32> {
+    let about = metadata(rt, path).ok()?;
+    Some(about.permissions().mode() & 0o777)
 }
 
 /// A file that is made is for its owner alone.
 pub fn play_owner(rt: &HostRuntime) -> Result<(), Otherwise> {
     let _ = remove_file(rt, OWNED);
+    let mut test = Findings::new();
     let mut disk = FileDisk::new(rt, OWNED, Absent::Make);
-    expect(disk.write_at(0, b"a") == Ok(()), "a byte is written")?;
-    let Ok(about) = metadata(rt, OWNED) else {
-        return Err(Otherwise::NotSo("the file is there"));
-    };
-    let mode = about.permissions().mode() & 0o777;
-    expect_number(u64::from(mode), 0o600, "the file's mode")?;
-    expect(remove_file(rt, OWNED).is_ok(), "the file can be removed")
+    test.expect(disk.write_at(0, b"a") == Ok(()), "a byte is written");
+    test.expect(
+        mode_of(rt, OWNED) == Some(0o600),
+        "the owner alone reads and writes the file",
+    );
+    test.expect(remove_file(rt, OWNED).is_ok(), "the file can be removed");
+    test.end()
 }
 
 /// In a folder that isn't there nothing is synced, nor anything written past all files.
 pub fn play_no_folder(rt: &HostRuntime) -> Result<(), Otherwise> {
-    let mut disk = FileDisk::new(rt, "no_folder/file_disk_test", Absent::Make);
-    expect(disk.sync() == Err(Failed), "a sync fails in no folder")?;
-    expect(
-        disk.write_at((1 << 63) - 1, b"f") == Err(Failed),
-        "a write past all files fails",
-    )
+    let mut test = Findings::new();
+    let mut absent = FileDisk::new(rt, "no_folder/file_disk_test", Absent::Make);
+    test.expect(absent.sync() == Err(Failed), "a sync fails in no folder");
+    let is_written = absent.write_at((1 << 63) - 1, b"f");
+    test.expect(is_written == Err(Failed), "a write past all files fails");
+    test.end()
 }
 
 /// A file that is to stay absent counts as empty, and isn't made by a write.
 pub fn play_absent(rt: &HostRuntime) -> Result<(), Otherwise> {
+    let mut test = Findings::new();
     let mut disk = FileDisk::new(rt, ABSENT, Absent::Leave);
-    expect(disk.reason().is_none(), "at first there is no reason")?;
-    expect(disk.len() == Ok(0), "its length is 0")?;
-    expect(disk.read_at(0, &mut [0u8; 8]) == Ok(0), "nothing is read")?;
-    expect(disk.sync() == Ok(()), "it is synced")?;
-    expect(disk.write_at(0, b"a") == Err(Failed), "a write fails")?;
+    test.expect(disk.reason().is_none(), "at first there is no reason");
+    test.expect(disk.len() == Ok(0), "its length is 0");
+    test.expect(disk.read_at(0, &mut [0u8; 8]) == Ok(0), "nothing is read");
+    test.expect(disk.sync() == Ok(()), "it is synced");
+    test.expect(disk.write_at(0, b"a") == Err(Failed), "a write fails");
     let is_told = matches!(disk.reason(), Some(ErrorKind::NotFound));
-    expect(is_told, "the reason is that it isn't found")?;
-    expect(matches!(exists(rt, ABSENT), Ok(false)), "it isn't made")
+    test.expect(is_told, "the reason is that it isn't found");
+    test.expect(matches!(exists(rt, ABSENT), Ok(false)), "it isn't made");
+    test.end()
 }
 
 /// Behind a link a file is opened, and not made.
 pub fn play_link(rt: &HostRuntime) -> Result<(), Otherwise> {
     let _ = remove_file(rt, LINK);
     let _ = remove_file(rt, LINKED);
-    expect(symlink(rt, LINKED, LINK).is_ok(), "a link is made")?;
+    let mut test = Findings::new();
+    test.expect(symlink(rt, LINKED, LINK).is_ok(), "a link is made");
     let mut behind = FileDisk::new(rt, LINK, Absent::Make);
-    expect(
+    test.expect(
         behind.write_at(0, b"a") == Err(Failed),
         "a write through it fails",
-    )?;
-    expect(
+    );
+    test.expect(
         matches!(exists(rt, LINKED), Ok(false)),
         "no file is made behind it",
-    )?;
+    );
     let mut disk = FileDisk::new(rt, LINKED, Absent::Make);
-    expect(
+    test.expect(
         disk.write_at(0, b"ab") == Ok(()),
         "the file is made by its own name",
-    )?;
+    );
     drop(disk);
-    expect(behind.len() == Ok(2), "then it is opened through the link")?;
-    expect(remove_file(rt, LINK).is_ok(), "the link can be removed")?;
-    expect(remove_file(rt, LINKED).is_ok(), "the file can be removed")
+    test.expect(behind.len() == Ok(2), "then it is opened through the link");
+    test.expect(remove_file(rt, LINK).is_ok(), "the link can be removed");
+    test.expect(remove_file(rt, LINKED).is_ok(), "the file can be removed");
+    test.end()
 }
 
 /// Gives two bytes, and fails from then on.
