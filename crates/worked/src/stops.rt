@@ -90,6 +90,16 @@ impl Wanted {
     }
 }
 
+/// What is wanted of a run over a disk with these bytes where it is stopped.
+fn wanted_of(alloc: Global, run: &Run, disk: &[u8]) -> Result<Wanted, AllocError> {
+    let kept = kept_of(alloc, disk)?;
+    let whole = stop_at(alloc, run, disk, PAST_ALL_CALLS)?;
+    Ok(Wanted {
+        before: count_commands(kept.as_str()),
+        added: whole.acknowledged,
+    })
+}
+
 /// With how many of the bytes that were written since the last sync a crash leaves otherwise than
 /// is wanted, and what `check` says of it then. An image that is the one before isn't opened again.
 fn find_lost(
@@ -172,11 +182,7 @@ pub fn play_stops(
     disk: &[u8],
     faults: &mut String,
 ) -> Result<(), AllocError> {
-    let whole = stop_at(alloc, run, disk, PAST_ALL_CALLS)?;
-    let wanted = Wanted {
-        before: count_commands(kept_of(alloc, disk)?.as_str()),
-        added: whole.acknowledged,
-    };
+    let wanted = wanted_of(alloc, run, disk)?;
     for stop in 1..PAST_ALL_CALLS {
         let stopped = stop_at(alloc, run, disk, stop)?;
         judge(alloc, faults, stop, &stopped, &wanted)?;

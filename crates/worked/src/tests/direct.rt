@@ -146,10 +146,10 @@ pub fn play_edit(alloc: Global) -> Result<(), Otherwise> {
     let names = edited(alloc, before.machine().facts());
     drop(before);
     let names = names?;
-    let after = registry_after(alloc, 6)?;
+    let next = registry_after(alloc, 6)?;
     let object = Object::Group(dev());
-    let is_found = names_it(&names, after.machine().facts(), "app:web:dev", &object);
-    drop(after);
+    let is_found = names_it(&names, next.machine().facts(), "app:web:dev", &object);
+    drop(next);
     expect(is_found, "the new group is found")
 }
 
