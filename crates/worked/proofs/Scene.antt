@@ -1,5 +1,5 @@
 -- Each event of the scene suits the facts before it, and so does its change of what is live.
-use Rattle.std.proofs.Common.{◌≡◌, ⊥, ℕ, true, false, refl, arith}
+use Rattle.std.proofs.Common.{◌≡◌, ℕ, true, false, refl, arith}
 use Rattle.reg_terms.specs.declared.event.Event.TheVariants.{SubjectMade, GroupMade, RowAdded, RuleMade}
 use Rattle.reg_terms.specs.declared.kinds.Member.TheVariants.{Person}
 use Rattle.reg_effect.specs.Changes.{Suits as SuitsLive, nothing}
