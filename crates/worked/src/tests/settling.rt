@@ -45,6 +45,7 @@ fn add_ann(alloc: Global, facts: Facts) -> Result<Facts, AllocError>
     facts.take(alloc, Event::SubjectMade { row })
 }
 
+#[tactic(auto, unfolding(reg_facts::specs::Naming::placed, reg_facts::specs::Naming::name_of, reg_facts::specs::Naming::extensions))]
 fn add_staff(alloc: Global, facts: Facts) -> Result<Facts, AllocError>
     requires { facts ≡ with_ann }
     ensures { IfOk result (λ f. f ≡ with_staff) }
@@ -53,6 +54,7 @@ fn add_staff(alloc: Global, facts: Facts) -> Result<Facts, AllocError>
     facts.take(alloc, Event::GroupMade { row })
 }
 
+#[tactic(auto, unfolding(reg_facts::specs::Naming::placed, reg_facts::specs::Naming::name_of, reg_facts::specs::Naming::extensions))]
 fn add_keys(alloc: Global, facts: Facts) -> Result<Facts, AllocError>
     requires { facts ≡ with_staff }
     ensures { IfOk result (λ f. f ≡ with_keys) }
@@ -104,6 +106,7 @@ fn facts(alloc: Global) -> Result<Facts, AllocError>
 }
 
 /// The memberships of the scene.
+#[tactic(auto, using(crate::proofs::Scene::suits_live))]
 fn kept<L: Ledger>(
     alloc: Global,
     turned: &mut Turned,
