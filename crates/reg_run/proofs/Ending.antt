@@ -18,7 +18,7 @@ use Rattle.reg_view.specs.AtClock.{told}
 use Rattle.reg_service.specs.Turn.{AsksNoChange, IsQuery, answered, at_moment, requested, turn}
 use Rattle.reg_session.specs.Answered.{Point}
 use Rattle.reg_session.specs.Lines.{lines, IsCutAtLineFeeds}
-use Rattle.reg_session.specs.Replies.{line_of}
+use Rattle.reg_session.specs.Replies.{IsLine, line_of}
 use Rattle.reg_session.specs.Input.{EndsInput, StopsInput, Takes}
 use Rattle.reg_session.specs.declared.stop.Stop.{Stop}
 use Rattle.reg_session.specs.declared.stop.Stop.TheVariants as stop
@@ -27,7 +27,8 @@ use Rattle.reg_run.specs.Crash.{Seen, DiskSurvives, IsWhole}
 use Rattle.reg_run.specs.Due.{Due, Told, ToldOnce, AnswersTo, due_of, end_of_due}
 use Rattle.reg_run.specs.Ends.{ApplyEnds, DidApply, AskEnds, TooMuchExactly, begins_at, end_of_stop}
 use Rattle.reg_run.specs.Once.{Printed, end_of_reply}
-use Rattle.reg_run.specs.World.{World, Out, IsFlushed, SameNet, output}
+use Rattle.reg_run.specs.KeepsUp.{DiskKeepsUp}
+use Rattle.reg_run.specs.World.{World, Out, IsFlushed, SameNet, marked_output, output}
 use Rattle.reg_run.specs.declared.status.End.{End}
 use Rattle.reg_run.specs.declared.status.End.TheVariants as the_end
 
@@ -188,8 +189,8 @@ too_much_of the_end.Refused from taken before after accepted answered input e = 
 -- what `apply` did, from how it ended and what it left
 pub did_apply : (d : Seen) (end : End) (before after : World) (from : State) (taken : List ℕ) → Takes before.left taken after.left → length taken ≤ 2 ^ 32 → IsCutAtLineFeeds (lines taken) taken
     → (accepted : List Stamped) (answered : ℕ) → SameNet before after → ApplyEnds end from taken before after accepted (from.history ++ take answered accepted) → DiskSurvives d from.history accepted answered (status_of end)
-    → DidApply d end before after from
-did_apply d end before after from taken input few cut accepted answered net ends disk = record {
+    → DiskKeepsUp d (from.history ++ accepted) IsLine (marked_output before) (marked_output after) → DidApply d end before after from
+did_apply d end before after from taken input few cut accepted answered net ends disk keeps_up = record {
   taken = taken;
   input = input;
   few = few;
@@ -200,4 +201,5 @@ did_apply d end before after from taken input few cut accepted answered net ends
   too_much = too_much_of end from taken before after accepted (from.history ++ take answered accepted) input ends;
   net = net;
   disk = disk;
+  keeps_up = keeps_up;
 }

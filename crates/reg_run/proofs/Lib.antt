@@ -2,6 +2,7 @@ pub mod Asking
 pub mod Crashing
 pub mod Ending
 pub mod Gathering
+pub mod KeepingUp
 pub mod Loading
 pub mod Naming
 pub mod Opened

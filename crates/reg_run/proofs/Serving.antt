@@ -1,21 +1,27 @@
 -- How serving ends, from how its parts did.
-use Rattle.std.proofs.Common.{◌≡◌, ◌++◌, [], append-nil, length, List, ℕ, Option, Some, None, Result, Ok, refl, ap, sym, subst, ◌∙◌, arith, take, inl, take_all}
-use Rattle.std.specs.Prelude.{IfSome}
+use Rattle.std.proofs.Common.{◌≡◌, ◌++◌, [], append-nil, length, List, ℕ, Option, Some, None, Result, Ok, Err, refl, ap, sym, subst, ◌∙◌, arith, take, inl, take_all, option_map}
+use Rattle.std.specs.Prelude.{All, IfErr, IfSome}
+use Rattle.std.proofs.lemmas.List.Elements.{All-nil}
 use Rattle.reg_outside.specs.Connections.{Connections}
 use Rattle.reg_outside.specs.Faults.{Rose}
+use Rattle.reg_outside.specs.declared.disk.Disk as disk
 use Rattle.reg_terms.specs.declared.command.Stamped.{Stamped}
 use Rattle.reg_machine.specs.History.{State}
+use Rattle.reg_keep.specs.Keeping.{kept_in}
 use Rattle.reg_keep.specs.declared.keeper.Keeper.{Ghosts}
 use Rattle.reg_service.specs.Kept.{IsBetween, KeptOn, Stopped}
 use Rattle.reg_service.specs.Opening.{payloads_of, FrontsReopen}
+use Rattle.reg_serve.specs.KeepingUp.{IsResponse, VisitsKeepUp, output_seen}
 use Rattle.reg_serve.specs.Visits.{CeasesAt, CeasesServing, Visit, Visits}
 use Rattle.reg_serve.specs.declared.ended.Ceased.{Ceased}
 use Rattle.reg_serve.specs.declared.ended.Ceased.TheVariants as ceased
-use Rattle.reg_run.specs.Crash.{IsWhole}
-use Rattle.reg_run.specs.Serving.{ServedSome, ServeEnds, end_of_serve}
+use Rattle.reg_run.specs.Crash.{IsWhole, seen}
+use Rattle.reg_run.specs.KeepsUp.{KeepsUp}
+use Rattle.reg_run.specs.Serving.{ConnectionsKeepUp, ServedSome, ServeEnds, end_of_serve}
 use Rattle.reg_run.specs.Status.{status_of}
 use Rattle.reg_run.specs.World.{World}
 use Rattle.reg_run.proofs.Ending.{three, four}
+use Rattle.reg_run.proofs.KeepingUp.{StandsOn, disk_keeps_up}
 
 -- no connection was served
 pub no_visits : (told : Option Connections) → Visits told told []
@@ -32,7 +38,7 @@ stopped_same g h k (Some ps) fronts left = (fronts, λ r here. between_same h r 
 -- nothing was asked, and the keeper given back
 pub nothing_ceased : {K : Type 0} (g : Ghosts K) (limit : ℕ) (s : State) (old keeper : K) (moments : Option (List ℕ)) (before after : Option Connections) → keeper ≡ old → after ≡ before
     → KeptOn g s.history old s.history old → FrontsReopen s.history → ((r : Result (List (List ℕ)) ℕ) → g.stop_leaves keeper r → r ≡ Ok (payloads_of s.history))
-    → (c : CeasesServing g limit s old moments before after moments ceased.Listener keeper) × (c.visits ≡ [])
+    → (c : CeasesServing g limit s old moments before after moments ceased.Listener keeper) × (c.visits ≡ []) × VisitsKeepUp g old c.halted.after keeper c.visits
 nothing_ceased {K = K} g limit s old keeper moments before after same told kept fronts left = (
   record {
     visits = [];
@@ -49,7 +55,24 @@ nothing_ceased {K = K} g limit s old keeper moments before after same told kept 
     ends = (s, (refl, refl), refl, refl);
   },
   refl,
+  All-nil _,
 )
+
+-- what is true of an error, from what is
+pub if_err_so : {A E : Type 0} {P Q : E → Type 0} (r : Result A E) → ((e : E) → P e → Q e) → IfErr r P → IfErr r Q
+if_err_so (Ok x) so is = tt
+if_err_so (Err e) so is = so e is
+
+-- each connection keeps up with the disk of a keeper
+pub visits_keep_up : {K D : Type 0} (j : Ghosts K) (g : disk.Ghosts D) (first k : K) (old new : D) (told later : Option Connections) (visits : List Visit) (before more history : List Stamped) → VisitsKeepUp j first history k visits → Visits told later visits
+    → history ≡ before ++ more → IfSome (j.payloads first) (λ ps. FrontsReopen history) → StandsOn j g k new → j.payloads first ≡ option_map kept_in (g.contents old)
+    → ConnectionsKeepUp (seen g old new) (before ++ more) told later
+visits_keep_up j g first k old new told later visits before more history a are grown again on same =
+    run (g.contents old) (λ (v : Visit). KeepsUp (seen g old new) (before ++ more) IsResponse (output_seen v.came) (output_seen v.back)) (λ i v within. disk_keeps_up j g IsResponse first k old new _ _ before more history (a i v within) grown again on same)
+  where
+    run : (held : Option (List ℕ)) (P : Visit → Type 0) → All (λ v. IfSome held (λ file. P v)) visits → IfSome held (λ file. (vs : List Visit) × Visits told later vs × All P vs)
+    run None P all = tt
+    run (Some file) P all = (visits, are, all)
 
 -- serving ceased
 pub serve_ceased : (why : Ceased) (from : State) (port limit : ℕ) (before after : World) (more : List Stamped) (n : ℕ) (answered kept : List Stamped) → (why ≡ ceased.Listener → Rose before.net.net_faults after.net.net_faults)

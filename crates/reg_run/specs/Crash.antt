@@ -82,14 +82,16 @@ Begins status held was left images since =
     × IfSome held (λ file. (from : State) → opens file ≡ Ok from
     → StaysAt from.history held was left images since)
 
--- what a run sees of a disk: its bytes and images before and after, and the images at all moments
--- since
+-- what a run sees of a disk: its bytes and images before and after, the images at all moments
+-- since, the moment after, and the images since a moment
 pub record Seen : Type 1 where
   pub held : Option (List ℕ)
   pub was : List ℕ → Type 0
   pub left : Option (List ℕ)
   pub images : List ℕ → Type 0
   pub since : List ℕ → Type 0
+  pub moment : ℕ
+  pub since_moment : ℕ → List ℕ → Type 0
 
 -- the same of this disk, from an earlier state to a later one
 abbrev pub seen : {D : Type 0} → Ghosts D → D → D → Seen
@@ -99,6 +101,8 @@ seen g old new = record {
   left = g.contents new;
   images = g.may_leave new;
   since = g.left_since new (g.moment old);
+  moment = g.moment new;
+  since_moment = g.left_since new;
 }
 
 -- the bytes are those from before, and each image since the start is one from before

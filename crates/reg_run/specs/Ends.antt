@@ -19,16 +19,17 @@ use Rattle.reg_keep.specs.declared.open.OpenFault.TheVariants as fault
 use Rattle.reg_service.specs.Opening.{at_last}
 use Rattle.reg_service.specs.Turn.{turn}
 use Rattle.reg_session.specs.Lines.{lines, IsCutAtLineFeeds}
-use Rattle.reg_session.specs.Replies.{line_of}
+use Rattle.reg_session.specs.Replies.{IsLine, line_of}
 use Rattle.reg_session.specs.Answered.{Point, Accepted}
 use Rattle.reg_session.specs.Input.{Takes, EndsInput}
 use Rattle.reg_session.specs.declared.stop.Stop.{Stop}
 use Rattle.reg_session.specs.declared.stop.Stop.TheVariants as stop
 use Rattle.reg_run.specs.Crash.{Seen, seen, OpensTo, IsUntouched, DiskSurvives, DiskBegins}
+use Rattle.reg_run.specs.KeepsUp.{DiskKeepsUp}
 use Rattle.reg_run.specs.Status.{check_line, status_of}
 use Rattle.reg_run.specs.Serving.{DidServe}
 use Rattle.reg_run.specs.World.{World, Out, IsFlushed, LookedOnce, SameClock, SameInput, SameNet}
-use Rattle.reg_run.specs.World.{SameOutput, output}
+use Rattle.reg_run.specs.World.{SameOutput, marked_output, output}
 use Rattle.reg_sample.specs.Played.{summary, summary_text}
 use Rattle.reg_run.specs.Once.{AsksOnce, IsTakenWhole, Printed, load_of}
 use Rattle.reg_run.specs.Due.{Due, Replied, RepliedFront, AnswersTo, ReportsAt}
@@ -158,8 +159,8 @@ pub record TooMuchExactly (end : End) (taken : List ℕ) (before after : World) 
       → (end ≡ the_end.TooMuch) ⊎ (end ≡ the_end.Memory))
 
 -- `apply` from the state that the file opened to: the bytes that were taken, cut at each LF, the
--- commands that were accepted and how many of them were answered, how it ended, and what it leaves
--- of the disk.
+-- commands that were accepted and how many of them were answered, how it ended, what it leaves of
+-- the disk, and that each line of reply came behind what the disk has.
 pub record DidApply (d : Seen) (end : End) (before after : World) (from : State) : Type 0 where
   pub taken : List ℕ
   pub input : Takes before.left taken after.left
@@ -171,6 +172,8 @@ pub record DidApply (d : Seen) (end : End) (before after : World) (from : State)
   pub too_much : TooMuchExactly end taken before after
   pub net : SameNet before after
   pub disk : DiskSurvives d from.history accepted answered (status_of end)
+  pub keeps_up : DiskKeepsUp d (from.history ++ accepted) IsLine (marked_output before)
+      (marked_output after)
 
 -- `check` from the state that the file opened to: it printed how many commands there are, and only
 -- read the disk
@@ -244,7 +247,8 @@ LoadAsked end from job taken before after answered kept =
     (output after) × (end ≡ the_end.Disk → Rose before.faults after.faults)
 
 -- `load` from the state that the file opened to: the bytes that were taken, the commands that were
--- accepted and how many of them were answered, how it ended, and what it leaves of the disk.
+-- accepted and how many of them were answered, how it ended, what it leaves of the disk, and that
+-- the reply came behind what the disk has.
 pub record DidLoad (d : Seen) (job : List ℕ) (end : End) (before after : World)
     (from : State) : Type 0 where
   pub taken : List ℕ
@@ -258,6 +262,8 @@ pub record DidLoad (d : Seen) (job : List ℕ) (end : End) (before after : World
       ++ take answered accepted) (from.history ++ accepted)
   pub net : SameNet before after
   pub disk : DiskSurvives d from.history accepted answered (status_of end)
+  pub keeps_up : DiskKeepsUp d (from.history ++ accepted) IsLine (marked_output before)
+      (marked_output after)
 
 -- `sample`: the summary of the seed and the size was printed, and nothing else was looked at; or
 -- there was no memory, and nothing was written

@@ -69,8 +69,8 @@ TurnsOnce s at reading told answered kept =
     ⊎ ((told ≡ reply.KeepFault) × (answered ≡ s.history)
     × ((kept ≡ s.history) ⊎ (kept ≡ (turn s at reading).1.history))))
 
--- What is read was asked at the clock's next moment, and its reply printed, or the output failed; or
--- there was no memory to, which no fault needs.
+-- What is read was asked at the clock's next moment, and its reply printed, or the output failed;
+-- or there was no memory to, which no fault needs.
 pub record AsksOnce (s : State) (moments : Option (List ℕ)) (reading : Result Request Refusal)
     (end : End) (answered kept : List Stamped) (old new : Out) : Type 0 where
   pub at : ℕ

@@ -76,7 +76,8 @@ IsWithheld asked s told =
 -- that was printed
 abbrev pub Withholds : Provision → State → End → Out → Out → Type 0
 Withholds asked s end old new =
-    (told : Reply) × IsWithheld asked s told × Printed (end_of_reply told) (line_of told) end old new
+    (told : Reply) × IsWithheld asked s told
+    × Printed (end_of_reply told) (line_of told) end old new
 
 -- a request of GrouperSystem that moves a consumer's place to a number
 abbrev pub ack_request : List ℕ → ℕ → Request

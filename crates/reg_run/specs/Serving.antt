@@ -1,13 +1,17 @@
 -- What `serve` did: which connections were given back, and what is kept of what they asked.
-use Rattle.std.specs.Prelude.{◌≡◌, ◌⊎◌, ◌≤◌, ◌++◌, ℕ, List, [], Some, Ok, length, take}
+use Rattle.std.specs.Prelude.{◌≡◌, ◌⊎◌, ◌≤◌, ◌++◌, ℕ, List, [], All, Option, Some, Ok, length}
+use Rattle.std.specs.Prelude.{take, IfSome}
+use Rattle.reg_outside.specs.Connections.{Connections}
 use Rattle.reg_outside.specs.Faults.{Rose}
 use Rattle.reg_terms.specs.declared.command.Stamped.{Stamped}
 use Rattle.reg_machine.specs.History.{State}
 use Rattle.reg_service.specs.Opening.{at_last}
+use Rattle.reg_serve.specs.KeepingUp.{IsResponse, output_seen}
 use Rattle.reg_serve.specs.Visits.{CeasesAt, ServesVisits, Visit, Visits}
 use Rattle.reg_serve.specs.declared.ended.Ceased.{Ceased}
 use Rattle.reg_serve.specs.declared.ended.Ceased.TheVariants as ceased
 use Rattle.reg_run.specs.Crash.{Seen, OpensTo, DiskSurvives}
+use Rattle.reg_run.specs.KeepsUp.{KeepsUp}
 use Rattle.reg_run.specs.Status.{status_of}
 use Rattle.reg_run.specs.World.{World, SameInput, SameOutput}
 use Rattle.reg_run.specs.declared.status.End.{End}
@@ -55,9 +59,17 @@ ServeEnds the_end.TooMuch from port limit before after accepted answered = ⊥
 ServeEnds the_end.Exists from port limit before after accepted answered = ⊥
 ServeEnds the_end.Refused from port limit before after accepted answered = ⊥
 
+-- What was written to each connection that was given back, from its coming on, keeps up with the
+-- disk, where the disk tells its bytes.
+abbrev pub ConnectionsKeepUp : Seen → List Stamped → (old new : Option Connections) → Type 0
+ConnectionsKeepUp d history old new = IfSome d.held (λ file. (visits : List Visit)
+    × Visits old new visits
+    × All (λ (v : Visit). KeepsUp d history IsResponse (output_seen v.came) (output_seen v.back))
+    visits)
+
 -- `serve` from the state that the file opened to: the commands that were accepted and how many of
--- them were answered, how it ended, and what it leaves of the disk. Nothing is read or written but
--- the connections.
+-- them were answered, how it ended, what it leaves of the disk, and that each response came behind
+-- what the disk has. Nothing is read or written but the connections.
 pub record DidServe (d : Seen) (port limit : ℕ) (end : End) (before after : World)
     (from : State) : Type 0 where
   pub accepted : List Stamped
@@ -67,6 +79,8 @@ pub record DidServe (d : Seen) (port limit : ℕ) (end : End) (before after : Wo
   pub input : SameInput before after
   pub output : SameOutput before after
   pub disk : DiskSurvives d from.history accepted answered (status_of end)
+  pub keeps_up : ConnectionsKeepUp d (from.history ++ accepted) before.net.connections
+      after.net.connections
 
 -- why serving ceased, as a run's end
 abbrev pub end_of_serve : Ceased → End

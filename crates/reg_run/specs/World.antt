@@ -1,5 +1,6 @@
 -- What a run sees of the outside.
 use Rattle.std.specs.Prelude.{◌≡◌, ℕ, List, Option, length, option_map}
+use Rattle.reg_outside.specs.Marks.{Mark}
 use Rattle.reg_outside.specs.Streams.{later_moments}
 use Rattle.reg_outside.specs.declared.source.Source as source
 use Rattle.reg_outside.specs.declared.sink.Sink as sink
@@ -7,6 +8,7 @@ use Rattle.reg_outside.specs.declared.disk.Disk as disk
 use Rattle.reg_outside.specs.declared.clock.Clock as clock
 use Rattle.reg_outside.specs.declared.listener.Listener as listener
 use Rattle.reg_outside.specs.Connections.{Connections}
+use Rattle.reg_service.specs.Marks.{Output}
 
 -- what a run sees of a listener: its port, its connections where they are told, and the count of
 -- faults
@@ -23,13 +25,14 @@ net_of l net = record {
   net_faults = l.listener_faults net;
 }
 
--- bytes left and written, how many were flushed, moments and the disk's bytes, where they are told,
--- the counts of faults, and the listener
+-- bytes left and written, how many were flushed, the marks that were set, moments and the disk's
+-- bytes, where they are told, the counts of faults, and the listener
 pub record World : Type 0 where
   pub left : Option (List ℕ)
   pub reads : ℕ
   pub written : Option (List ℕ)
   pub flushed : Option ℕ
+  pub marks : Option (List Mark)
   pub writes : ℕ
   pub moments : Option (List ℕ)
   pub held : Option (List ℕ)
@@ -44,6 +47,7 @@ world s k d c input out held time net = record {
   reads = s.read_faults input;
   written = k.written out;
   flushed = k.flushed out;
+  marks = k.marks out;
   writes = k.write_faults out;
   moments = c.moments time;
   held = d.contents held;
@@ -57,8 +61,12 @@ holding d w held = record w { held = d.contents held; faults = d.faults held }
 
 -- with this output
 abbrev pub printing : {K : Type 0} → sink.Ghosts K → World → K → World
-printing k w out =
-    record w { written = k.written out; flushed = k.flushed out; writes = k.write_faults out }
+printing k w out = record w {
+  written = k.written out;
+  flushed = k.flushed out;
+  marks = k.marks out;
+  writes = k.write_faults out;
+}
 
 -- with this clock
 abbrev pub at_clock : {C : Type 0} → clock.Ghosts C → World → C → World
@@ -86,6 +94,10 @@ out_of k out = record {
 -- and of the output of a world
 abbrev pub output : World → Out
 output w = record { written = w.written; flushed = w.flushed; writes = w.writes }
+
+-- the bytes and the marks of the output of a world
+abbrev pub marked_output : World → Output
+marked_output w = record { written = w.written; marks = w.marks }
 
 -- nothing of the input was read
 abbrev pub SameInput : World → World → Type 0

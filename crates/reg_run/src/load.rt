@@ -1,18 +1,21 @@
 // A job, run over the input as its table.
 ghost use Rattle.std.specs.Prelude.{◌≡◌, ◌≤◌, ◌<◌, ◌+◌, ℕ, List, Result, Err, length, take, codes};
-ghost use Rattle.std.specs.Prelude.{option_map, IfOk, OnErr};
+ghost use Rattle.std.specs.Prelude.{option_map, true, IfOk, OnErr};
 ghost use Rattle.std.specs.Io.KnownBytes.{IsAtEnd, prepend_known};
 ghost use Rattle.reg_outside.specs.Faults.{Rose};
+ghost use Rattle.reg_outside.specs.Marks.{marked};
 ghost use Rattle.reg_outside.specs.Streams.{later_moments};
 ghost use Rattle.reg_terms.specs.Limits.{max_line};
 ghost use Rattle.reg_terms.specs.declared.refusal.Refusal.{Refusal};
 ghost use Rattle.reg_terms.specs.declared.request.Request.{Request};
-ghost use Rattle.reg_service.specs.Kept.{Halted};
+ghost use Rattle.reg_service.specs.Kept.{Halted, keeper_of};
+ghost use Rattle.reg_service.specs.Marks.{KeepsUpInPart, LeavesSince, output_of};
 ghost use Rattle.reg_session.specs.Pending.{AsksFormed, Holds, ReadsAs};
+ghost use Rattle.reg_session.specs.Replies.{IsLine, line_of};
 ghost use Rattle.reg_run.specs.Crash.{seen};
 ghost use Rattle.reg_run.specs.Ends.{Did};
 ghost use Rattle.reg_run.specs.Once.{AsksOnce, LoadsOnce, TakesSome, TakesTable, load_of};
-ghost use Rattle.reg_run.specs.Once.{load_request};
+ghost use Rattle.reg_run.specs.Once.{Printed, Put, end_of_reply, is_constant, load_request};
 ghost use Rattle.reg_run.specs.World.{Net, out_of, world};
 
 use crate::perform::{open, print_reply};
@@ -22,7 +25,7 @@ use reg_keep::Keeper;
 use reg_outside::{Clock, Disk, Failed, Sink, Source};
 use reg_service::{Next, Service};
 use reg_session::{LineReading, PendingLine, turn};
-use reg_terms::{MAX_LINE, Op, Refusal, Request};
+use reg_terms::{MAX_LINE, Op, Refusal, Reply, Request};
 use reg_words::Task;
 use std::alloc::{AllocError, Global};
 
@@ -140,6 +143,26 @@ fn load_of(alloc: Global, job: &Text, taken: &PendingLine) -> LineReading
     }
 }
 
+/// Prints a reply, behind a mark of the moment to which the service came that gave it.
+fn print_marked<J: Keeper, K: Sink>(
+    alloc: Global,
+    reply: &Reply,
+    next: &Next<J>,
+    out: &mut K,
+) -> End
+    ensures printed { Printed (end_of_reply reply.now) (line_of reply.now) result
+        (out_of ⟦<K as Sink>⟧ out.old) (out_of ⟦<K as Sink>⟧ out.new) }
+    ensures sure { is_constant reply.now ≡ true → Put (end_of_reply reply.now) (line_of reply.now)
+        result (out_of ⟦<K as Sink>⟧ out.old) (out_of ⟦<K as Sink>⟧ out.new) }
+    ensures marks { K.marks out.new ≡ option_map (marked (J.keep_moment (keeper_of next.now))
+        (K.written out.old)) (K.marks out.old) }
+    ensures leaves { LeavesSince ⟦<J as Keeper>⟧ (J.keep_moment (keeper_of next.now)) next.now }
+{
+    let stamp = next.stamp();
+    out.mark(&stamp);
+    print_reply(alloc, reply, out)
+}
+
 /// Asks a service what was read, at the clock, prints the reply, and gives the keeper back.
 fn ask_once<J: Keeper, K: Sink, C: Clock>(
     alloc: Global,
@@ -152,14 +175,16 @@ fn ask_once<J: Keeper, K: Sink, C: Clock>(
     ensures asked { (told : Result Request Refusal) → ReadsAs reading told
         → (h : Halted ⟦<J as Keeper>⟧ service.state.history service.keeper result.1)
         × AsksOnce service.state (C.moments clock.old) told result.0 h.answered h.after
-        (out_of ⟦<K as Sink>⟧ out.old) (out_of ⟦<K as Sink>⟧ out.new) }
+        (out_of ⟦<K as Sink>⟧ out.old) (out_of ⟦<K as Sink>⟧ out.new)
+        × KeepsUpInPart ⟦<J as Keeper>⟧ IsLine service.keeper (output_of ⟦<K as Sink>⟧ out.old)
+        (output_of ⟦<K as Sink>⟧ out.new) h.after result.1 }
     ensures disk { result.0 ≡ End.Disk
         → Rose (J.keep_faults service.keeper) (J.keep_faults result.1) }
     ensures clock { C.moments clock.new ≡ option_map later_moments (C.moments clock.old) }
 {
     let at = clock.now();
     let (reply, next) = turn(alloc, service, at, reading);
-    let end = print_reply(alloc, &reply, out);
+    let end = print_marked(alloc, &reply, &next, out);
     // By a call: dropped in place it would be taken apart by its kinds.
     drop(reply);
     match next {
@@ -177,10 +202,12 @@ fn load<S: Source, J: Keeper, K: Sink, C: Clock>(
     out: &mut K,
     clock: &mut C,
 ) -> (End, J)
-    ensures { LoadsOnce ⟦<J as Keeper>⟧ service.state service.keeper job.now (S.left input.old)
-        (S.left input.new) (C.moments clock.old) (C.moments clock.new)
+    ensures { (l : LoadsOnce ⟦<J as Keeper>⟧ service.state service.keeper job.now
+        (S.left input.old) (S.left input.new) (C.moments clock.old) (C.moments clock.new)
         (out_of ⟦<K as Sink>⟧ out.old) (out_of ⟦<K as Sink>⟧ out.new) (S.read_faults input.old)
-        (S.read_faults input.new) result.0 result.1 }
+        (S.read_faults input.new) result.0 result.1)
+        × KeepsUpInPart ⟦<J as Keeper>⟧ IsLine service.keeper (output_of ⟦<K as Sink>⟧ out.old)
+        (output_of ⟦<K as Sink>⟧ out.new) l.halted.after result.1 }
 {
     service.stays();
     match take_table(alloc, input) {

@@ -141,6 +141,7 @@ pub(crate) fn print<K: Sink>(out: &mut K, bytes: &[u8]) -> Result<(), Failed>
     ensures flushed { OnOk result (K.flushed out.new ≡ option_map length (K.written out.new)) }
     ensures unflushed { OnErr result (K.flushed out.new ≡ K.flushed out.old) }
     ensures front { WritesFront (K.written out.old) (K.written out.new) bytes.now }
+    ensures marks { K.marks out.new ≡ K.marks out.old }
     ensures cause { HasCause (K.write_faults out.old) (K.write_faults out.new) result }
 {
     write_whole(out, bytes)?;
@@ -201,7 +202,9 @@ fn end_of_reply(reply: &Reply) -> End
 
 /// Prints a line, after which a run ends so.
 pub(crate) fn print_line<K: Sink>(out: &mut K, line: &[u8], end: End) -> End
-    ensures { Put end line.now result (out_of ⟦<K as Sink>⟧ out.old) (out_of ⟦<K as Sink>⟧ out.new) }
+    ensures put { Put end line.now result (out_of ⟦<K as Sink>⟧ out.old)
+        (out_of ⟦<K as Sink>⟧ out.new) }
+    ensures marks { K.marks out.new ≡ K.marks out.old }
 {
     match print(out, line) {
         Ok(()) => end,
@@ -216,6 +219,7 @@ fn print_constant<K: Sink>(reply: &Reply, out: &mut K) -> End
         (out_of ⟦<K as Sink>⟧ out.old) (out_of ⟦<K as Sink>⟧ out.new) }
     ensures sure { is_constant reply.now ≡ true → Put (end_of_reply reply.now) (line_of reply.now)
         result (out_of ⟦<K as Sink>⟧ out.old) (out_of ⟦<K as Sink>⟧ out.new) }
+    ensures marks { K.marks out.new ≡ K.marks out.old }
 {
     match reply {
         Reply::NoMemory => print_line(out, no_memory_line(), End::Memory),
@@ -232,6 +236,7 @@ pub(crate) fn print_reply<K: Sink>(alloc: Global, reply: &Reply, out: &mut K) ->
         (out_of ⟦<K as Sink>⟧ out.old) (out_of ⟦<K as Sink>⟧ out.new) }
     ensures sure { is_constant reply.now ≡ true → Put (end_of_reply reply.now) (line_of reply.now)
         result (out_of ⟦<K as Sink>⟧ out.old) (out_of ⟦<K as Sink>⟧ out.new) }
+    ensures marks { K.marks out.new ≡ K.marks out.old }
 {
     match reply_line(alloc, reply) {
         Ok(line) => print_line(out, &line, end_of_reply(reply)),
@@ -248,7 +253,8 @@ fn ask<J: Keeper, K: Sink, C: Clock>(
     clock: &mut C,
 ) -> (End, J)
     ensures asked { ToldOnce (AnswersTo (asked_by question.now) service.state)
-        (C.moments clock.old) result.0 (out_of ⟦<K as Sink>⟧ out.old) (out_of ⟦<K as Sink>⟧ out.new) }
+        (C.moments clock.old) result.0 (out_of ⟦<K as Sink>⟧ out.old)
+        (out_of ⟦<K as Sink>⟧ out.new) }
     ensures same { result.1 ≡ service.keeper }
     ensures clock { C.moments clock.new ≡ option_map later_moments (C.moments clock.old) }
 {

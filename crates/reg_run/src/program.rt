@@ -56,8 +56,8 @@ pub fn run<S: Source, K: Sink, N: Sink, D: Disk, C: Clock, L: Listener>(
     clock: &mut C,
     net: &mut L,
 ) -> u8
-    // One end tells the status, its cause, what was done and what is left of the disk, and the
-    // note.
+    // One end tells the status, its cause, what was done and what is left of the disk, that what
+    // was acknowledged had been on it before, and the note.
     ensures ends { (end : End) × (result ≡ status_of end)
         × RunDid ⟦<D as Disk>⟧ (task_of (map string_bytes words.now)) end
         (world ⟦<S as Source>⟧ ⟦<K as Sink>⟧ ⟦<D as Disk>⟧ ⟦<C as Clock>⟧ input.old out.old disk.old

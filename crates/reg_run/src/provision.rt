@@ -171,8 +171,8 @@ fn print_withheld<K: Sink>(alloc: Global, reply: Reply, out: &mut K) -> End
     end
 }
 
-/// Prints the batch that is asked for of a service at its clock, acknowledges its end, and gives the
-/// keeper back.
+/// Prints the batch that is asked for of a service at its clock, acknowledges its end, and gives
+/// the keeper back.
 fn provide_now<J: Keeper, K: Sink>(
     alloc: Global,
     service: Service<J>,

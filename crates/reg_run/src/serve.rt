@@ -2,6 +2,7 @@
 ghost use Rattle.std.specs.Prelude.{◌≡◌, ◌≤◌, ◌⊎◌, [], Some, IfOk, IfErr, OnOk, OnErr};
 ghost use Rattle.reg_outside.specs.Faults.{Rose, HasCause};
 ghost use Rattle.reg_service.specs.Kept.{KeptOn};
+ghost use Rattle.reg_serve.specs.KeepingUp.{VisitsKeepUp};
 ghost use Rattle.reg_serve.specs.Visits.{CeasesServing, ServesVisits};
 ghost use Rattle.reg_run.specs.Crash.{seen};
 ghost use Rattle.reg_run.specs.Ends.{Did};
@@ -55,15 +56,17 @@ fn serve_port<J: Keeper, C: Clock, L: Listener>(
 ) -> Result<Service<J>, (Ceased, J)>
     ensures port { OnOk result (L.listens net.new ≡ Some port) }
     ensures served { IfOk result
-        (λ to. ServesVisits connections service.state (C.moments clock.old) (L.connections net.old)
-        (L.connections net.new) to.state (C.moments clock.new)) }
+        (λ to. (s : ServesVisits connections service.state (C.moments clock.old)
+        (L.connections net.old) (L.connections net.new) to.state (C.moments clock.new))
+        × VisitsKeepUp ⟦<J as Keeper>⟧ service.keeper to.state.history to.keeper s.visits) }
     ensures kept { IfOk result
         (λ to. KeptOn ⟦<J as Keeper>⟧ service.state.history service.keeper to.state.history
         to.keeper) }
     ensures ceased { IfErr result
         (λ e. (c : CeasesServing ⟦<J as Keeper>⟧ connections service.state service.keeper (C.moments
         clock.old) (L.connections net.old) (L.connections net.new) (C.moments clock.new) e.0 e.1)
-        × ((c.visits ≡ []) ⊎ (L.listens net.new ≡ Some port))) }
+        × ((c.visits ≡ []) ⊎ (L.listens net.new ≡ Some port))
+        × VisitsKeepUp ⟦<J as Keeper>⟧ service.keeper c.halted.after e.1 c.visits) }
     ensures listener { IfErr result (λ e. e.0 ≡ Ceased.Listener
         → Rose (L.listener_faults net.old) (L.listener_faults net.new)) }
     ensures disk { IfErr result (λ e. e.0 ≡ Ceased.Disk

@@ -261,7 +261,7 @@ finishes_ended g k w ms w2 ms2 p s call at due (Err (ended.Stopped, n)) gives ma
 -- how it ends where the service stopped
 pub stop_leaves : {K : Type 0} (g : Ghosts K) (old k : K) (w ms w2 ms2 : Option (List ℕ)) (p : State) (call : Call) (at : List ℕ) (why : Cause) (expected : List Stamped) (e : Ended) → Gives ms at ms2
     → (e ≡ ended.Stopped → w2 ≡ append_known w (last_response (asked_of call) why)) → WritesFront w w2 (last_response (asked_of call) why) → (e ≡ ended.Stopped) ⊎ (e ≡ ended.Failed)
-    → LeadsTo p (question_of call) at expected → KeepsNext g p.history expected old (next.Stop why k) → TurnLeaves g (record { written = w; moments = ms; state = p }) old (taken.Call call) w2 ms2 (e, next.Stop why k)
+    → LeadsTo p (question_of call) at expected → (kept : KeepsNext g p.history expected old (next.Stop why k)) → (l : TurnLeaves g (record { written = w; moments = ms; state = p }) old (taken.Call call) w2 ms2 (e, next.Stop why k)) × (l.to ≡ stops why kept.0)
 stop_leaves g old k w ms w2 ms2 p call at why expected e gives said front how leads kept = left how
   where
     one : IsOneMore p.history expected
@@ -273,6 +273,6 @@ stop_leaves g old k w ms w2 ms2 p call at why expected e gives said front how le
     stopped : StopsAt (record { written = w; moments = ms; state = p }) call w2 ms2 why kept.0
     stopped = record { at = at; times = gives; front = front; expected = expected; leads = leads; began = kept.1 }
 
-    left : (e ≡ ended.Stopped) ⊎ (e ≡ ended.Failed) → TurnLeaves g (record { written = w; moments = ms; state = p }) old (taken.Call call) w2 ms2 (e, next.Stop why k)
-    left (inl is) = rw is (record { to = stops why kept.0; ends = (stopped, said is); leaves = (refl, (halted, refl, refl), kept.4) })
-    left (inr is) = rw is (record { to = stops why kept.0; ends = stopped; leaves = (refl, (halted, refl, refl), kept.4) })
+    left : (e ≡ ended.Stopped) ⊎ (e ≡ ended.Failed) → (l : TurnLeaves g (record { written = w; moments = ms; state = p }) old (taken.Call call) w2 ms2 (e, next.Stop why k)) × (l.to ≡ stops why kept.0)
+    left (inl is) = rw is (record { to = stops why kept.0; ends = (stopped, said is); leaves = (refl, (halted, refl, refl), kept.4) }, refl)
+    left (inr is) = rw is (record { to = stops why kept.0; ends = stopped; leaves = (refl, (halted, refl, refl), kept.4) }, refl)

@@ -95,12 +95,12 @@ remains p q before after (turn.Call call) more none gives s = rw s.2 (gives.1, m
 remains p q before after turn.NeedMore more none gives s = rw (s.1, gives.1) (none, refl, gives.2)
 remains p q before after (turn.Bad fault) more none gives s = absurd s
 
-fails_ends : (p : Point) (before after : Reading) (t : Turn) (w ms : Option (List ℕ)) (e : Ended) (to : Outcome) → before.fault ≡ None → GivesTurn before t after → TurnFails p t w ms e to → EndsTurn p before w ms e to
+pub fails_ends : (p : Point) (before after : Reading) (t : Turn) (w ms : Option (List ℕ)) (e : Ended) (to : Outcome) → before.fault ≡ None → GivesTurn before t after → TurnFails p t w ms e to → EndsTurn p before w ms e to
 fails_ends p before after (turn.Call call) w ms e to none gives f = inl (inl (call, after.rest, gives.2, f))
 fails_ends p before after turn.NeedMore w ms e to none gives f = absurd f
 fails_ends p before after (turn.Bad fault) w ms e to none gives f = inl (inr (fault, fault_of before after fault gives none, f))
 
-pub fails_turn : {K : Type 0} (g : Ghosts K) (k : K) (p : Point) (before after : Reading) (t : Turn) (w ms : Option (List ℕ)) (e : Ended × Next K) → before.fault ≡ None → GivesTurn before t after → TurnLeaves g p k t w ms e → ReadLeaves g p k before w ms e
+unfoldable pub fails_turn : {K : Type 0} (g : Ghosts K) (k : K) (p : Point) (before after : Reading) (t : Turn) (w ms : Option (List ℕ)) (e : Ended × Next K) → before.fault ≡ None → GivesTurn before t after → TurnLeaves g p k t w ms e → ReadLeaves g p k before w ms e
 fails_turn g k p before after t w ms e none gives f = (f.to, fails_ends p before after t w ms e.0 f.to none gives f.ends, f.leaves)
 
 -- what holds of a result goes on
@@ -144,7 +144,7 @@ left_then g h0 h1 k0 k1 answered (stops why after) (next.Stop cause k) kept l =
     (l.0, (halted_then g h0 h1 k0 k1 k kept l.1.0, l.1.1, l.1.2), rose_at_more cause (g.keep_faults k0) (g.keep_faults k1) (g.keep_faults k) kept.later l.2)
 
 -- a message ended the connection, behind others that were answered
-pub ends_behind : {K : Type 0} (g : Ghosts K) (k0 k1 : K) (p q : Point) (old mid : Reading) (w ms : Option (List ℕ)) (e : Ended × Next K) → Serves p old q mid → KeptOn g p.state.history k0 q.state.history k1 → ReadLeaves g q k1 mid w ms e
+unfoldable pub ends_behind : {K : Type 0} (g : Ghosts K) (k0 k1 : K) (p q : Point) (old mid : Reading) (w ms : Option (List ℕ)) (e : Ended × Next K) → Serves p old q mid → KeptOn g p.state.history k0 q.state.history k1 → ReadLeaves g q k1 mid w ms e
     → EndsTurnsOf g p k0 old w ms e
 ends_behind g k0 k1 p q old mid w ms e served kept r = record {
   to = r.0;
@@ -154,14 +154,14 @@ ends_behind g k0 k1 p q old mid w ms e served kept r = record {
 
 -- ---- the connection as a whole
 
-abbrev FedLaw : Type 0
+abbrev pub FedLaw : Type 0
 FedLaw = (bytes piece : List ℕ) (calls : List Call) (reading : Reading) → HasGiven bytes calls reading → HasGiven (bytes ++ piece) calls (fed reading piece)
 
-takes_none : (left : Option (List ℕ)) → Takes left [] left
+pub takes_none : (left : Option (List ℕ)) → Takes left [] left
 takes_none None = refl
 takes_none (Some bytes) = refl
 
-takes_more : (left mid now : Option (List ℕ)) (xs ys : List ℕ) → Takes left xs mid → mid ≡ prepend_known ys now → Takes left (xs ++ ys) now
+pub takes_more : (left mid now : Option (List ℕ)) (xs ys : List ℕ) → Takes left xs mid → mid ≡ prepend_known ys now → Takes left (xs ++ ys) now
 takes_more left mid now xs ys one two = one ∙ (ap (prepend_known xs) two ∙ prepend_more now)
   where
     prepend_more : (now : Option (List ℕ)) → prepend_known xs (prepend_known ys now) ≡ prepend_known (xs ++ ys) now
@@ -201,13 +201,13 @@ served_piece law left mid now p q r before after count n piece h read long s = r
   counted = omega (arith, length-append h.taken piece, h.counted, long);
 }
 
-turn_ends : (taken : List ℕ) (now : Option (List ℕ)) (p : Point) (reading : Reading) (w ms : Option (List ℕ)) (e : Ended) (to : Outcome) → EndsTurn p reading w ms e to
+pub turn_ends : (taken : List ℕ) (now : Option (List ℕ)) (p : Point) (reading : Reading) (w ms : Option (List ℕ)) (e : Ended) (to : Outcome) → EndsTurn p reading w ms e to
     → EndsAtMessage p reading.rest w ms e to ⊎ (IsQuiet p w ms to × EndsBetween taken now reading.rest e)
 turn_ends taken now p reading w ms e to (inl at) = inl at
 turn_ends taken now p reading w ms e to (inr quiet) = inr (quiet.0, rw quiet.1 tt)
 
 -- it ended before anything was read
-pub session_first : {K : Type 0} (g : Ghosts K) (k : K) (left : Option (List ℕ)) (p : Point) (w ms : Option (List ℕ)) (e : Ended × Next K) → HasGiven [] [] start → EndsTurnsOf g p k start w ms e → SessionOf g p k left left w ms e
+unfoldable pub session_first : {K : Type 0} (g : Ghosts K) (k : K) (left : Option (List ℕ)) (p : Point) (w ms : Option (List ℕ)) (e : Ended × Next K) → HasGiven [] [] start → EndsTurnsOf g p k start w ms e → SessionOf g p k left left w ms e
 session_first g k left p w ms e begun t = record {
   to = t.to;
   session = record {
@@ -245,7 +245,7 @@ session_none g left p s begun at kept = record {
 }
 
 -- it ended in a piece that was read
-pub session_piece : {K : Type 0} (g : Ghosts K) (k0 k1 : K) (law : FedLaw) (left mid now : Option (List ℕ)) (p q : Point) (before : Reading) (count : ℕ) (piece : List ℕ) (w ms : Option (List ℕ)) (e : Ended × Next K) → HasServed left mid p q before count
+unfoldable pub session_piece : {K : Type 0} (g : Ghosts K) (k0 k1 : K) (law : FedLaw) (left mid now : Option (List ℕ)) (p q : Point) (before : Reading) (count : ℕ) (piece : List ℕ) (w ms : Option (List ℕ)) (e : Ended × Next K) → HasServed left mid p q before count
     → KeptOn g p.state.history k0 q.state.history k1 → mid ≡ prepend_known piece now → count + length piece ≤ 2 ^ 32 → EndsTurnsOf g q k1 (fed before piece) w ms e → SessionOf g p k0 left now w ms e
 session_piece g k0 k1 law left mid now p q before count piece w ms e h kept read few t = record {
   to = t.to;

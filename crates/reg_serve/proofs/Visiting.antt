@@ -23,7 +23,7 @@ use Rattle.reg_serve.specs.declared.ended.Ended.{Ended}
 
 -- ---- what a listener tells
 
-abbrev NoneComes : Option Connections → Type 0
+abbrev pub NoneComes : Option Connections → Type 0
 NoneComes told = IfSome told (λ (c : Connections). c.coming ≡ [])
 
 abbrev IsSteady : Option Connections → Type 0
@@ -86,14 +86,14 @@ visits_then (Some o) (Some m) (Some n) xs ys a b = record {
 
 -- ---- sessions
 
-sessions_then : (s mid last : State) (ms between later : Option (List ℕ)) (xs ys : List Visit) → Sessions s ms xs mid between → Sessions mid between ys last later → Sessions s ms (xs ++ ys) last later
+pub sessions_then : (s mid last : State) (ms between later : Option (List ℕ)) (xs ys : List Visit) → Sessions s ms xs mid between → Sessions mid between ys last later → Sessions s ms (xs ++ ys) last later
 sessions_then s mid last ms between later [] ys a b = rw (← a.0, ← a.1) b
 sessions_then s mid last ms between later (x ∷ xs) ys a b = (a.0, a.1, a.2, a.3, sessions_then a.1 mid last a.2 between later xs ys a.4 b)
 
 -- ---- one connection
 
 -- none was served
-pub served_none : (s : State) (ms : Option (List ℕ)) (old new : Option Connections) → Visits old new [] → ServedSo 0 s ms old new s ms
+unfoldable pub served_none : (s : State) (ms : Option (List ℕ)) (old new : Option Connections) → Visits old new [] → ServedSo 0 s ms old new s ms
 served_none s ms old new told = record { visits = []; told = told; counted = refl; sessions = (refl, refl) }
 
 -- one was, after which the service goes on
@@ -111,7 +111,7 @@ served_one see g s k ms old mid new later conn r n after a took b is = go b.to b
     go (stops why h) v l = absurd l
 
 -- a call of the listener failed, before it or behind it
-pub ceases_listener : {K : Type 0} (g : Ghosts K) (count : ℕ) (s last : State) (k keeper : K) (ms : Option (List ℕ)) (old new : Option Connections) (later : Option (List ℕ)) → ServedSo count s ms old new last later → count ≤ 1
+unfoldable pub ceases_listener : {K : Type 0} (g : Ghosts K) (count : ℕ) (s last : State) (k keeper : K) (ms : Option (List ℕ)) (old new : Option Connections) (later : Option (List ℕ)) → ServedSo count s ms old new last later → count ≤ 1
     → (h : Halted g s.history k keeper) → h.answered ≡ last.history → h.after ≡ last.history → CeasesNext g s k ms old new later ceased.Listener keeper
 ceases_listener g count s last k keeper ms old new later served one h answered after = record {
   visits = served.visits;
@@ -121,17 +121,17 @@ ceases_listener g count s last k keeper ms old new later served one h answered a
   ends = (last, served.sessions, answered, after);
 }
 
-breaks_stopped : (s : State) (ms : Option (List ℕ)) (visits : List Visit) (later : Option (List ℕ)) (answered after : List Stamped) (why : Cause) → StopsAtLast s ms visits later answered after why
+pub breaks_stopped : (s : State) (ms : Option (List ℕ)) (visits : List Visit) (later : Option (List ℕ)) (answered after : List Stamped) (why : Cause) → StopsAtLast s ms visits later answered after why
     → BreaksAt s ms visits later answered after (ceased_of why)
 breaks_stopped s ms visits later answered after cause.Memory t = t
 breaks_stopped s ms visits later answered after cause.Disk t = t
 
 -- the service stopped at it
-stops_at_last : (s : State) (ms : Option (List ℕ)) (v : Visit) (e : Ended) (later : Option (List ℕ)) (why : Cause) (answered after : List Stamped) → (is : IsVisit s ms v e (stops why after) later)
+pub stops_at_last : (s : State) (ms : Option (List ℕ)) (v : Visit) (e : Ended) (later : Option (List ℕ)) (why : Cause) (answered after : List Stamped) → (is : IsVisit s ms v e (stops why after) later)
     → answered ≡ is.session.last.state.history → StopsAtLast s ms (v ∷ []) later answered after why
 stops_at_last s ms v e later why answered after is done = record { earlier = []; visit = v; cut = refl; mid = s; between = ms; sessions = (refl, refl); end = e; last = is; done = done }
 
-ceases_stopped : {K : Type 0} (g : Ghosts K) (s : State) (k keeper : K) (ms : Option (List ℕ)) (old new : Option Connections) (later : Option (List ℕ)) (visit : Visit) (e : Ended) (why cause : Cause) (after : List Stamped)
+unfoldable pub ceases_stopped : {K : Type 0} (g : Ghosts K) (s : State) (k keeper : K) (ms : Option (List ℕ)) (old new : Option Connections) (later : Option (List ℕ)) (visit : Visit) (e : Ended) (why cause : Cause) (after : List Stamped)
     → (v : IsVisit s ms visit e (stops cause after) later) (h : Halted g s.history k keeper) → why ≡ cause → h.answered ≡ v.session.last.state.history → h.after ≡ after → Visits old new (visit ∷ [])
     → CeasesNext g s k ms old new later (ceased_of why) keeper
 ceases_stopped g s k keeper ms old new later visit e why cause after v h same answered kept told =
@@ -168,7 +168,7 @@ stop_rose g s k ms came old new later n why keeper b is disk = at why disk (go b
 
 -- ---- one after another
 
-pub served_then : (m n : ℕ) (s mid last : State) (ms between later : Option (List ℕ)) (old told new : Option Connections) → ServedSo m s ms old told mid between → ServedSo n mid between told new last later → ServedSo (m + n) s ms old new last later
+unfoldable pub served_then : (m n : ℕ) (s mid last : State) (ms between later : Option (List ℕ)) (old told new : Option Connections) → ServedSo m s ms old told mid between → ServedSo n mid between told new last later → ServedSo (m + n) s ms old new last later
 served_then m n s mid last ms between later old told new a b = record {
   visits = a.visits ++ b.visits;
   told = visits_then old told new a.visits b.visits a.told b.told;
@@ -177,14 +177,14 @@ served_then m n s mid last ms between later old told new a b = record {
 }
 
 -- as many as were to be served, or all that were to come
-pub serves_all : (count limit : ℕ) (s last : State) (ms later : Option (List ℕ)) (old new : Option Connections) → ServedSo count s ms old new last later → count ≤ limit → (count ≡ limit) ⊎ NoneComes new → ServesVisits limit s ms old new last later
+unfoldable pub serves_all : (count limit : ℕ) (s last : State) (ms later : Option (List ℕ)) (old new : Option Connections) → ServedSo count s ms old new last later → count ≤ limit → (count ≡ limit) ⊎ NoneComes new → ServesVisits limit s ms old new last later
 serves_all count limit s last ms later old new a few done = record { visits = a.visits; told = a.told; few = omega (arith, a.counted, few); done = ends done; sessions = a.sessions }
   where
     ends : (count ≡ limit) ⊎ NoneComes new → (length a.visits ≡ limit) ⊎ NoneComes new
     ends (inl e) = inl (a.counted ∙ e)
     ends (inr none) = inr none
 
-stops_then : (s mid : State) (ms between later : Option (List ℕ)) (xs ys : List Visit) (answered after : List Stamped) (why : Cause) → Sessions s ms xs mid between → StopsAtLast mid between ys later answered after why
+pub stops_then : (s mid : State) (ms between later : Option (List ℕ)) (xs ys : List Visit) (answered after : List Stamped) (why : Cause) → Sessions s ms xs mid between → StopsAtLast mid between ys later answered after why
     → StopsAtLast s ms (xs ++ ys) later answered after why
 stops_then s mid ms between later xs ys answered after why a b = record {
   earlier = xs ++ b.earlier;
@@ -198,14 +198,14 @@ stops_then s mid ms between later xs ys answered after why a b = record {
   done = b.done;
 }
 
-breaks_then : (s mid : State) (ms between later : Option (List ℕ)) (xs ys : List Visit) (answered after : List Stamped) (why : Ceased) → Sessions s ms xs mid between → BreaksAt mid between ys later answered after why
+pub breaks_then : (s mid : State) (ms between later : Option (List ℕ)) (xs ys : List Visit) (answered after : List Stamped) (why : Ceased) → Sessions s ms xs mid between → BreaksAt mid between ys later answered after why
     → CeasesAt s ms (xs ++ ys) later answered after why
 breaks_then s mid ms between later xs ys answered after ceased.Listener a b = (b.0, sessions_then s mid b.0 ms between later xs ys a b.1, b.2, b.3)
 breaks_then s mid ms between later xs ys answered after ceased.Memory a b = inr (stops_then s mid ms between later xs ys answered after cause.Memory a b)
 breaks_then s mid ms between later xs ys answered after ceased.Disk a b = stops_then s mid ms between later xs ys answered after cause.Disk a b
 
 -- no more were
-pub ceases_then : {K : Type 0} (g : Ghosts K) (count limit : ℕ) (s mid : State) (k0 k1 keeper : K) (ms between later : Option (List ℕ)) (old told new : Option Connections) (why : Ceased) → ServedSo count s ms old told mid between
+unfoldable pub ceases_then : {K : Type 0} (g : Ghosts K) (count limit : ℕ) (s mid : State) (k0 k1 keeper : K) (ms between later : Option (List ℕ)) (old told new : Option Connections) (why : Ceased) → ServedSo count s ms old told mid between
     → KeptOn g s.history k0 mid.history k1 → count < limit → CeasesNext g mid k1 between told new later why keeper → CeasesServing g limit s k0 ms old new later why keeper
 ceases_then g count limit s mid k0 k1 keeper ms between later old told new why a kept few b = record {
   visits = a.visits ++ b.visits;
@@ -220,7 +220,7 @@ pub same_told : (told : Option Connections) → Visits told told []
 same_told None = tt
 same_told (Some c) = record { coming = refl; accepted = omega arith; given_back = sym (append-nil c.given_back) }
 
-pub ceases_first : {K : Type 0} (g : Ghosts K) (limit : ℕ) (s : State) (k keeper : K) (ms : Option (List ℕ)) (told : Option Connections) (h : Halted g s.history k keeper) → h.answered ≡ s.history → h.after ≡ s.history
+unfoldable pub ceases_first : {K : Type 0} (g : Ghosts K) (limit : ℕ) (s : State) (k keeper : K) (ms : Option (List ℕ)) (told : Option Connections) (h : Halted g s.history k keeper) → h.answered ≡ s.history → h.after ≡ s.history
     → CeasesServing g limit s k ms told told ms ceased.Memory keeper
 ceases_first g limit s k keeper ms told h answered after = record {
   visits = [];

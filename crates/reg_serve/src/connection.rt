@@ -7,7 +7,9 @@ ghost use Rattle.reg_http.specs.Messages.{IsUnfinished};
 ghost use Rattle.reg_http.specs.Turns.{start, fed};
 ghost use Rattle.reg_session.specs.Answered.{Point, point};
 ghost use Rattle.reg_service.specs.Kept.{KeptOn};
+ghost use Rattle.reg_service.specs.Marks.{Output, output_of};
 ghost use Rattle.reg_serve.specs.Keeping.{EndsTurnsOf, SessionOf};
+ghost use Rattle.reg_serve.specs.KeepingUp.{KeepsUpOn, SessionKeepsUp, TurnsKeepUp};
 ghost use Rattle.reg_serve.specs.Sessions.{HasServed, Serves};
 
 use crate::ended::Ended;
@@ -36,6 +38,7 @@ fn read_some<C: Connection>(conn: &mut C, buf: &mut [u8], taken: u64) -> Result<
     ensures same { OnErr result (C.left conn.new ≡ C.left conn.old) }
     ensures failed { OnErr result (Rose (C.read_faults conn.old) (C.read_faults conn.new)) }
     ensures written { C.written conn.new ≡ C.written conn.old }
+    ensures marks { C.marks conn.new ≡ C.marks conn.old }
     ensures reads { C.read_faults conn.old ≤ C.read_faults conn.new }
     ensures writes { C.write_faults conn.old ≤ C.write_faults conn.new }
 {
@@ -67,6 +70,12 @@ fn serve_piece<K: Keeper, C: Connection, T: Clock>(
         EndsTurnsOf ⟦<K as Keeper>⟧
         (point ⟦<C as Sink>⟧ ⟦<T as Clock>⟧ conn.old clock.old service.state) service.keeper
         (fed reader.old piece.now) (C.written conn.new) (T.moments clock.new) e) }
+    ensures keeps_up { IfOk result (λ after. KeepsUpOn ⟦<K as Keeper>⟧ service.keeper
+        (output_of ⟦<C as Sink>⟧ conn.old) (output_of ⟦<C as Sink>⟧ conn.new) after) }
+    ensures keeps_up_to { IfErr result (λ e. TurnsKeepUp ⟦<K as Keeper>⟧
+        (point ⟦<C as Sink>⟧ ⟦<T as Clock>⟧ conn.old clock.old service.state) service.keeper
+        (fed reader.old piece.now) (output_of ⟦<C as Sink>⟧ conn.old)
+        (output_of ⟦<C as Sink>⟧ conn.new) (T.moments clock.new) e) }
     ensures failed { IfErr result (λ e. e.0 ≡ Ended.Failed
         → Rose (C.write_faults conn.old) (C.write_faults conn.new)) }
     ensures left { C.left conn.new ≡ C.left conn.old }
@@ -115,6 +124,15 @@ fn serve_some<K: Keeper, C: Connection, T: Clock>(
         → KeptOn ⟦<K as Keeper>⟧ first.state.history keeper service.state.history service.keeper
         → SessionOf ⟦<K as Keeper>⟧ first keeper left (C.left conn.new) (C.written conn.new)
         (T.moments clock.new) e) }
+    ensures keeps_up { IfOk result (λ after. KeepsUpOn ⟦<K as Keeper>⟧ service.keeper
+        (output_of ⟦<C as Sink>⟧ conn.old) (output_of ⟦<C as Sink>⟧ conn.new) after.0) }
+    ensures keeps_up_to { IfErr result (λ e. (left : Option (List ℕ)) (first : Point) (keeper : K)
+        (began : Output) → HasServed left (C.left conn.old) first
+        (point ⟦<C as Sink>⟧ ⟦<T as Clock>⟧ conn.old clock.old service.state) reader.old taken
+        → KeptOn ⟦<K as Keeper>⟧ first.state.history keeper service.state.history service.keeper
+        → KeepsUpOn ⟦<K as Keeper>⟧ keeper began (output_of ⟦<C as Sink>⟧ conn.old) service
+        → SessionKeepsUp ⟦<K as Keeper>⟧ first keeper left (C.left conn.new) began
+        (output_of ⟦<C as Sink>⟧ conn.new) (T.moments clock.new) e) }
     ensures failed { IfErr result (λ e. e.0 ≡ Ended.Failed
         → Rose (C.read_faults conn.old) (C.read_faults conn.new)
         ⊎ Rose (C.write_faults conn.old) (C.write_faults conn.new)) }
@@ -150,6 +168,10 @@ fn serve_bytes<K: Keeper, C: Connection, T: Clock>(
     ensures session { SessionOf ⟦<K as Keeper>⟧
         (point ⟦<C as Sink>⟧ ⟦<T as Clock>⟧ conn.old clock.old service.state) service.keeper
         (C.left conn.old) (C.left conn.new) (C.written conn.new) (T.moments clock.new) result }
+    ensures keeps_up { SessionKeepsUp ⟦<K as Keeper>⟧
+        (point ⟦<C as Sink>⟧ ⟦<T as Clock>⟧ conn.old clock.old service.state) service.keeper
+        (C.left conn.old) (C.left conn.new) (output_of ⟦<C as Sink>⟧ conn.old)
+        (output_of ⟦<C as Sink>⟧ conn.new) (T.moments clock.new) result }
     ensures failed { result.0 ≡ Ended.Failed
         → Rose (C.read_faults conn.old) (C.read_faults conn.new)
         ⊎ Rose (C.write_faults conn.old) (C.write_faults conn.new) }
@@ -185,6 +207,10 @@ pub(crate) fn serve_routed<K: Keeper, C: Connection, T: Clock>(
     ensures session { SessionOf ⟦<K as Keeper>⟧
         (point ⟦<C as Sink>⟧ ⟦<T as Clock>⟧ conn.old clock.old service.state) service.keeper
         (C.left conn.old) (C.left conn.new) (C.written conn.new) (T.moments clock.new) result }
+    ensures keeps_up { SessionKeepsUp ⟦<K as Keeper>⟧
+        (point ⟦<C as Sink>⟧ ⟦<T as Clock>⟧ conn.old clock.old service.state) service.keeper
+        (C.left conn.old) (C.left conn.new) (output_of ⟦<C as Sink>⟧ conn.old)
+        (output_of ⟦<C as Sink>⟧ conn.new) (T.moments clock.new) result }
     ensures failed { result.0 ≡ Ended.Failed
         → Rose (C.read_faults conn.old) (C.read_faults conn.new)
         ⊎ Rose (C.write_faults conn.old) (C.write_faults conn.new) }
@@ -210,6 +236,10 @@ pub fn serve_connection<K: Keeper, C: Connection, T: Clock>(
     ensures session { SessionOf ⟦<K as Keeper>⟧
         (point ⟦<C as Sink>⟧ ⟦<T as Clock>⟧ conn.old clock.old service.state) service.keeper
         (C.left conn.old) (C.left conn.new) (C.written conn.new) (T.moments clock.new) result }
+    ensures keeps_up { SessionKeepsUp ⟦<K as Keeper>⟧
+        (point ⟦<C as Sink>⟧ ⟦<T as Clock>⟧ conn.old clock.old service.state) service.keeper
+        (C.left conn.old) (C.left conn.new) (output_of ⟦<C as Sink>⟧ conn.old)
+        (output_of ⟦<C as Sink>⟧ conn.new) (T.moments clock.new) result }
     ensures failed { result.0 ≡ Ended.Failed
         → Rose (C.read_faults conn.old) (C.read_faults conn.new)
         ⊎ Rose (C.write_faults conn.old) (C.write_faults conn.new) }

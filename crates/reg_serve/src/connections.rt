@@ -4,6 +4,7 @@ ghost use Rattle.std.specs.Prelude.{IfOk, IfErr, IfSome};
 ghost use Rattle.reg_outside.specs.Connections.{HasOpen, seen};
 ghost use Rattle.reg_outside.specs.Faults.{HasCause, Rose};
 ghost use Rattle.reg_service.specs.Kept.{KeptOn};
+ghost use Rattle.reg_serve.specs.KeepingUp.{BackKeepsUp, VisitsKeepUp};
 ghost use Rattle.reg_serve.specs.Visits.{CeasesNext, CeasesServing, GivesBack, ServedSo};
 ghost use Rattle.reg_serve.specs.Visits.{ServesVisits, ceased_of};
 
@@ -38,6 +39,9 @@ fn serve_accepted<K: Keeper, L: Listener, T: Clock>(
     ensures back { GivesBack ⟦<K as Keeper>⟧ service.state service.keeper (T.moments clock.old)
         (seen ⟦<L::Conn as Source>⟧ ⟦<L::Conn as Sink>⟧ conn) (L.connections net.old)
         (L.connections net.new) (T.moments clock.new) result.0 }
+    ensures keeps_up { BackKeepsUp ⟦<K as Keeper>⟧ service.state service.keeper
+        (T.moments clock.old) (seen ⟦<L::Conn as Source>⟧ ⟦<L::Conn as Sink>⟧ conn)
+        (L.connections net.old) (L.connections net.new) (T.moments clock.new) result.0 }
     ensures cause { HasCause (L.listener_faults net.old) (L.listener_faults net.new) result.1 }
     ensures port { L.listens net.new ≡ L.listens net.old }
 {
@@ -67,6 +71,15 @@ fn serve_next<K: Keeper, L: Listener, T: Clock>(
     ensures ceased { IfErr result
         (λ e. CeasesNext ⟦<K as Keeper>⟧ service.state service.keeper (T.moments clock.old)
         (L.connections net.old) (L.connections net.new) (T.moments clock.new) e.0 e.1) }
+    ensures keeps_up { IfOk result (λ after. (s : ServedSo (if after.1 then 1
+        else 0) service.state (T.moments clock.old) (L.connections net.old)
+        (L.connections net.new) after.0.state (T.moments clock.new))
+        × VisitsKeepUp ⟦<K as Keeper>⟧ service.keeper after.0.state.history after.0.keeper
+        s.visits) }
+    ensures keeps_up_to { IfErr result
+        (λ e. (c : CeasesNext ⟦<K as Keeper>⟧ service.state service.keeper (T.moments clock.old)
+        (L.connections net.old) (L.connections net.new) (T.moments clock.new) e.0 e.1)
+        × VisitsKeepUp ⟦<K as Keeper>⟧ service.keeper c.halted.after e.1 c.visits) }
     ensures listener { IfErr result (λ e. e.0 ≡ Ceased.Listener
         → Rose (L.listener_faults net.old) (L.listener_faults net.new)) }
     ensures disk { IfErr result (λ e. e.0 ≡ Ceased.Disk
@@ -112,6 +125,14 @@ fn serve_all<K: Keeper, L: Listener, T: Clock>(
     ensures ceased { IfErr result
         (λ e. CeasesServing ⟦<K as Keeper>⟧ limit service.state service.keeper (T.moments clock.old)
         (L.connections net.old) (L.connections net.new) (T.moments clock.new) e.0 e.1) }
+    ensures keeps_up { IfOk result
+        (λ to. (s : ServesVisits limit service.state (T.moments clock.old) (L.connections net.old)
+        (L.connections net.new) to.state (T.moments clock.new))
+        × VisitsKeepUp ⟦<K as Keeper>⟧ service.keeper to.state.history to.keeper s.visits) }
+    ensures keeps_up_to { IfErr result
+        (λ e. (c : CeasesServing ⟦<K as Keeper>⟧ limit service.state service.keeper (T.moments
+        clock.old) (L.connections net.old) (L.connections net.new) (T.moments clock.new) e.0 e.1)
+        × VisitsKeepUp ⟦<K as Keeper>⟧ service.keeper c.halted.after e.1 c.visits) }
     ensures listener { IfErr result (λ e. e.0 ≡ Ceased.Listener
         → Rose (L.listener_faults net.old) (L.listener_faults net.new)) }
     ensures disk { IfErr result (λ e. e.0 ≡ Ceased.Disk
@@ -157,6 +178,14 @@ pub fn serve_connections<K: Keeper, L: Listener, T: Clock>(
     ensures ceased { IfErr result
         (λ e. CeasesServing ⟦<K as Keeper>⟧ limit service.state service.keeper (T.moments clock.old)
         (L.connections net.old) (L.connections net.new) (T.moments clock.new) e.0 e.1) }
+    ensures keeps_up { IfOk result
+        (λ to. (s : ServesVisits limit service.state (T.moments clock.old) (L.connections net.old)
+        (L.connections net.new) to.state (T.moments clock.new))
+        × VisitsKeepUp ⟦<K as Keeper>⟧ service.keeper to.state.history to.keeper s.visits) }
+    ensures keeps_up_to { IfErr result
+        (λ e. (c : CeasesServing ⟦<K as Keeper>⟧ limit service.state service.keeper (T.moments
+        clock.old) (L.connections net.old) (L.connections net.new) (T.moments clock.new) e.0 e.1)
+        × VisitsKeepUp ⟦<K as Keeper>⟧ service.keeper c.halted.after e.1 c.visits) }
     ensures listener { IfErr result (λ e. e.0 ≡ Ceased.Listener
         → Rose (L.listener_faults net.old) (L.listener_faults net.new)) }
     ensures disk { IfErr result (λ e. e.0 ≡ Ceased.Disk

@@ -20,6 +20,7 @@ pub(crate) fn send_bytes<C: Connection>(conn: &mut C, bytes: &[u8]) -> Result<()
     ensures why { IfErr result (λ e. e ≡ Ended.Failed) }
     ensures failed { IfErr result (λ e. Rose (C.write_faults conn.old) (C.write_faults conn.new)) }
     ensures left { C.left conn.new ≡ C.left conn.old }
+    ensures marks { C.marks conn.new ≡ C.marks conn.old }
     ensures reads { C.read_faults conn.old ≤ C.read_faults conn.new }
     ensures writes { C.write_faults conn.old ≤ C.write_faults conn.new }
 {
@@ -40,6 +41,7 @@ fn send_unprinted<C: Connection>(conn: &mut C, close: bool, reply: &Reply) -> Re
     ensures failed { IfErr result (λ e. e ≡ Ended.Failed
         → Rose (C.write_faults conn.old) (C.write_faults conn.new)) }
     ensures left { C.left conn.new ≡ C.left conn.old }
+    ensures marks { C.marks conn.new ≡ C.marks conn.old }
     ensures reads { C.read_faults conn.old ≤ C.read_faults conn.new }
     ensures writes { C.write_faults conn.old ≤ C.write_faults conn.new }
 {
@@ -66,6 +68,7 @@ pub(crate) fn send_reply<C: Connection>(
     ensures failed { IfErr result (λ e. e ≡ Ended.Failed
         → Rose (C.write_faults conn.old) (C.write_faults conn.new)) }
     ensures left { C.left conn.new ≡ C.left conn.old }
+    ensures marks { C.marks conn.new ≡ C.marks conn.old }
     ensures reads { C.read_faults conn.old ≤ C.read_faults conn.new }
     ensures writes { C.write_faults conn.old ≤ C.write_faults conn.new }
 {
@@ -89,6 +92,7 @@ pub(crate) fn send_fault<C: Connection>(
     ensures why { IfErr result (λ e. e ≡ Ended.Failed) }
     ensures failed { IfErr result (λ e. Rose (C.write_faults conn.old) (C.write_faults conn.new)) }
     ensures left { C.left conn.new ≡ C.left conn.old }
+    ensures marks { C.marks conn.new ≡ C.marks conn.old }
     ensures reads { C.read_faults conn.old ≤ C.read_faults conn.new }
     ensures writes { C.write_faults conn.old ≤ C.write_faults conn.new }
 {

@@ -10,8 +10,11 @@ ghost use Rattle.reg_session.specs.Pending.{ReadsAs, AsksFormed};
 ghost use Rattle.reg_calls.specs.Asked.{asked_of, closes};
 ghost use Rattle.reg_calls.specs.declared.asked.Asked.{Asked};
 ghost use Rattle.reg_service.specs.Kept.{KeptOn};
-ghost use Rattle.reg_serve.specs.Answered.{Answered, Answers, last_response, question_by};
+ghost use Rattle.reg_service.specs.Marks.{output_of};
+ghost use Rattle.reg_serve.specs.Answered.{Answered, Answers, Outcome, last_response, question_by};
 ghost use Rattle.reg_serve.specs.Keeping.{EndsTurnsOf, ReadLeaves, TurnLeaves};
+ghost use Rattle.reg_serve.specs.KeepingUp.{KeepsUpOn, KeepsUpTo, ReadKeepsUp, TurnKeepsUp};
+ghost use Rattle.reg_serve.specs.KeepingUp.{TurnsKeepUp};
 ghost use Rattle.reg_serve.specs.Sent.{Finishes};
 ghost use Rattle.reg_serve.specs.Sessions.{Remains, Serves, TurnServed};
 ghost use Rattle.reg_http.specs.Messages.{IsUnfinished};
@@ -102,6 +105,7 @@ fn finish_call<K: Keeper, C: Connection>(
         (C.written conn.new) service result }
     ensures failed { IfErr result (λ e. e.0 ≡ Ended.Failed
         → Rose (C.write_faults conn.old) (C.write_faults conn.new)) }
+    ensures marks { C.marks conn.new ≡ C.marks conn.old }
     ensures left { C.left conn.new ≡ C.left conn.old }
     ensures reads { C.read_faults conn.old ≤ C.read_faults conn.new }
     ensures writes { C.write_faults conn.old ≤ C.write_faults conn.new }
@@ -140,6 +144,7 @@ fn stop_call<C: Connection>(conn: &mut C, cause: Cause) -> Ended
     ensures ends { (result ≡ Ended.Stopped) ⊎ (result ≡ Ended.Failed) }
     ensures failed { result ≡ Ended.Failed
         → Rose (C.write_faults conn.old) (C.write_faults conn.new) }
+    ensures marks { C.marks conn.new ≡ C.marks conn.old }
     ensures left { C.left conn.new ≡ C.left conn.old }
     ensures reads { C.read_faults conn.old ≤ C.read_faults conn.new }
     ensures writes { C.write_faults conn.old ≤ C.write_faults conn.new }
@@ -150,7 +155,8 @@ fn stop_call<C: Connection>(conn: &mut C, cause: Cause) -> Ended
     }
 }
 
-/// Answers a message.
+/// Answers a message. Where the service goes on, a mark is set before the response: no other response
+/// acknowledges a command.
 pub(crate) fn serve_call<K: Keeper, C: Connection, T: Clock>(
     alloc: Global,
     routes: &Routes,
@@ -170,6 +176,12 @@ pub(crate) fn serve_call<K: Keeper, C: Connection, T: Clock>(
         TurnLeaves ⟦<K as Keeper>⟧
         (point ⟦<C as Sink>⟧ ⟦<T as Clock>⟧ conn.old clock.old service.state) service.keeper
         (Turn.Call call.now) (C.written conn.new) (T.moments clock.new) e) }
+    ensures keeps_up { IfOk result (λ after. KeepsUpOn ⟦<K as Keeper>⟧ service.keeper
+        (output_of ⟦<C as Sink>⟧ conn.old) (output_of ⟦<C as Sink>⟧ conn.new) after) }
+    ensures keeps_up_to { IfErr result (λ e. TurnKeepsUp ⟦<K as Keeper>⟧
+        (point ⟦<C as Sink>⟧ ⟦<T as Clock>⟧ conn.old clock.old service.state) service.keeper
+        (Turn.Call call.now) (output_of ⟦<C as Sink>⟧ conn.old) (output_of ⟦<C as Sink>⟧ conn.new)
+        (T.moments clock.new) e) }
     ensures failed { IfErr result (λ e. e.0 ≡ Ended.Failed
         → Rose (C.write_faults conn.old) (C.write_faults conn.new)) }
     ensures left { C.left conn.new ≡ C.left conn.old }
@@ -179,7 +191,10 @@ pub(crate) fn serve_call<K: Keeper, C: Connection, T: Clock>(
     let asked = asked_of(routes, call);
     let (reply, next) = answer(alloc, service, asked, call, clock);
     match next {
-        Next::Go(service) => finish_call(alloc, conn, &asked, call, reply, service),
+        Next::Go(service) => {
+            conn.note(&service.stamp());
+            finish_call(alloc, conn, &asked, call, reply, service)
+        }
         Next::Stop(cause, keeper) => {
             drop(reply);
             Err((stop_call(conn, cause), Next::Stop(cause, keeper)))
@@ -201,6 +216,8 @@ fn refuse_head<K: Keeper, C: Connection>(
           state = service.state;
         }) service.keeper (Turn.Bad fault)
         (C.written conn.new) moments result }
+    ensures keeps_up { (to : Outcome) → KeepsUpTo ⟦<K as Keeper>⟧ service.keeper
+        (output_of ⟦<C as Sink>⟧ conn.old) (output_of ⟦<C as Sink>⟧ conn.new) result.1 to }
     ensures failed { result.0 ≡ Ended.Failed
         → Rose (C.write_faults conn.old) (C.write_faults conn.new) }
     ensures left { C.left conn.new ≡ C.left conn.old }
@@ -236,6 +253,12 @@ fn take_turn<K: Keeper, C: Connection, T: Clock>(
         TurnLeaves ⟦<K as Keeper>⟧
         (point ⟦<C as Sink>⟧ ⟦<T as Clock>⟧ conn.old clock.old service.state) service.keeper turn
         (C.written conn.new) (T.moments clock.new) e) }
+    ensures keeps_up { IfOk result (λ after. KeepsUpOn ⟦<K as Keeper>⟧ service.keeper
+        (output_of ⟦<C as Sink>⟧ conn.old) (output_of ⟦<C as Sink>⟧ conn.new) after.0) }
+    ensures keeps_up_to { IfErr result (λ e. TurnKeepsUp ⟦<K as Keeper>⟧
+        (point ⟦<C as Sink>⟧ ⟦<T as Clock>⟧ conn.old clock.old service.state) service.keeper
+        turn (output_of ⟦<C as Sink>⟧ conn.old) (output_of ⟦<C as Sink>⟧ conn.new)
+        (T.moments clock.new) e) }
     ensures failed { IfErr result (λ e. e.0 ≡ Ended.Failed
         → Rose (C.write_faults conn.old) (C.write_faults conn.new)) }
     ensures left { C.left conn.new ≡ C.left conn.old }
@@ -278,6 +301,12 @@ fn serve_turn<K: Keeper, C: Connection, T: Clock>(
         ReadLeaves ⟦<K as Keeper>⟧
         (point ⟦<C as Sink>⟧ ⟦<T as Clock>⟧ conn.old clock.old service.state) service.keeper
         reader.old (C.written conn.new) (T.moments clock.new) e) }
+    ensures keeps_up { IfOk result (λ after. KeepsUpOn ⟦<K as Keeper>⟧ service.keeper
+        (output_of ⟦<C as Sink>⟧ conn.old) (output_of ⟦<C as Sink>⟧ conn.new) after.0) }
+    ensures keeps_up_to { IfErr result (λ e. ReadKeepsUp ⟦<K as Keeper>⟧
+        (point ⟦<C as Sink>⟧ ⟦<T as Clock>⟧ conn.old clock.old service.state) service.keeper
+        reader.old (output_of ⟦<C as Sink>⟧ conn.old) (output_of ⟦<C as Sink>⟧ conn.new)
+        (T.moments clock.new) e) }
     ensures failed { IfErr result (λ e. e.0 ≡ Ended.Failed
         → Rose (C.write_faults conn.old) (C.write_faults conn.new)) }
     ensures left { C.left conn.new ≡ C.left conn.old }
@@ -314,6 +343,12 @@ pub(crate) fn serve_turns<K: Keeper, C: Connection, T: Clock>(
         EndsTurnsOf ⟦<K as Keeper>⟧
         (point ⟦<C as Sink>⟧ ⟦<T as Clock>⟧ conn.old clock.old service.state) service.keeper
         reader.old (C.written conn.new) (T.moments clock.new) e) }
+    ensures keeps_up { IfOk result (λ after. KeepsUpOn ⟦<K as Keeper>⟧ service.keeper
+        (output_of ⟦<C as Sink>⟧ conn.old) (output_of ⟦<C as Sink>⟧ conn.new) after) }
+    ensures keeps_up_to { IfErr result (λ e. TurnsKeepUp ⟦<K as Keeper>⟧
+        (point ⟦<C as Sink>⟧ ⟦<T as Clock>⟧ conn.old clock.old service.state) service.keeper
+        reader.old (output_of ⟦<C as Sink>⟧ conn.old) (output_of ⟦<C as Sink>⟧ conn.new)
+        (T.moments clock.new) e) }
     ensures failed { IfErr result (λ e. e.0 ≡ Ended.Failed
         → Rose (C.write_faults conn.old) (C.write_faults conn.new)) }
     ensures left { C.left conn.new ≡ C.left conn.old }

@@ -1,4 +1,6 @@
 pub mod Ids
 pub mod Kept
+pub mod Marked
+pub mod Marks
 pub mod Opening
 pub mod Turn

@@ -15,6 +15,7 @@ ghost use Rattle.reg_wire.specs.Payload.{IsWritable};
 ghost use Rattle.reg_service.specs.Opening.{payloads_of, judged, FrontsReopen, IsServed};
 ghost use Rattle.reg_service.specs.Kept.{KeepsNext, KeptOn, IsAcknowledged, IsLoaded, LeavesKeeper};
 ghost use Rattle.reg_service.specs.Kept.{keeper_of};
+ghost use Rattle.reg_service.specs.Marks.{LeavesSince};
 ghost use Rattle.reg_service.specs.Turn.{turn, requested, HasForm, IsQuery, Carries, Follows};
 ghost use Rattle.reg_service.specs.Turn.{GoesOn, MovesTo, counted, load_ordered, loaded, ordered};
 
@@ -26,6 +27,7 @@ use reg_effect::Incremental;
 use reg_facts::{Command, Refusal, Stamped};
 use reg_keep::{KeepFault, Keeper, OpenFault, Records};
 use reg_machine::Machine;
+use reg_outside::Stamp;
 use reg_terms::LoadCounts;
 use reg_view::{Op, Query, Reply, Request, ask};
 use reg_wire::{encode, payload_reads_back, read_is_payload};
@@ -74,6 +76,18 @@ impl<K: Keeper> Next<K> {
         match self {
             Next::Go(service) => service.into_keeper(),
             Next::Stop(_, keeper) => keeper,
+        }
+    }
+
+    /// The keeper's present moment, for contracts alone: since then each stop leaves the history of
+    /// a service that goes on.
+    pub fn stamp(&self) -> Stamp
+        ensures moment { result ≡ K.keep_moment (keeper_of self.now) }
+        ensures leaves { LeavesSince ⟦<K as Keeper>⟧ result self.now }
+    {
+        match self {
+            Next::Go(service) => service.stamp(),
+            Next::Stop(_, keeper) => keeper.stamp(),
         }
     }
 }
@@ -359,6 +373,15 @@ impl<K: Keeper> Service<K> {
         ensures fronts { FrontsReopen self.now.state.history }
     {
         let _keeper = &self.keeper;
+    }
+
+    /// The keeper's present moment, for contracts alone: since then each stop leaves the history.
+    pub fn stamp(&self) -> Stamp
+        ensures moment { result ≡ K.keep_moment self.now.keeper }
+        ensures leaves { (r : Result (List (List ℕ)) ℕ) → K.stopped_since self.now.keeper result r
+            → r ≡ Ok (payloads_of self.now.state.history) }
+    {
+        self.keeper.stamp()
     }
 
     /// The keeper as it stands. Each stop leaves the history, of which each front opens again.

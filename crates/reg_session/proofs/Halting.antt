@@ -163,6 +163,15 @@ pub err_so : {T E : Type 0} (P Q R : E → Type 0) (r : Result T E) → IfErr r 
 err_so P Q R (Ok x) p q h = tt
 err_so P Q R (Err e) p q h = h e p q
 
+-- what follows of a value by two of its clauses, and of an error by one
+pub ok_both : {T E : Type 0} (P Q R : T → Type 0) (r : Result T E) → IfOk r P → IfOk r Q → ((x : T) → P x → Q x → R x) → IfOk r R
+ok_both P Q R (Ok x) p q h = h x p q
+ok_both P Q R (Err e) p q h = tt
+
+pub err_one : {T E : Type 0} (P Q : E → Type 0) (r : Result T E) → IfErr r P → ((e : E) → P e → Q e) → IfErr r Q
+err_one P Q (Ok x) p h = tt
+err_one P Q (Err e) p h = h e p
+
 decided_one : (s : State) (by : Entity) (command : Command) (r : Option Refusal) → IsOneMore s.history (decided s by command r).1.history
 decided_one s by command None = inr (record { at = s.clock; by = by; command = command }, refl)
 decided_one s by command (Some r) = inl refl

@@ -3,6 +3,7 @@ pub mod Cutting
 pub mod Feeding
 pub mod Halting
 pub mod Long
+pub mod Marking
 pub mod Numbering
 pub mod Reading
 pub mod Stopping

@@ -95,12 +95,12 @@ pub stops_at : (p : Point) (line : List ℕ) (w : Option (List ℕ)) (failed : T
 stops_at p line w failed answered after why none asks last = record { earlier = []; line = line; later = []; cut = refl; asks = asks; mid = p; accepted = accepted_in p p [] none; all = accepted_all p p [] none; last = last }
 
 -- something of a reply was written, or nothing
-record ShowsFront (due : Reply) (old new : Option (List ℕ)) : Type 0 where
-  shown : Reply
-  shows : IsShown due shown
-  front : WritesFront old new (line_of shown)
+pub record ShowsFront (due : Reply) (old new : Option (List ℕ)) : Type 0 where
+  pub shown : Reply
+  pub shows : IsShown due shown
+  pub front : WritesFront old new (line_of shown)
 
-shows_front : {T : Type 0} (due : Reply) (old new : Option (List ℕ)) (r : Result T Stop) → WritesReply due old new r → ShowsFront due old new
+pub shows_front : {T : Type 0} (due : Reply) (old new : Option (List ℕ)) (r : Result T Stop) → WritesReply due old new r → ShowsFront due old new
 shows_front due old new (Ok done) w = record { shown = w.0; shows = w.1; front = (length (line_of w.0), omega arith, w.2 ∙ ap (append_known old) (sym (take_all (length (line_of w.0)) (line_of w.0) (omega arith)))) }
 shows_front due old new (Err stop.Memory) w = record { shown = due; shows = inl refl; front = (0, omega arith, w.1 ∙ append_none old) }
 shows_front due old new (Err stop.Disk) w = elim w [ ]

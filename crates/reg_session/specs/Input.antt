@@ -5,8 +5,10 @@ use Rattle.reg_outside.specs.Faults.{Rose}
 use Rattle.reg_terms.specs.declared.command.Stamped.{Stamped}
 use Rattle.reg_keep.specs.declared.keeper.Keeper.{Ghosts}
 use Rattle.reg_service.specs.Kept.{Halted}
+use Rattle.reg_service.specs.Marks.{Output, KeepsUpInPart}
 use Rattle.reg_session.specs.Answered.{Point, Accepted, Feeds}
 use Rattle.reg_session.specs.Lines.{lines, ended_lines, IsCutAtLineFeeds}
+use Rattle.reg_session.specs.Replies.{IsLine}
 use Rattle.reg_session.specs.Stops.{StopsIn}
 use Rattle.reg_session.specs.declared.pending.PendingLine.{PendingLine}
 use Rattle.reg_session.specs.declared.stop.Stop.{Stop}
@@ -44,6 +46,13 @@ StopsLast g before old line written failed why keeper =
     (h : Halted g before.state.history old keeper)
     × (StopsIn before (line ∷ []) written failed h.answered h.after why
     ⊎ ((why ≡ stop.Output) × StopsBehind before (line ∷ []) written h.answered h.after))
+
+-- the same, and the output kept up from one state to another
+abbrev pub StopsLastKeepingUp : {K : Type 0} → Ghosts K → Point → K → List ℕ → (from to : Output)
+    → (failed : Type 0) → Stop → K → Type 0
+StopsLastKeepingUp g before old line from to failed why keeper =
+    (h : StopsLast g before old line to.written failed why keeper)
+    × KeepsUpInPart g IsLine old from to h.0.after keeper
 
 -- all that was written is flushed
 abbrev pub IsAllFlushed : Option (List ℕ) → Option ℕ → Type 0
@@ -86,6 +95,13 @@ pub record StopsInput {K : Type 0} (g : Ghosts K) (before : Point) (old : K)
   pub cut : IsCutAtLineFeeds (lines taken) taken
   pub halted : Halted g before.state.history old keeper
   pub ends : EndsInput before taken now written flushed failed halted.answered halted.after why
+
+-- the same, and the output kept up from one state to another
+abbrev pub StopsInputKeepingUp : {K : Type 0} → Ghosts K → Point → K → (left now : Option (List ℕ))
+    → (from to : Output) → Option ℕ → (failed : Type 0) → Stop → K → Type 0
+StopsInputKeepingUp g before old left now from to flushed failed why keeper =
+    (s : StopsInput g before old left now to.written flushed failed why keeper)
+    × KeepsUpInPart g IsLine old from to s.halted.after keeper
 
 -- so many bytes were taken from the first point on, and the lines that they end were answered
 pub record HasTaken (left now : Option (List ℕ)) (before after : Point) (pending kept : PendingLine)

@@ -7,6 +7,7 @@ use Rattle.reg_terms.specs.declared.command.Stamped.{Stamped}
 use Rattle.reg_terms.specs.declared.reply.Reply.{Reply}
 use Rattle.reg_terms.specs.declared.reply.Reply.TheVariants as reply
 use Rattle.reg_json.specs.Replies.{text}
+use Rattle.reg_service.specs.Marks.{Writing, number_of}
 use Rattle.reg_session.specs.declared.stop.Stop.{Stop}
 use Rattle.reg_session.specs.declared.stop.Stop.TheVariants as stop
 
@@ -18,6 +19,11 @@ line_of told = text told ++ 10 ∷ []
 abbrev pub lines_of : List Reply → List ℕ
 lines_of [] = []
 lines_of (told ∷ replies) = line_of told ++ lines_of replies
+
+-- this was written for a reply: its line, and the number that it tells
+abbrev pub IsLine : Writing → Type 0
+IsLine written =
+    (told : Reply) × (written.text ≡ line_of told) × (written.number ≡ number_of told)
 
 -- the numbers that replies tell
 abbrev pub numbers : List Reply → List ℕ

@@ -11,12 +11,13 @@ use Rattle.reg_machine.specs.History.{State}
 use Rattle.reg_json.specs.Reading.{reading_of}
 use Rattle.reg_keep.specs.declared.keeper.Keeper.{Ghosts}
 use Rattle.reg_service.specs.Kept.{Halted}
+use Rattle.reg_service.specs.Marks.{Output, KeepsUpInPart}
 use Rattle.reg_service.specs.Turn.{turn, Turns}
 use Rattle.reg_service.specs.declared.service.Cause.{Cause}
 use Rattle.reg_service.specs.declared.service.Cause.TheVariants as cause
 use Rattle.reg_session.specs.Answered.{Point, Accepted}
 use Rattle.reg_session.specs.Lines.{is_skipped}
-use Rattle.reg_session.specs.Replies.{line_of, is_accepted, IsShown}
+use Rattle.reg_session.specs.Replies.{line_of, is_accepted, IsShown, IsLine}
 use Rattle.reg_session.specs.declared.stop.Stop.{Stop}
 use Rattle.reg_session.specs.declared.stop.Stop.TheVariants as stop
 
@@ -86,3 +87,10 @@ abbrev pub HaltsIn : {K : Type 0} → Ghosts K → Point → K → List (List �
 HaltsIn g before old ls written failed why keeper =
     (h : Halted g before.state.history old keeper)
     × StopsIn before ls written failed h.answered h.after why
+
+-- the same, and the output kept up from one state to another
+abbrev pub HaltsKeepingUp : {K : Type 0} → Ghosts K → Point → K → List (List ℕ)
+    → (from to : Output) → (failed : Type 0) → Stop → K → Type 0
+HaltsKeepingUp g before old ls from to failed why keeper =
+    (h : HaltsIn g before old ls to.written failed why keeper)
+    × KeepsUpInPart g IsLine old from to h.0.after keeper

@@ -4,10 +4,13 @@ ghost use Rattle.std.specs.Prelude.{option_map, Result, Ok, IfOk, IfErr, OnOk};
 ghost use Rattle.std.specs.Io.KnownBytes.{IsAtEnd, prepend_known};
 ghost use Rattle.reg_outside.specs.Faults.{Rose};
 ghost use Rattle.reg_service.specs.Kept.{KeptOn};
+ghost use Rattle.reg_service.specs.Marks.{KeepsUp, output_of};
 ghost use Rattle.reg_service.specs.Opening.{payloads_of, FrontsReopen};
 ghost use Rattle.reg_session.specs.Answered.{Answered, point};
 ghost use Rattle.reg_session.specs.Input.{AnswersInput, FlushesFor, StopsInput, StopsLast};
+ghost use Rattle.reg_session.specs.Input.{StopsInputKeepingUp, StopsLastKeepingUp};
 ghost use Rattle.reg_session.specs.Pending.{Holds};
+ghost use Rattle.reg_session.specs.Replies.{IsLine};
 ghost use Rattle.reg_session.specs.Stops.{IsAtLine};
 
 use crate::pending::PendingLine;
@@ -51,6 +54,7 @@ fn flush<K: Sink>(out: &mut K) -> Result<(), Stop>
     ensures count { K.write_faults out.old ≤ K.write_faults out.new }
     ensures output { IfErr result (λ e. (e ≡ Stop.Output)
         × Rose (K.write_faults out.old) (K.write_faults out.new)) }
+    ensures marks { K.marks out.new ≡ K.marks out.old }
 {
     match out.flush() {
         Ok(()) => Ok(()),
@@ -65,6 +69,7 @@ fn stop_flushed<K: Sink>(out: &mut K, why: Stop) -> Stop
     ensures why { FlushesFor why result (K.written out.new) (K.flushed out.new)
         (K.write_faults out.old) (K.write_faults out.new) }
     ensures count { K.write_faults out.old ≤ K.write_faults out.new }
+    ensures marks { K.marks out.new ≡ K.marks out.old }
 {
     match flush(out) {
         Ok(()) => why,
@@ -83,6 +88,7 @@ fn stop_at_input<J: Keeper, K: Sink>(service: Service<J>, out: &mut K, why: Stop
     ensures leaves { (r : Result (List (List ℕ)) ℕ) → J.stop_leaves result.1 r
         → r ≡ Ok (payloads_of service.state.history) }
     ensures fronts { FrontsReopen service.state.history }
+    ensures marks { K.marks out.new ≡ K.marks out.old }
 {
     (stop_flushed(out, why), service.into_keeper())
 }
@@ -112,6 +118,14 @@ fn finish<J: Keeper, K: Sink, C: Clock>(
     ensures disk { IfErr result (λ e. e.0 ≡ Stop.Disk
         → Rose (J.keep_faults service.keeper) (J.keep_faults e.1)) }
     ensures others { IfErr result (λ e. IsAtLine e.0) }
+    ensures keeps_up { IfOk result
+        (λ after. KeepsUp ⟦<J as Keeper>⟧ IsLine service.keeper (output_of ⟦<K as Sink>⟧ out.old)
+        (output_of ⟦<K as Sink>⟧ out.new) after.state.history after.keeper) }
+    ensures keeps_up_to { IfErr result (λ e. (bytes : List ℕ) → Holds line.now bytes →
+        StopsLastKeepingUp ⟦<J as Keeper>⟧
+        (point ⟦<K as Sink>⟧ ⟦<C as Clock>⟧ out.old clock.old service.state) service.keeper bytes
+        (output_of ⟦<K as Sink>⟧ out.old) (output_of ⟦<K as Sink>⟧ out.new)
+        (Rose (K.write_faults out.old) (K.write_faults out.new)) e.0 e.1) }
 {
     let service = answer_line(alloc, service, line, out, clock)?;
     match flush(out) {
@@ -149,6 +163,18 @@ pub fn answer_input<S: Source, J: Keeper, K: Sink, C: Clock>(
         → Rose (K.write_faults out.old) (K.write_faults out.new)) }
     ensures disk { IfErr result (λ e. e.0 ≡ Stop.Disk
         → Rose (J.keep_faults service.keeper) (J.keep_faults e.1)) }
+
+    // Before each reply that acknowledges a command stands a mark, since which each stop leaves the
+    // command.
+    ensures keeps_up { IfOk result
+        (λ to. KeepsUp ⟦<J as Keeper>⟧ IsLine service.keeper (output_of ⟦<K as Sink>⟧ out.old)
+        (output_of ⟦<K as Sink>⟧ out.new) to.state.history to.keeper) }
+    ensures keeps_up_to { IfErr result (λ e.
+        StopsInputKeepingUp ⟦<J as Keeper>⟧
+        (point ⟦<K as Sink>⟧ ⟦<C as Clock>⟧ out.old clock.old service.state) service.keeper
+        (S.left input.old) (S.left input.new) (output_of ⟦<K as Sink>⟧ out.old)
+        (output_of ⟦<K as Sink>⟧ out.new) (K.flushed out.new)
+        (Rose (K.write_faults out.old) (K.write_faults out.new)) e.0 e.1) }
 {
     service.stays();
     let mut service = service;

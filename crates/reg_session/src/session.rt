@@ -7,12 +7,13 @@ ghost use Rattle.reg_outside.specs.Streams.{WritesFront};
 ghost use Rattle.reg_terms.specs.declared.request.Request.{Request};
 ghost use Rattle.reg_terms.specs.declared.refusal.Refusal.{Refusal};
 ghost use Rattle.reg_service.specs.Kept.{KeptOn, KeepsNext, LeavesKeeper};
+ghost use Rattle.reg_service.specs.Marks.{KeepsUp, IsNumbered, output_of};
 ghost use Rattle.reg_service.specs.Turn.{AsksNoChange, Follows, turn};
 ghost use Rattle.reg_session.specs.Answered.{Answered, Feeds, point};
 ghost use Rattle.reg_session.specs.Lines.{lines_from};
 ghost use Rattle.reg_session.specs.Pending.{Holds, ReadsAs, AsksFormed};
-ghost use Rattle.reg_session.specs.Replies.{line_of, WritesReply};
-ghost use Rattle.reg_session.specs.Stops.{HaltsIn, IsAtLine};
+ghost use Rattle.reg_session.specs.Replies.{line_of, IsLine, WritesReply};
+ghost use Rattle.reg_session.specs.Stops.{HaltsIn, HaltsKeepingUp, IsAtLine};
 
 use crate::pending::{LineReading, PendingLine};
 use crate::stop::{Stop, stop_of};
@@ -39,6 +40,7 @@ fn write_bytes<K: Sink>(out: &mut K, bytes: &[u8]) -> Result<(), Stop>
     ensures output { IfErr result (λ e. (e ≡ Stop.Output)
         × Rose (K.write_faults out.old) (K.write_faults out.new)) }
     ensures front { WritesFront (K.written out.old) (K.written out.new) bytes.now }
+    ensures marks { K.marks out.new ≡ K.marks out.old }
 {
     match write_whole(out, bytes) {
         Ok(()) => Ok(()),
@@ -55,6 +57,7 @@ fn write_unprinted<K: Sink>(reply: &Reply, out: &mut K) -> Result<(), Stop>
     ensures output { IfErr result (λ e. e ≡ Stop.Output
         → Rose (K.write_faults out.old) (K.write_faults out.new)) }
     ensures others { IfErr result (λ e. (e ≡ Stop.Memory) ⊎ (e ≡ Stop.Output)) }
+    ensures marks { K.marks out.new ≡ K.marks out.old }
 {
     match reply {
         Reply::Number { .. } | Reply::Loaded { .. } => Err(Stop::Memory),
@@ -72,6 +75,7 @@ fn write_line<K: Sink>(alloc: Global, reply: &Reply, out: &mut K) -> Result<(), 
     ensures output { IfErr result (λ e. e ≡ Stop.Output
         → Rose (K.write_faults out.old) (K.write_faults out.new)) }
     ensures others { IfErr result (λ e. (e ≡ Stop.Memory) ⊎ (e ≡ Stop.Output)) }
+    ensures marks { K.marks out.new ≡ K.marks out.old }
 {
     match reply_line(alloc, reply) {
         Ok(line) => write_bytes(out, &line),
@@ -94,6 +98,7 @@ pub fn turn<J: Keeper>(
         (turn service.state at told).1.history service.keeper result.1 }
     ensures same { (told : Result Request Refusal) → ReadsAs reading told → AsksNoChange told
         → LeavesKeeper service.keeper result.1 }
+    ensures numbered { IsNumbered result.0 result.1 }
 {
     match reading {
         LineReading::Asked(request) => service.request(alloc, at, request),
@@ -129,6 +134,16 @@ pub fn answer_line<J: Keeper, K: Sink, C: Clock>(
     ensures disk { IfErr result (λ e. e.0 ≡ Stop.Disk
         → Rose (J.keep_faults service.keeper) (J.keep_faults e.1)) }
     ensures others { IfErr result (λ e. IsAtLine e.0) }
+
+    // Before the reply stands a mark, since which each stop leaves the command that it acknowledges.
+    ensures keeps_up { IfOk result
+        (λ after. KeepsUp ⟦<J as Keeper>⟧ IsLine service.keeper (output_of ⟦<K as Sink>⟧ out.old)
+        (output_of ⟦<K as Sink>⟧ out.new) after.state.history after.keeper) }
+    ensures keeps_up_to { IfErr result (λ e. (bytes : List ℕ) → Holds line.now bytes →
+        HaltsKeepingUp ⟦<J as Keeper>⟧
+        (point ⟦<K as Sink>⟧ ⟦<C as Clock>⟧ out.old clock.old service.state) service.keeper
+        (bytes ∷ []) (output_of ⟦<K as Sink>⟧ out.old) (output_of ⟦<K as Sink>⟧ out.new)
+        (Rose (K.write_faults out.old) (K.write_faults out.new)) e.0 e.1) }
 {
     if line.is_skipped() {
         service.stays();
@@ -137,6 +152,7 @@ pub fn answer_line<J: Keeper, K: Sink, C: Clock>(
     let moment = clock.now();
     let reading = line.reading(alloc);
     let (reply, next) = turn(alloc, service, moment, reading);
+    out.mark(&next.stamp());
     let written = write_line(alloc, &reply, out);
     // By a call, and not at each exit below: there it would be taken apart by its kinds.
     drop(reply);
@@ -191,6 +207,15 @@ fn feed_line<J: Keeper, K: Sink, C: Clock>(
     ensures disk { IfErr result (λ e. e.0 ≡ Stop.Disk
         → Rose (J.keep_faults service.keeper) (J.keep_faults e.1)) }
     ensures others { IfErr result (λ e. IsAtLine e.0) }
+    ensures keeps_up { IfOk result
+        (λ after. KeepsUp ⟦<J as Keeper>⟧ IsLine service.keeper (output_of ⟦<K as Sink>⟧ out.old)
+        (output_of ⟦<K as Sink>⟧ out.new) after.0.state.history after.0.keeper) }
+    ensures keeps_up_to { IfErr result (λ e. (before : List ℕ) → Holds line before →
+        HaltsKeepingUp ⟦<J as Keeper>⟧
+        (point ⟦<K as Sink>⟧ ⟦<C as Clock>⟧ out.old clock.old service.state) service.keeper
+        (lines_from before bytes.now) (output_of ⟦<K as Sink>⟧ out.old)
+        (output_of ⟦<K as Sink>⟧ out.new)
+        (Rose (K.write_faults out.old) (K.write_faults out.new)) e.0 e.1) }
 {
     let end = line_end(bytes);
     let (front, _) = bytes.split_at(end);
@@ -228,6 +253,15 @@ pub fn feed<J: Keeper, K: Sink, C: Clock>(
     ensures disk { IfErr result (λ e. e.0 ≡ Stop.Disk
         → Rose (J.keep_faults service.keeper) (J.keep_faults e.1)) }
     ensures others { IfErr result (λ e. IsAtLine e.0) }
+    ensures keeps_up { IfOk result
+        (λ after. KeepsUp ⟦<J as Keeper>⟧ IsLine service.keeper (output_of ⟦<K as Sink>⟧ out.old)
+        (output_of ⟦<K as Sink>⟧ out.new) after.0.state.history after.0.keeper) }
+    ensures keeps_up_to { IfErr result (λ e. (before : List ℕ) → Holds line before →
+        HaltsKeepingUp ⟦<J as Keeper>⟧
+        (point ⟦<K as Sink>⟧ ⟦<C as Clock>⟧ out.old clock.old service.state) service.keeper
+        (lines_from before piece.now) (output_of ⟦<K as Sink>⟧ out.old)
+        (output_of ⟦<K as Sink>⟧ out.new)
+        (Rose (K.write_faults out.old) (K.write_faults out.new)) e.0 e.1) }
 {
     service.stays();
     let mut service = service;

@@ -2,6 +2,7 @@
 use crate::bytes::add_hex;
 use crate::objects::play;
 use crate::run::Run;
+use crate::stops::play_stops;
 use std::alloc::{AllocError, Global};
 
 /// An example as far as it was read. Its runs share a disk, which begins empty.
@@ -128,6 +129,15 @@ impl Example {
         Ok(())
     }
 
+    /// Stops a run at each call of the disk that it found, and notes what a stop leaves otherwise.
+    /// After a run that came out otherwise it does nothing.
+    fn stop(&mut self, alloc: Global, run: &Run, disk: &[u8]) -> Result<(), AllocError> {
+        if !run.has_stops || !self.faults.is_empty() {
+            return Ok(());
+        }
+        play_stops(alloc, run, disk, &mut self.faults)
+    }
+
     /// Does the run that was read last, if there is one.
     fn finish(&mut self, alloc: Global) -> Result<(), AllocError> {
         if let Some(run) = self.run.take() {
@@ -136,6 +146,7 @@ impl Example {
                 Some(cuts) => self.play_cuts(alloc, &run, &disk, cuts)?,
                 None => self.play_pieces(alloc, &run, &disk)?,
             }
+            self.stop(alloc, &run, &disk)?;
             self.before = disk;
             self.last = Some(run);
         }

@@ -13,12 +13,13 @@ pub struct Outcome {
     pub disk: Vec<u8>,
 }
 
+/// The objects that a run is handed.
 #[derive(Drop)]
-struct Objects {
+pub struct Objects {
     input: MemorySource,
-    out: MemorySink,
+    pub out: MemorySink,
     notes: MemorySink,
-    disk: MemoryDisk,
+    pub disk: MemoryDisk,
     clock: ListClock,
     net: MemoryListener,
 }
@@ -64,7 +65,14 @@ fn listener_of(alloc: Global, given: &Run, piece: usize) -> Result<MemoryListene
 }
 
 impl Objects {
-    fn new(alloc: Global, given: &Run, disk: &[u8], piece: usize) -> Result<Objects, AllocError> {
+    /// The objects of a run over a disk with these bytes, with so many bytes of input in a read at
+    /// most. Nothing is done yet.
+    pub fn new(
+        alloc: Global,
+        given: &Run,
+        disk: &[u8],
+        piece: usize,
+    ) -> Result<Objects, AllocError> {
         let disk = disk_of(alloc, disk, &given.fail_disk)?;
         let clock = clock_of(alloc, given)?;
         let input = source_of(alloc, given, piece)?;
@@ -81,7 +89,8 @@ impl Objects {
         })
     }
 
-    fn run(&mut self, alloc: Global, words: &[String]) -> u8 {
+    /// Does what the words say, and gives the exit status.
+    pub fn run(&mut self, alloc: Global, words: &[String]) -> u8 {
         run(
             alloc,
             words,
@@ -131,7 +140,7 @@ fn checked(alloc: Global, disk: &[u8]) -> Result<Objects, AllocError> {
 }
 
 /// Adds what `check` says of a journal of these bytes.
-fn add_kept(alloc: Global, found: &mut String, disk: &[u8]) -> Result<(), AllocError> {
+pub fn add_kept(alloc: Global, found: &mut String, disk: &[u8]) -> Result<(), AllocError> {
     let objects = checked(alloc, disk)?;
     add_lines(found, "kept ", objects.out.written())?;
     add_lines(found, "kept ", objects.notes.written())

@@ -38,6 +38,8 @@ pub struct Run {
     pub wanted: String,
     pub shows_kept: bool,
     pub shows_journal: bool,
+    /// Behind it, it is stopped at each call of the disk.
+    pub has_stops: bool,
 }
 
 fn words_of(alloc: Global, text: &str) -> Result<Vec<String>, AllocError> {
@@ -91,6 +93,7 @@ impl Run {
             wanted: String::new(alloc),
             shows_kept: false,
             shows_journal: false,
+            has_stops: false,
         })
     }
 
@@ -161,6 +164,11 @@ impl Run {
         self.cuts.is_some()
     }
 
+    fn set_stops(&mut self) -> bool {
+        self.has_stops = true;
+        true
+    }
+
     fn add_failing(&mut self, text: &str) -> Result<bool, AllocError> {
         match text.split_once(' ') {
             Some(("read", number)) => add_number(&mut self.fail_read, number),
@@ -210,6 +218,7 @@ impl Run {
             "piece" => Ok(self.set_pieces(size_of(rest), size_of(rest))),
             "pieces" => Ok(self.set_pieces(Some(1), size_of(rest))),
             "cuts" => Ok(self.set_cuts(rest)),
+            "stops" => Ok(self.set_stops()),
             "fail" => self.add_failing(rest),
             _ => Ok(false),
         }

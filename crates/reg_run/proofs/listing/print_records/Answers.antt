@@ -6,7 +6,7 @@ use Rattle.reg_run.proofs.listing.print_records.Goals as goal
 -- nothing was gone over yet
 pub commands-init : goal.commands-init
 commands-init g c = record {
-  so_far = λ history read. nothing_yet c.args.places.now.from c.args.places.now.to history _ c.new.result c.args.records c.new.ensures read;
+  so_far = λ history read. nothing_yet c.args.places.now.from c.args.places.now.to history _ c.new-listing.result c.args.records c.new-listing.ensures read;
   flushed = refl;
   later = omega arith;
 }

@@ -12,8 +12,8 @@ returns-then-delivery-clause-followed g c = (c.acknowledge.ensures.asked.0, inl 
 pub returns-clause-followed : goal.returns-clause-followed
 returns-clause-followed g c = (
   go_halted g.J.Keeper c.args.service.state.history c.args.service.keeper c.args.service c.into_keeper.result c.stays.ensures c.into_keeper.ensures.keeper c.into_keeper.ensures.fronts c.into_keeper.ensures.leaves,
-  inr (omega (arith, c.if-delivery.false, c.requires.ready.onward), (refl, refl), rw (c.deref.ensures.value, c.requires.ready.tells) at c.print_line-end.ensures),
+  inr (omega (arith, c.if-delivery.false, c.requires.ready.onward), (refl, refl), rw (c.deref.ensures.value, c.requires.ready.tells) at c.print_line-end.ensures.put),
 )
 
 pub returns-clause-disk : goal.returns-clause-disk
-returns-clause-disk g c is = let both : the_end.Done ≡ the_end.Disk = put_disk the_end.Done c.print_line-end.result _ _ _ c.print_line-end.ensures is in absurd (cc)
+returns-clause-disk g c is = let both : the_end.Done ≡ the_end.Disk = put_disk the_end.Done c.print_line-end.result _ _ _ c.print_line-end.ensures.put is in absurd (cc)

@@ -4,7 +4,7 @@ use Rattle.reg_run.proofs.report.print_report.Goals as goal
 
 -- the bytes
 pub returns-in-Ok-Ok : goal.returns-in-Ok-Ok
-returns-in-Ok-Ok g c = told_bytes c.args.asked.now c.args.machine.now c.in-Ok-Ok.bytes.items c.print_line.result _ _ (rw c.in-Ok-Ok.field-0-is at c.in-Ok-Ok.ensures) (rw c.deref.ensures.value at c.print_line.ensures)
+returns-in-Ok-Ok g c = told_bytes c.args.asked.now c.args.machine.now c.in-Ok-Ok.bytes.items c.print_line.result _ _ (rw c.in-Ok-Ok.field-0-is at c.in-Ok-Ok.ensures) (rw c.deref.ensures.value at c.print_line.ensures.put)
 
 -- the refusal
 pub returns-in-Ok-Err : goal.returns-in-Ok-Err

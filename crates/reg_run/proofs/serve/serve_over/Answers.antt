@@ -1,7 +1,9 @@
-use Rattle.std.proofs.Common.{refl, inl, inr, arith, ◌-◌, length}
+use Rattle.std.proofs.Common.{refl, ap, inl, inr, arith, ◌-◌, length, option_map}
 use Rattle.reg_keep.specs.JournalWords.{disk_of}
+use Rattle.reg_keep.specs.Keeping.{kept_in}
 use Rattle.reg_run.proofs.Crashing.{untouched_same, survives_kept, stops_whole, stops_halted, no_shorter, answered_front}
-use Rattle.reg_run.proofs.Serving.{ceased_whole, serve_ceased}
+use Rattle.reg_run.proofs.KeepingUp.{halted_fronts, sure_fronts}
+use Rattle.reg_run.proofs.Serving.{ceased_whole, serve_ceased, visits_keep_up}
 use Rattle.reg_run.proofs.serve.serve_over.Goals as goal
 
 -- the journal didn't open, so the disk was only read
@@ -29,12 +31,14 @@ returns-in-Ok-serve_port-clause-did g c w =
       record {
         accepted = k.more;
         answered = length to.history - length from.history;
-        ends = record { last = to; listens = c.in-Ok-serve_port.ensures.port; served = c.in-Ok-serve_port.ensures.served; grown = k.grown; opens = c.close.ensures.opens };
+        ends = record { last = to; listens = c.in-Ok-serve_port.ensures.port; served = c.in-Ok-serve_port.ensures.served.0; grown = k.grown; opens = c.close.ensures.opens };
         input = (refl, refl);
         output = (refl, refl, refl);
         disk = rw c.close.ensures.disk (survives_kept g.D.Disk from.history to.history to.history k.more 0 c.args.disk mid new c.in-Ok.ensures.crash (g.met.D.Disk.only_now c.args.disk) c.in-Ok.ensures.same (g.met.D.Disk.reads_now new)
             k.grown (no_shorter from.history to.history k.more k.grown) (inl refl) (λ is. refl)
             (stops_whole from.history to.history c.in-Ok.service.keeper c.in-Ok-serve_port.service.keeper k.crash c.close.ensures.again (rw c.close.ensures.disk at c.close.ensures.images)));
+        keeps_up = rw c.close.ensures.disk (visits_keep_up _ g.D.Disk c.in-Ok.service.keeper c.in-Ok-serve_port.service.keeper c.args.disk new _ _ c.in-Ok-serve_port.ensures.served.0.visits from.history k.more to.history
+            c.in-Ok-serve_port.ensures.served.1 c.in-Ok-serve_port.ensures.served.0.told k.grown (sure_fronts _ to.history c.close.ensures.again) (record { moment = refl; stops = λ t r s. s }) (ap (option_map kept_in) c.in-Ok.ensures.same));
       },
     )
 
@@ -59,5 +63,7 @@ returns-in-Err-serve_port-clause-did g c w =
         output = (refl, refl, refl);
         disk = survives_kept g.D.Disk from.history h.answered h.after h.kept.more _ c.args.disk mid new c.in-Ok.ensures.crash (g.met.D.Disk.only_now c.args.disk) c.in-Ok.ensures.same (g.met.D.Disk.reads_now new)
             h.kept.grown h.first h.last (ceased_whole c.in-Err-serve_port.ceased from _ s.visits _ h.answered h.after s.ends) (stops_halted from.history h.answered h.after c.in-Ok.service.keeper c.in-Err-serve_port.keeper h.kept.crash h.stopped);
+        keeps_up = visits_keep_up _ g.D.Disk c.in-Ok.service.keeper c.in-Err-serve_port.keeper c.args.disk new _ _ s.visits from.history h.kept.more h.after
+            c.in-Err-serve_port.ensures.ceased.2 s.told h.kept.grown (halted_fronts _ _ _ _ h) (record { moment = refl; stops = λ t r s. s }) (ap (option_map kept_in) c.in-Ok.ensures.same);
       },
     ))

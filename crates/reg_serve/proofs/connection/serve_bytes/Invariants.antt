@@ -1,6 +1,8 @@
 use Rattle.std.proofs.Common.{◌≡◌, ◌≤◌, ◌-◌, ◌^◌, None}
 use Rattle.reg_http.specs.Messages.{IsUnfinished}
 use Rattle.reg_service.specs.Kept.{KeptOn}
+use Rattle.reg_service.specs.Marks.{output_of}
+use Rattle.reg_serve.specs.KeepingUp.{KeepsUpOn}
 use Rattle.reg_serve.specs.Sessions.{HasServed}
 use Rattle.reg_serve.proofs.connection.serve_bytes.Given as goal
 
@@ -13,6 +15,7 @@ invariant-loop-taken g l =
     record {
       done : HasServed (left l.fn.conn) (left l.conn) (record { written = written l.fn.conn; moments = moments l.fn.clock; state = l.fn.service.state })
           (record { written = written l.conn; moments = moments l.clock; state = l.service.state }) l.reader l.taken;
+      up : KeepsUpOn g.K.Keeper l.fn.service.keeper (output_of g.C.Sink l.fn.conn) (output_of g.C.Sink l.conn) l.service;
       kept : KeptOn g.K.Keeper l.fn.service.state.history l.fn.service.keeper l.service.state.history l.service.keeper;
       unfinished : IsUnfinished l.reader.rest;
       fault : l.reader.fault ≡ None;

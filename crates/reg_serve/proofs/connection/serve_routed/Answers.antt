@@ -1,7 +1,11 @@
 use Rattle.std.proofs.Common.{refl}
 use Rattle.reg_serve.proofs.Turning.{session_none}
+use Rattle.reg_serve.proofs.Upkeep.{quiet_up}
 use Rattle.reg_serve.proofs.connection.serve_routed.Goals as goal
 
 -- there was no memory for a reader
 pub returns-in_default-clause-session : goal.returns-in_default-clause-session
 returns-in_default-clause-session g c = session_none g.K.Keeper _ _ c.args.service c.turns_are_of_all_bytes.ensures.begun refl c.stays.ensures
+
+pub returns-in_default-clause-keeps_up : goal.returns-in_default-clause-keeps_up
+returns-in_default-clause-keeps_up g c = (returns-in_default-clause-session g c, quiet_up g.K.Keeper c.args.service.keeper c.args.service.keeper c.args.service.state.history _ _ refl refl)

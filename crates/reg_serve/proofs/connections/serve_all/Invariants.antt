@@ -1,5 +1,6 @@
 use Rattle.std.proofs.Common.{◌≡◌, ◌≤◌, ◌-◌}
 use Rattle.reg_service.specs.Kept.{KeptOn}
+use Rattle.reg_serve.specs.KeepingUp.{VisitsKeepUp}
 use Rattle.reg_serve.specs.Visits.{ServedSo}
 use Rattle.reg_serve.proofs.connections.serve_all.Given as goal
 
@@ -10,6 +11,7 @@ invariant-loop-served g l =
     let moments = g.T.Clock.moments in
     record {
       done : ServedSo l.served l.fn.service.state (moments l.fn.clock) (told l.fn.net) (told l.net) l.service.state (moments l.clock);
+      up : (x : ServedSo l.served l.fn.service.state (moments l.fn.clock) (told l.fn.net) (told l.net) l.service.state (moments l.clock)) × VisitsKeepUp g.K.Keeper l.fn.service.keeper l.service.state.history l.service.keeper x.visits;
       few : l.served ≤ l.limit;
       kept : KeptOn g.K.Keeper l.fn.service.state.history l.fn.service.keeper l.service.state.history l.service.keeper;
       port : g.L.Listener.listens l.net ≡ g.L.Listener.listens l.fn.net;

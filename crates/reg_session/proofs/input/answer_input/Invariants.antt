@@ -1,7 +1,9 @@
 use Rattle.std.proofs.Common.{◌≤◌, ◌-◌, ◌^◌, []}
 use Rattle.reg_service.specs.Kept.{KeptOn}
+use Rattle.reg_service.specs.Marks.{KeepsUp, output_of}
 use Rattle.reg_session.specs.Input.{HasTaken}
 use Rattle.reg_session.specs.Pending.{Holds}
+use Rattle.reg_session.specs.Replies.{IsLine}
 use Rattle.reg_session.proofs.input.answer_input.Given as goal
 
 -- so many bytes were taken, from the service's state on
@@ -18,6 +20,7 @@ invariant-loop-taken g l =
       reads : g.S.Source.read_faults l.fn.input ≤ g.S.Source.read_faults l.input;
       writes : g.K.Sink.write_faults l.fn.out ≤ g.K.Sink.write_faults l.out;
       kept : KeptOn g.J.Keeper l.fn.service.state.history l.fn.service.keeper l.service.state.history l.service.keeper;
+      keeps_up : KeepsUp g.J.Keeper IsLine l.fn.service.keeper (output_of g.K.Sink l.fn.out) (output_of g.K.Sink l.out) l.service.state.history l.service.keeper;
     }
 
 abbrev pub decreases-loop-taken : goal.decreases-loop-taken

@@ -1,13 +1,16 @@
-use Rattle.std.proofs.Common.{arith, rules, length-drop, take-append-drop, List, ℕ, take, drop}
+use Rattle.std.proofs.Common.{arith, rules, refl, length-drop, take-append-drop, List, ℕ, take, drop}
 use Rattle.std.proofs.lemmas.List.{take_all}
 use Rattle.reg_outside.specs.Faults.{Rose}
+use Rattle.reg_service.specs.Marked.{keeps_up_none, keeps_up_then, part_keeps_up_then}
+use Rattle.reg_service.specs.Marks.{output_of}
 use Rattle.reg_session.specs.Answered.{Point}
 use Rattle.reg_session.specs.Lines.{lines_from, pending_from}
 use Rattle.reg_session.specs.Pending.{Holds}
-use Rattle.reg_session.specs.Stops.{HaltsIn}
+use Rattle.reg_session.specs.Replies.{IsLine}
+use Rattle.reg_session.specs.Stops.{HaltsKeepingUp}
 use Rattle.reg_session.proofs.Answering.{answered_none}
 use Rattle.reg_session.proofs.Feeding.{feeds_from, stops_from}
-use Rattle.reg_session.proofs.Halting.{kept_then, halted_then, err_by}
+use Rattle.reg_session.proofs.Halting.{kept_then, halted_then, err_by, err_one}
 use Rattle.reg_session.proofs.Stopping.{stops_wider}
 use Rattle.reg_session.proofs.session.feed.Goals as goal
 
@@ -20,6 +23,7 @@ loop-at-init g c =
       within = omega arith;
       count = omega arith;
       kept = c.stays.ensures;
+      keeps_up = keeps_up_none g.J.Keeper IsLine _ _ _ _ _ refl refl;
     }
 
 -- the bytes of one line more were taken
@@ -31,24 +35,33 @@ loop-at-preserved g c =
       within = omega (arith, rest, length-drop c.loop-at.at c.args.piece.now);
       count = search rules;
       kept = kept_then g.J.Keeper _ _ _ _ _ _ c.loop-at.invariant.kept c.in_ok-service.ensures.kept;
+      keeps_up = keeps_up_then g.J.Keeper IsLine _ _ _ _ _ _ _ _ _ c.loop-at.invariant.kept c.in_ok-service.ensures.kept c.loop-at.invariant.keeps_up c.in_ok-service.ensures.keeps_up;
     }
 
 -- a line stopped the service
-pub returns-in_err-service-clause-halted : goal.returns-in_err-service-clause-halted
-returns-in_err-service-clause-halted g c =
+pub returns-in_err-service-clause-keeps_up_to : goal.returns-in_err-service-clause-keeps_up_to
+returns-in_err-service-clause-keeps_up_to g c =
     let here : Point = record { written = g.K.Sink.written c.args.out.now; moments = g.C.Clock.moments c.args.clock.now; state = c.args.service.state } in
     let faults = g.K.Sink.write_faults in
     let failed : Type 0 = Rose (faults c.loop-at.out) (faults c.feed_line.new.out) in
     let wider : Type 0 = Rose (faults c.args.out.now) (faults c.feed_line.new.out) in
-    err_by (λ e. (before : List ℕ) → Holds c.args.line before → HaltsIn g.J.Keeper here c.args.service.keeper (lines_from before c.args.piece.now) (g.K.Sink.written c.feed_line.new.out) wider e.0 e.1) c.from_residual.result c.in_err-service.field-0.0 c.from_residual.ensures.1
+    err_by (λ e. (before : List ℕ) → Holds c.args.line before → HaltsKeepingUp g.J.Keeper here c.args.service.keeper (lines_from before c.args.piece.now) (output_of g.K.Sink c.args.out.now) (output_of g.K.Sink c.feed_line.new.out) wider e.0 e.1)
+    c.from_residual.result c.in_err-service.field-0.0 c.from_residual.ensures.1
     (λ before held.
     let fed = c.loop-at.invariant.fed before held in
-    let halted = rw c.split_at.ensures.back at c.in_err-service.ensures.halted in
-    let h = halted (pending_from before (take c.loop-at.at c.args.piece.now)) fed.0 in
+    let halted = rw c.split_at.ensures.back at c.in_err-service.ensures.keeps_up_to in
+    let halts = halted (pending_from before (take c.loop-at.at c.args.piece.now)) fed.0 in
+    let h = halts.0 in
     let stops = stops_wider _ _ _ failed wider h.0.answered h.0.after _ (λ rose. omega (arith, rose, c.loop-at.invariant.count)) h.1 in (
-      halted_then g.J.Keeper _ _ _ _ _ c.loop-at.invariant.kept h.0,
-      rw take-append-drop at (stops_from here _ before (take c.loop-at.at c.args.piece.now) (drop c.loop-at.at c.args.piece.now) _ wider h.0.answered h.0.after _ fed.1 stops),
+      (
+        halted_then g.J.Keeper _ _ _ _ _ c.loop-at.invariant.kept h.0,
+        rw take-append-drop at (stops_from here _ before (take c.loop-at.at c.args.piece.now) (drop c.loop-at.at c.args.piece.now) _ wider h.0.answered h.0.after _ fed.1 stops),
+      ),
+      part_keeps_up_then g.J.Keeper IsLine _ _ _ _ _ _ _ _ _ c.loop-at.invariant.kept h.0.kept c.loop-at.invariant.keeps_up halts.1,
     ))
+
+pub returns-in_err-service-clause-halted : goal.returns-in_err-service-clause-halted
+returns-in_err-service-clause-halted g c = err_one _ _ c.from_residual.result (returns-in_err-service-clause-keeps_up_to g c) (λ e halts before held. (halts before held).0)
 
 -- all bytes were taken
 pub returns-clause-fed : goal.returns-clause-fed

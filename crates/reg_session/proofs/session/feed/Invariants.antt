@@ -1,6 +1,8 @@
 use Rattle.std.proofs.Common.{◌≤◌, ◌-◌, length, take}
 use Rattle.reg_session.specs.Answered.{Feeds}
 use Rattle.reg_service.specs.Kept.{KeptOn}
+use Rattle.reg_service.specs.Marks.{KeepsUp, output_of}
+use Rattle.reg_session.specs.Replies.{IsLine}
 use Rattle.reg_session.proofs.session.feed.Given as goal
 
 -- the bytes up to a place were taken
@@ -15,6 +17,7 @@ invariant-loop-at g l =
       within : l.at ≤ length l.piece;
       count : faults l.fn.out ≤ faults l.out;
       kept : KeptOn g.J.Keeper l.fn.service.state.history l.fn.service.keeper l.service.state.history l.service.keeper;
+      keeps_up : KeepsUp g.J.Keeper IsLine l.fn.service.keeper (output_of g.K.Sink l.fn.out) (output_of g.K.Sink l.out) l.service.state.history l.service.keeper;
     }
 
 abbrev pub decreases-loop-at : goal.decreases-loop-at

@@ -1,5 +1,5 @@
 use Rattle.std.proofs.Common.{◌≡◌, false}
-use Rattle.reg_tests.proofs.journal_tests.acknowledged.Given as goal
+use Rattle.worked.proofs.tests.keepers.acknowledged.Given as goal
 
 abbrev pub invariant-loop-n : goal.invariant-loop-n
 invariant-loop-n g l = g.K.Keeper.has_failed l.keeper ≡ false

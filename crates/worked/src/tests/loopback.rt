@@ -1,15 +1,15 @@
 // A connection over loopback: no clause can say what a socket carries.
 ghost use Rattle.std.specs.Prelude.{◌≡◌, IfOk, is_some, true};
 
+use super::otherwise::{Otherwise, expect};
+use super::registry::empty;
 use reg_base::Moment;
-use reg_keep::{NoKeeper, Records};
 use reg_outside::{ListClock, Listener, TcpPort};
 use reg_serve::{Ended, serve_connection};
-use reg_service::{Next, Service};
-use std::alloc::Global;
-use std::io::{Eprint, Read, Write};
+use reg_service::Next;
+use std::alloc::{AllocError, Global};
+use std::io::{self, Eprint, Read, Write};
 use std::net::{Ipv4Addr, Net, Shutdown, SocketAddr, SocketAddrV4, TcpListener, TcpStream};
-use std::test::Fail;
 
 /// A folder and a group are made, and the group's members asked for.
 const MESSAGES: &[u8] = b"POST /requests HTTP/1.1\r\n\
@@ -48,7 +48,7 @@ Content-Length: 25\r\n\
 /// Listens on the first of some ports that is free.
 fn listen_on<R: Net<Listener = TcpListener, Stream = TcpStream> + Eprint>(
     net: &mut TcpPort<R>,
-) -> Result<u16, Fail>
+) -> Result<u16, Otherwise>
     ensures { IfOk result (λ port. is_some net.new.port ≡ true) }
 {
     for port in 49_400..49_500u16 {
@@ -56,11 +56,11 @@ fn listen_on<R: Net<Listener = TcpListener, Stream = TcpStream> + Eprint>(
             return Ok(port);
         }
     }
-    Err(Fail::from("none of the ports is free"))
+    Err(Otherwise::NotSo("one of the ports is free"))
 }
 
 /// A client that has sent all of the messages, and nothing more.
-fn client_of(rt: &HostRuntime, port: u16) -> Result<TcpStream, Fail> {
+fn client_of(rt: &HostRuntime, port: u16) -> io::Result<TcpStream> {
     let address = SocketAddr::V4(SocketAddrV4::new(Ipv4Addr::LOCALHOST, port));
     let mut client = TcpStream::connect(rt, address)?;
     client.write_all(MESSAGES)?;
@@ -68,34 +68,49 @@ fn client_of(rt: &HostRuntime, port: u16) -> Result<TcpStream, Fail> {
     Ok(client)
 }
 
-fn service_of(alloc: Global) -> Result<Service<NoKeeper>, Fail> {
-    match Service::start(alloc, NoKeeper, Records::new(alloc)?) {
-        Ok(service) => Ok(service),
-        Err(_) => Err(Fail::from("no service")),
-    }
+/// A clock that stands at moment 0.
+fn clock(alloc: Global) -> Result<ListClock, AllocError> {
+    Ok(ListClock::new(vec![in alloc; Moment::start()]?))
+}
+
+/// Accepts the connection that waits, serves it, and gives it back.
+fn serve<R: Net<Listener = TcpListener, Stream = TcpStream> + Eprint>(
+    alloc: Global,
+    net: &mut TcpPort<R>,
+) -> Result<(), Otherwise>
+    requires { is_some net.old.port ≡ true }
+{
+    let mut clock = clock(alloc)?;
+    let service = empty(alloc)?;
+    let Ok(Some(mut conn)) = net.accept() else {
+        return Err(Otherwise::NotSo("a connection comes"));
+    };
+    let (ended, next) = serve_connection(alloc, service, &mut conn, &mut clock);
+    let is_given_back = net.close(conn).is_ok();
+    let goes_on = matches!(&next, Next::Go(_));
+    drop(next);
+    expect(is_given_back, "the connection is given back")?;
+    expect(
+        ended == Ended::Closed,
+        "the connection ends since its bytes do",
+    )?;
+    expect(goes_on, "the registry goes on")
 }
 
 /// Row by row: the port is listened on, the messages are sent and the client's side is closed, and
 /// only then the connection is accepted, served and given back.
-#[test]
-fn a_connection_over_loopback_is_served(rt: HostRuntime) -> Result<(), Fail> {
-    let alloc = rt.alloc();
-    let mut net = TcpPort::new(&rt);
+pub fn play(rt: &HostRuntime) -> Result<(), Otherwise> {
+    let mut net = TcpPort::new(rt);
     let port = listen_on(&mut net)?;
-    let mut client = client_of(&rt, port)?;
-    let mut moments = Vec::new(alloc);
-    moments.push(Moment::start())?;
-    let mut clock = ListClock::new(moments);
-    let service = service_of(alloc)?;
-    let Ok(Some(mut conn)) = net.accept() else {
-        return Err(Fail::from("no connection came"));
+    let Ok(mut client) = client_of(rt, port) else {
+        return Err(Otherwise::NotSo("a client sends its messages"));
     };
-    let (ended, next) = serve_connection(alloc, service, &mut conn, &mut clock);
-    assert!(rt; net.close(conn).is_ok());
-    assert_eq!(rt; ended, Ended::Closed);
-    assert!(rt; matches!(&next, Next::Go(_)));
-    let mut found = Vec::new(alloc);
-    client.read_to_end(&mut found)?;
-    assert_eq!(rt; found.as_slice(), RESPONSES);
-    Ok(())
+    serve(rt.alloc(), &mut net)?;
+    let mut found = Vec::new(rt.alloc());
+    let is_read = client.read_to_end(&mut found).is_ok();
+    expect(is_read, "the client reads to the end")?;
+    expect(
+        found.as_slice() == RESPONSES,
+        "it reads the three responses",
+    )
 }

@@ -1,20 +1,17 @@
 // A chain of 200 groups, each a member of the next: 2,000 persons are in the first and so in all,
 // and one person joins the last and leaves it again, 25,000 times. What recomputes all memberships
-// at each command, or folds the history again for each past moment, doesn't end in a test's time.
+// at each command, or folds the history again for each past moment, doesn't end in the time that a
+// program of the gate has.
 ghost use Rattle.std.specs.Prelude.{◌≡◌, ◌<◌};
 
-use crate::lines::put_line;
+use super::otherwise::{Otherwise, expect_number};
+use super::registry::{after, put_line};
 use reg_base::{GroupId, Moment, Steps, SubjectId};
 use reg_effect::{Incremental, Kept};
-use reg_keep::{NoKeeper, Records};
 use reg_machine::Machine;
-use reg_outside::{ListClock, SureSink, SureSource};
-use reg_service::Service;
-use reg_session::answer_input;
-use std::alloc::Global;
+use std::alloc::{AllocError, Global};
 use std::marker::Brand;
 use std::sync::ledger::{Blank, Ledger};
-use std::test::Fail;
 
 /// The first of the commands is made at moment 1, and each at one more. From this one on the last
 /// person joins at each odd moment and leaves at each even one.
@@ -24,7 +21,7 @@ const FIRST_TURN: u64 = 4_401;
 const LAST: u64 = 54_400;
 
 /// The subjects and the groups.
-fn put_objects(alloc: Global, lines: &mut Vec<u8>) -> Result<(), Fail> {
+fn put_objects(alloc: Global, lines: &mut Vec<u8>) -> Result<(), AllocError> {
     for person in 0..2_000u64 {
         let fields = format!(in alloc; "\"subject\":\"uni/p{person}\"")?;
         put_line(alloc, lines, "subject.add", &fields)?;
@@ -38,7 +35,7 @@ fn put_objects(alloc: Global, lines: &mut Vec<u8>) -> Result<(), Fail> {
 }
 
 /// Each group in the next one, and the persons in the first.
-fn put_memberships(alloc: Global, lines: &mut Vec<u8>) -> Result<(), Fail> {
+fn put_memberships(alloc: Global, lines: &mut Vec<u8>) -> Result<(), AllocError> {
     for below in 0..199u64 {
         let group = below + 1;
         let fields = format!(in alloc; "\"group\":\"c{group}\",\"member\":\"g:gsa/c{below}\"")?;
@@ -52,7 +49,7 @@ fn put_memberships(alloc: Global, lines: &mut Vec<u8>) -> Result<(), Fail> {
 }
 
 /// All commands, one a line.
-fn commands(alloc: Global) -> Result<Vec<u8>, Fail> {
+fn commands(alloc: Global) -> Result<Vec<u8>, AllocError> {
     let mut lines = Vec::new(alloc);
     put_objects(alloc, &mut lines)?;
     put_memberships(alloc, &mut lines)?;
@@ -64,41 +61,14 @@ fn commands(alloc: Global) -> Result<Vec<u8>, Fail> {
     Ok(lines)
 }
 
-/// A clock that gives the moments from 1 on.
-fn clock(alloc: Global) -> Result<ListClock, Fail> {
-    let mut moments = Vec::new(alloc);
-    for at in 1..=LAST {
-        if let Some(moment) = Moment::new(at) {
-            moments.push(moment)?;
-        }
-    }
-    if moments.is_empty() {
-        return Err(Fail::from("no moments"));
-    }
-    Ok(ListClock::new(moments))
-}
-
-/// The registry after all commands.
-fn chained(alloc: Global) -> Result<Service<NoKeeper>, Fail> {
-    let Ok(service) = Service::start(alloc, NoKeeper, Records::new(alloc)?) else {
-        return Err(Fail::from("no service"));
-    };
-    let mut input = SureSource::new(commands(alloc)?, 65_536);
-    let mut clock = clock(alloc)?;
-    match answer_input(alloc, service, &mut input, &mut SureSink::new(), &mut clock) {
-        Ok(service) => Ok(service),
-        Err(_) => Err(Fail::from("not all lines were answered")),
-    }
-}
-
 /// At how many of the moments at which the last person joined or left the past tells otherwise.
-fn otherwise<L: Ledger>(machine: &Machine<Incremental>, blank: Blank) -> usize
+fn otherwise<L: Ledger>(machine: &Machine<Incremental>, blank: Blank) -> u64
     requires name { blank.name ≡ L.name }
     requires parts { blank.parts ≡ L.parts }
     requires some { 0 < blank.parts }
 {
     let mut steps = Steps::<L>::open(blank);
-    let mut wrong = 0usize;
+    let mut wrong = 0u64;
     for at in FIRST_TURN..=LAST {
         let told = match Moment::new(at) {
             Some(t) if t <= machine.clock() => {
@@ -114,22 +84,26 @@ fn otherwise<L: Ledger>(machine: &Machine<Incremental>, blank: Blank) -> usize
 }
 
 /// The same, for who counts no steps.
-fn otherwise_told(machine: &Machine<Incremental>) -> usize {
+fn otherwise_told(machine: &Machine<Incremental>) -> u64 {
     otherwise::<Brand>(machine, Blank::new(1))
 }
 
 /// All commands are accepted, and each change of a membership is in the log. The last group has all
 /// persons of the first one; who joined last and left was in it at each moment at which it had
 /// joined, and at no other.
-#[test]
-fn a_long_chain_of_groups_is_kept_and_remembered(rt: HostRuntime) -> Result<(), Fail> {
-    let alloc = rt.alloc();
-    let service = chained(alloc)?;
-    let machine = service.machine();
-    assert_eq!(rt; machine.commands() as u64, LAST);
-    assert_eq!(rt; machine.log().last(), 504_400);
+fn judge(machine: &Machine<Incremental>) -> Result<(), Otherwise> {
+    expect_number(machine.commands() as u64, LAST, "accepted commands")?;
+    expect_number(machine.log().last(), 504_400, "entries of the log")?;
     let members = machine.kept().members(GroupId::new(200))?;
-    assert_eq!(rt; members.len(), 2_000);
-    assert_eq!(rt; otherwise_told(machine), 0);
-    Ok(())
+    expect_number(members.len() as u64, 2_000, "members of the last group")?;
+    let wrong = otherwise_told(machine);
+    expect_number(wrong, 0, "moments of which the past tells otherwise")
+}
+
+/// The chain is made, and judged.
+pub fn play(alloc: Global) -> Result<(), Otherwise> {
+    let service = after(alloc, commands(alloc)?, LAST)?;
+    let judged = judge(service.machine());
+    drop(service);
+    judged
 }

@@ -1,4 +1,4 @@
-use Rattle.reg_tests.proofs.chain_tests.otherwise_told.Given as goal
+use Rattle.worked.proofs.tests.chain.otherwise_told.Given as goal
 
 abbrev pub ghosts-otherwise : goal.ghosts-otherwise
 ghosts-otherwise a = record { name = a.blank.name; parts = a.blank.parts }
