@@ -62,11 +62,11 @@ judged_adds s t [] is = ([], ap (λ (r : Result State ℕ). history_or s r) (sym
     history_or : State → Result State ℕ → List Stamped
     history_or u (Ok v) = v.history
     history_or u (Err at) = u.history
-judged_adds s t (r ∷ records) is = by_next (after_payload s r.1) refl is
+judged_adds s t (r ∷ records) is = by_next (λ u. judged_adds u t records) (after_payload s r.1) refl is
   where
-    by_next : (o : Option State) → after_payload s r.1 ≡ o → and_then (or_place r.0 o) (λ after. judged after records) ≡ Ok t → Adds s (r ∷ records) t
-    by_next None next is = absurd (cc)
-    by_next (Some u) next is = one_more s u t r records (payload_taken s u r.1 next) (judged_adds u t records is)
+    by_next : ((u : State) → judged u records ≡ Ok t → Adds u records t) → (o : Option State) → after_payload s r.1 ≡ o → and_then (or_place r.0 o) (λ after. judged after records) ≡ Ok t → Adds s (r ∷ records) t
+    by_next others None next is = absurd (cc)
+    by_next others (Some u) next is = one_more s u t r records (payload_taken s u r.1 next) (others u is)
 
 are_read : (t : State) (records : Records) → judged start records ≡ Ok t → AreRead records t.history
 are_read t records is = let adds = judged_adds start t records is in subst (λ (h : List Stamped). AreRead records h) (sym adds.1) adds.2
