@@ -19,9 +19,9 @@ use reg_machine::Machine;
 use std::alloc::{AllocError, Global};
 
 /// The answer to a question at the machine's clock, or why it is refused: what the view of the
-/// caller of its text shows, and nothing else. A question about the past is answered by what was the
-/// case at its moment, and judged by what the caller may do now. A text that names neither a person
-/// that stands nor the registry itself is nobody's.
+/// caller of its text shows, and nothing else. A question about the past is answered by what was
+/// the case at its moment, and judged by what the caller may do now. A text that names neither a
+/// person that stands nor the registry itself is nobody's.
 pub fn ask<K: Kept>(
     alloc: Global,
     machine: &Machine<K>,
