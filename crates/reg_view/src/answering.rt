@@ -67,7 +67,7 @@ fn answer_of<K: Kept>(
 
 /// The answer to a query of a caller that stands. Where there is no memory for it, what isn't there
 /// for the caller is told all the same.
-#[tactic(auto, using(crate::proofs::Missing::told_missing, crate::proofs::Missing::may_yield))]
+#[tactic(auto, using(crate::proofs::Yields::may_yield))]
 fn told<K: Kept>(
     alloc: Global,
     machine: &Machine<K>,

@@ -70,7 +70,7 @@ pub fn seen_object<K: Kept>(facts: &Facts, kept: &K, who: &Who, text: &Text) -> 
 }
 
 /// The object of this name, if the caller sees it.
-#[tactic(auto, using(crate::proofs::Missing::name_some, crate::proofs::Missing::name_none))]
+#[tactic(auto, using(crate::proofs::Yields::name_some, crate::proofs::Yields::name_none))]
 fn name_found<K: Kept>(
     alloc: Global,
     facts: &Facts,

@@ -27,7 +27,7 @@ pub fn seen_group<K: Kept>(facts: &Facts, kept: &K, who: &Who, group: &Name) -> 
 }
 
 /// The group of this name, if the caller sees it.
-#[tactic(auto, using(crate::proofs::Missing::seen_some, crate::proofs::Missing::seen_none))]
+#[tactic(auto, using(crate::proofs::Yields::seen_some, crate::proofs::Yields::seen_none))]
 pub fn group_seen<K: Kept>(
     alloc: Global,
     facts: &Facts,

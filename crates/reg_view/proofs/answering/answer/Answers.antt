@@ -5,7 +5,7 @@ use Rattle.reg_view.specs.Answers.{answer_of}
 use Rattle.reg_view.specs.Missing.{MayYield, standing}
 use Rattle.reg_view.specs.Past.{past_at}
 use Rattle.reg_view.specs.Telling.{IfRefused}
-use Rattle.reg_view.proofs.Missing.{exactly}
+use Rattle.reg_view.proofs.Yields.{exactly}
 use Rattle.reg_view.proofs.Moved.{live_is, now_is}
 use Rattle.reg_view.proofs.NotSeen.{unseen_is, unseen_object_is}
 use Rattle.reg_view.proofs.Shown.{caller_shown, if_ok}

@@ -1,6 +1,6 @@
 -- What isn't there for the caller is refused by the query's texts alone, and any other answer may yield to want of memory.
 use Rattle.std.proofs.Common.{◌≡◌, ℕ, List, Bool, true, false, Option, Some, None, Result, Ok, Err, refl, sym, ap, ◌∙◌, subst, IfOk, IfErr}
-use Rattle.std.specs.Prelude.{⊤, is_some, nat_lt, codes, if◌then◌else◌}
+use Rattle.std.specs.Prelude.{⊤, is_some, nat_lt, codes, map, if◌then◌else◌}
 use Rattle.reg_base.specs.Entities.{entity_of}
 use Rattle.reg_base.specs.declared.entity.Entity.{Entity}
 use Rattle.reg_base.specs.declared.entity.Entity.TheVariants as entity
@@ -16,7 +16,9 @@ use Rattle.reg_terms.specs.declared.query.Answer.{Answer}
 use Rattle.reg_terms.specs.declared.query.Answer.TheVariants as answer
 use Rattle.reg_facts.specs.Edits.{subject_id}
 use Rattle.reg_facts.specs.Lists.{Lists}
+use Rattle.reg_facts.specs.Members.{texts_where}
 use Rattle.reg_facts.specs.Naming.{folder_id, group_id, name_of, resolve}
+use Rattle.reg_facts.specs.RowOrder.{rows_of}
 use Rattle.reg_effect.specs.declared.live.Live.{Live}
 use Rattle.reg_priv.specs.declared.who.Who.{Who}
 use Rattle.reg_priv.specs.May.{is_root, may, visible, who_of}
@@ -24,9 +26,10 @@ use Rattle.reg_view.specs.Answers as answers
 use Rattle.reg_view.specs.Answers.{answer_of, entity_found, entity_object, group_seen, name_found, object_found, past_group, gone_found, place_seen}
 use Rattle.reg_view.specs.declared.question.Called.{Called}
 use Rattle.reg_view.specs.Missing.{MayYield, called_of, entity_called, entity_in, finds_either, finds_entity, finds_first, finds_named, finds_object, finds_second, first_called, missing, object_called, second_called, seen_group, seen_object, seen_of}
-use Rattle.reg_view.specs.Past.{Past}
+use Rattle.reg_view.specs.Past.{Past, history_of}
 use Rattle.reg_view.specs.Show.{◌>>=◌, denied, found_or, in_time, is_caller, is_entity_text, root_denied}
 use Rattle.reg_view.specs.Telling.{IfRefused}
+use Rattle.reg_view.specs.Texts.{composite_shown, grant_shown, row_shown}
 use Rattle.reg_view.specs.View.{is_admin, is_readable}
 use Rattle.reg_view.proofs.Seen.{steps_join}
 
@@ -84,11 +87,14 @@ or_some : {A : Type 0} (o : Option A) (e : Refusal) → is_some o ≡ true → I
 or_some None e h = absurd (let never : ⊥ = cc in never)
 or_some (Some a) e h = tt
 
-either_none : {A B : Type 0} (o : Option A) (e : Refusal) (k : A → Result B Refusal) → is_some o ≡ false → (elim o [ None ↦ Err e | Some a ↦ k a ]) ≡ Err e
+abbrev either : {A B : Type 0} → Option A → Refusal → (A → Result B Refusal) → Result B Refusal
+either o e k = elim o [ None ↦ Err e | Some a ↦ k a ]
+
+either_none : {A B : Type 0} (o : Option A) (e : Refusal) (k : A → Result B Refusal) → is_some o ≡ false → either o e k ≡ Err e
 either_none None e k h = refl
 either_none (Some a) e k h = cc
 
-either_some : {A B : Type 0} (o : Option A) (e : Refusal) (k : A → Result B Refusal) (P : Refusal → Type 0) → is_some o ≡ true → ((a : A) → IfRefused P (k a)) → IfRefused P (elim o [ None ↦ Err e | Some a ↦ k a ])
+either_some : {A B : Type 0} (o : Option A) (e : Refusal) (k : A → Result B Refusal) (P : Refusal → Type 0) → is_some o ≡ true → ((a : A) → IfRefused P (k a)) → IfRefused P (either o e k)
 either_some None e k P h goes = absurd (let never : ⊥ = cc in never)
 either_some (Some a) e k P h goes = goes a
 
@@ -206,11 +212,11 @@ module _ (p : Past) (L : Live) (f : Lists) (now : ℕ) (by : List ℕ) (c : Who)
 
   members_yield : (id : ℕ) (at : Option ℕ) → IfRefused MayYield (answers.members_at p L f now id at)
   members_yield id None = tt
-  members_yield id (Some at) = next (in_time now (Some at)) _ (time_yields (Some at)) (λ x. tt)
+  members_yield id (Some at) = timed (Some at) (answered (answer.Members (texts_where (p.was at id) f.subjects))) tt
 
   groups_yield : (s : ℕ) (at : Option ℕ) → IfRefused MayYield (answers.groups_at p L f now c s at)
   groups_yield s None = tt
-  groups_yield s (Some at) = next (in_time now (Some at)) _ (time_yields (Some at)) (λ x. tt)
+  groups_yield s (Some at) = timed (Some at) (answered (answers.groups_where (λ g. p.was at g s) L f c)) tt
 
   admin_yields : (o : Object) → MayYield (answers.not_admin f o)
   admin_yields (object.Folder d) = tt
@@ -220,7 +226,7 @@ module _ (p : Past) (L : Live) (f : Lists) (now : ℕ) (by : List ℕ) (c : Who)
   admin_yields (object.Subject s) = tt
 
   all_yield : (o : Object) (at : Option ℕ) → IfRefused MayYield (answers.all_grants p f now o at)
-  all_yield o at = next (in_time now at) _ (time_yields at) (λ x. tt)
+  all_yield o at = timed at (answered (answer.Grants (map (grant_shown p f) (answers.grants_at p f o at)))) tt
 
   told_yields : (o : Object) (at : Option ℕ) → IfRefused MayYield (answers.grants_told p f now o at)
   told_yields (object.Folder d) at = all_yield (object.Folder d) at
@@ -234,7 +240,7 @@ module _ (p : Past) (L : Live) (f : Lists) (now : ℕ) (by : List ℕ) (c : Who)
   grants_yield (Some o) at = one_of (is_admin L f c o) (answers.grants_told p f now o at) (Err (answers.not_admin f o)) (told_yields o at) (admin_yields o)
 
   powers_yield : (w : Who) (o : Object) (at : Option ℕ) → IfRefused MayYield (answers.powers_of p L f now w o at)
-  powers_yield w o at = next (in_time now at) _ (time_yields at) (λ x. tt)
+  powers_yield w o at = timed at (answered (answer.May (answers.privileges_at p L f w o at))) tt
 
   someone_yields : (w : Option Who) (o : Object) (at : Option ℕ) → IfRefused MayYield (answers.powers_told p L f now w o at)
   someone_yields None o at = unfit_yields (codes "entity") at
@@ -249,7 +255,7 @@ module _ (p : Past) (L : Live) (f : Lists) (now : ℕ) (by : List ℕ) (c : Who)
   other_yields (Some o) e at = one_of (is_admin L f c o) (answers.powers_told p L f now (who_of e f) o at) (Err (answers.not_admin f o)) (someone_yields (who_of e f) o at) (admin_yields o)
 
   assigned_yield : (o : Object) (at : Option ℕ) → IfRefused MayYield (answers.attributes_told p L f now c o at)
-  assigned_yield o at = next (in_time now at) _ (time_yields at) (λ x. tt)
+  assigned_yield o at = timed at (answered (answer.Attributes (answers.attributes_at p L f c o at))) tt
 
   owner_yields : (o : Object) (wanted : Privilege) (at : Option ℕ) → IfRefused MayYield (answers.owner_told p L f now c o wanted at)
   owner_yields o wanted at = one_of (may L f c o wanted) (answers.attributes_told p L f now c o at) (Err (denied (name_of o f) wanted)) (assigned_yield o at) tt
@@ -299,10 +305,10 @@ module _ (p : Past) (L : Live) (f : Lists) (now : ℕ) (by : List ℕ) (c : Who)
   second_missing query.Admin h i = cc
 
   there_yields : (q : Query) → finds_first p L f c q (called_of q).entity ≡ true → finds_second L f c q ≡ true → IfRefused MayYield (answer_of p L f now by c q)
-  there_yields (query.GroupGet group) h i = after MayYield (group_seen L f c group) _ (group_some L f c group h) (λ id. tt)
+  there_yields (query.GroupGet group) h i = after MayYield (group_seen L f c group) (λ id. answered (answer.GroupGet (answers.display_of id f.groups) group)) (group_some L f c group h) (λ id. tt)
   there_yields (query.FolderList folder) h i = either_some (folder_id folder f) (NotFound folder) (λ d. answered (answers.listing L f c d folder)) MayYield h (λ d. tt)
   there_yields (query.Members group at) h i = next (past_group p L f c group (group_id group f)) (λ id. answers.members_at p L f now id at) (past_yields p L f c group (group_id group f) h) (λ id. members_yield id at)
-  there_yields (query.Rows group) h i = next (answers.group_read L f c group) _ (read_yields p L f c group h) (λ id. tt)
+  there_yields (query.Rows group) h i = next (answers.group_read L f c group) (λ id. answered (answer.Rows (composite_shown id f) (map (row_shown f) (rows_of id f.rows)))) (read_yields p L f c group h) (λ id. tt)
   there_yields (query.Groups (entity.Person text) at) h i = either_some (subject_id text f.subjects) (NotFound text) (λ s. answers.groups_at p L f now c s at) MayYield h (λ s. groups_yield s at)
   there_yields (query.Groups (entity.Group name) at) h i = after MayYield (group_seen L f c name) (λ _. answers.unfit (codes "subject") now at) (group_some L f c name h) (λ g. unfit_yields (codes "subject") at)
   there_yields (query.Groups entity.System at) h i = unfit_yields (codes "subject") at
@@ -313,8 +319,8 @@ module _ (p : Past) (L : Live) (f : Lists) (now : ℕ) (by : List ℕ) (c : Who)
       after MayYield (entity_found L f c e) (λ _. may_go e at o) (entity_some L f c e i) (λ _.
       one_of (is_caller by e) (answers.own_told p L f now c o at) (answers.other_told p L f now c o e at) (own_yields o at) (other_yields o e at)))
   there_yields (query.Attributes text at) h i = after MayYield (object_found L f c text) (λ o. answers.attributes_on p L f now c text o at) (object_some L f c text h) (λ o. attributes_yield text o at)
-  there_yields (query.History group) h i = next (past_group p L f c group (group_id group f)) _ (past_yields p L f c group (group_id group f) h) (λ id. tt)
-  there_yields (query.Log consumer max) h i = after MayYield (found_or (place_seen L f c consumer) (NotFound consumer)) _ (or_some (place_seen L f c consumer) (NotFound consumer) h) (λ place. tt)
+  there_yields (query.History group) h i = next (past_group p L f c group (group_id group f)) (λ id. answered (answer.History (history_of p id f.subjects))) (past_yields p L f c group (group_id group f) h) (λ id. tt)
+  there_yields (query.Log consumer max) h i = after MayYield (found_or (place_seen L f c consumer) (NotFound consumer)) (λ place. answered (answers.entries_told p place max)) (or_some (place_seen L f c consumer) (NotFound consumer) h) (λ place. tt)
   there_yields query.Admin h i = one_of (is_root L f c) (answered (answers.admin_told p f)) (Err root_denied) tt tt
 
   -- ---- both
