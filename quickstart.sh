@@ -65,9 +65,9 @@ began=$(date +%s)
 copy || stop "the crates were not copied to $copy"
 all=$(grep -c '^[a-z]' "$copy/crates.txt")
 echo "== Step 1 of 2: prove the program and the crates that it stands on, $all in all, and build it."
-echo "   From nothing this took 121 minutes on four slow processors that had other work as well. On four quick ones"
-echo "   it takes some 70, and on two 90, put together from the crates' own times in docs/GATE.md; with nothing"
-echo "   changed since, a few minutes."
+echo "   From nothing this took 121 minutes on four slow processors that had other work as well. Without it, slow"
+echo "   processors take some 70 with four and 140 with two, put together from the crates' own times in docs/GATE.md;"
+echo "   with nothing changed since, a few minutes."
 (cd "$copy" && PYTHONUNBUFFERED=1 rt ci 2>&1) | tee "$log" | told
 tail -1 "$log" | grep -q ', 0 failed$' || {
     grep -v ': proved$' "$log" | tail -20 >&2

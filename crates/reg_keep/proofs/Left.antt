@@ -5,7 +5,7 @@ use Rattle.std.proofs.lemmas.Bool.Decides.{nat_tests}
 use Rattle.std.proofs.lemmas.List.{get_or_at, get_or_past, drop_more, drop_all, length-take-le}
 use Rattle.reg_outside.specs.Disk.{Changes, Leaves, After, Same, Only, put}
 use Rattle.reg_keep.specs.Frames.{frame, opened, gate_of, with_frame}
-use Rattle.reg_outside.proofs.DiskCrash.{all_by}
+use Rattle.reg_keep.proofs.DiskCrash.{all_by}
 use Rattle.reg_keep.specs.Settled.{IsAtRest, IsSettled, IsBeforeOrAfter, ends_as_left, EndsAsLeft}
 use Rattle.reg_keep.proofs.Appends.{before_now}
 use Rattle.reg_keep.proofs.Begins.{only_still}

@@ -8,7 +8,7 @@ use Rattle.std.specs.BTreeMap.Range.{entries_between}
 use Rattle.std.specs.Ordering.{nat_cmp, is_le}
 use Rattle.std.specs.declared.ops.Bound.TheVariants.{Included}
 use Rattle.std.specs.declared.cmp.Ordering.{Ordering}
-use Rattle.reg_pit.specs.Spans.{covers, SpansFrom, AreSpans}
+use Rattle.reg_pit.specs.Spans.{covers, ends_after, looked_at, SpansFrom, AreSpans}
 use Rattle.reg_pit.specs.Runs.{never, span_of, place_cmp, runs_of, spans_of, RunsFrom, AreRuns}
 use Rattle.reg_pit.proofs.Places.{from_place, run_of}
 
@@ -36,16 +36,22 @@ first_tells n t ((e, s) ∷ runs) h r = elim (cases_Bool (nat_le (t + 1) e)) [
       rw (y, z, w) (first_tells (suc e) t runs h r.3)
 ]
 
-filter_short : (test : ℕ × ℕ → Bool) (runs : List (ℕ × ℕ)) → length (filter test runs) ≤ length runs
-filter_short test [] = omega arith
-filter_short test (run ∷ runs) = elim (cases_Bool (test run)) [
-  | inl y ↦ rw y (omega (arith, filter_short test runs))
-  | inr n ↦ rw n (omega (arith, filter_short test runs))
-]
+-- how many are given of some intervals
+abbrev pub given : List (ℕ × ℕ) → ℕ
+given [] = 0
+given (run ∷ runs) = 1
 
-map_length : (f : ℕ × ℕ → ℕ × Option ℕ) (runs : List (ℕ × ℕ)) → length (map f runs) ≡ length runs
-map_length f [] = refl
-map_length f (run ∷ runs) = ap suc (map_length f runs)
+pub looks_are : (n t : ℕ) (runs : List (ℕ × ℕ)) → t < never → RunsFrom n runs → given (filter (λ (run : ℕ × ℕ). nat_le (t + 1) run.0) runs) ≡ looked_at (map span_of runs) t
+looks_are n t [] h r = refl
+looks_are n t ((e, s) ∷ runs) h r = elim (cases_Bool (nat_le (t + 1) e)) [
+  | inl y ↦
+      let w : nat_lt t e ≡ true = grind (arith, nat_tests, y) in
+      rw y (elim (cases_Bool (e == never)) [ inl z ↦ rw z refl | inr z ↦ rw (z, w) refl ])
+  | inr y ↦
+      let z : (e == never) ≡ false = grind (arith, nat_tests, y, h) in
+      let w : nat_lt t e ≡ false = grind (arith, nat_tests, y) in
+      rw (y, z, w) (looks_are (suc e) t runs h r.3)
+]
 
 module _ {K : Type 0} (R : K → K → Ordering) (o : IsTotalOrder R) where
   -- what lies from a place on, where it is some intervals
@@ -59,10 +65,11 @@ module _ {K : Type 0} (R : K → K → Ordering) (o : IsTotalOrder R) where
     pub first_there : (e : (K × ℕ) × ℕ) (more : List ((K × ℕ) × ℕ)) → part ≡ e ∷ more → nat_le e.1 t ≡ covers (spans_of R es k) t
     first_there e more p = ap (first_says t) (ap (λ x. map run_of x) (sym p) ∙ runs_there) ∙ first_tells 0 t (runs_of R k es) small (kept.each k)
 
-    pub some_there : (e : (K × ℕ) × ℕ) (more : List ((K × ℕ) × ℕ)) → part ≡ e ∷ more → 1 ≤ length (spans_of R es k)
-    some_there e more p =
-        let a : length (filter (λ (run : ℕ × ℕ). nat_le (t + 1) run.0) (runs_of R k es)) ≡ suc (length (map run_of more)) = sym (ap length (ap (λ x. map run_of x) (sym p) ∙ runs_there)) in
-        omega (arith, a, filter_short (λ (run : ℕ × ℕ). nat_le (t + 1) run.0) (runs_of R k es), map_length span_of (runs_of R k es))
+    pub none_looked : part ≡ [] → looked_at (spans_of R es k) t ≡ 0
+    none_looked e = sym (ap given (ap (λ x. map run_of x) (sym e) ∙ runs_there) ∙ looks_are 0 t (runs_of R k es) small (kept.each k))
+
+    pub one_looked : (e : (K × ℕ) × ℕ) (more : List ((K × ℕ) × ℕ)) → part ≡ e ∷ more → looked_at (spans_of R es k) t ≡ 1
+    one_looked e more p = sym (ap given (ap (λ x. map run_of x) (sym p) ∙ runs_there) ∙ looks_are 0 t (runs_of R k es) small (kept.each k))
 
 -- ---- all intervals of a key
 
@@ -109,6 +116,14 @@ are_spans R es kept k = record { from_start = spans_from 0 (runs_of R k es) (kep
 pub le_tells : (s t : ℕ) → is_le (nat_cmp s t) ≡ nat_le s t
 le_tells s t = grind (arith, nat_tests, common_steps)
 
--- one look is within the bound
-pub one_look : (s n : ℕ) → s ≡ 1 → 1 ≤ n → 2 ^ s ≤ 2 * n + 1
-one_look s n e h = rw e (omega arith)
+-- where one is looked at, there is one
+is_one : (spans : List (ℕ × Option ℕ)) (t : ℕ) → looked_at spans t ≡ 1 → 1 ≤ length spans
+is_one [] t e = absurd (omega (arith, e))
+is_one (span ∷ spans) t e = omega arith
+
+-- one look is within the bound, and so is none
+pub one_look : (spans : List (ℕ × Option ℕ)) (t s : ℕ) → s ≡ 1 → looked_at spans t ≡ 1 → 2 ^ s ≤ 2 * length spans + 1
+one_look spans t s e h = rw e (omega (arith, is_one spans t h))
+
+pub no_look : (spans : List (ℕ × Option ℕ)) (s : ℕ) → s ≡ 0 → 2 ^ s ≤ 2 * length spans + 1
+no_look spans s e = rw e (omega arith)

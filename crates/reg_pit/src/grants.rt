@@ -7,7 +7,7 @@ ghost use Rattle.reg_base.specs.declared.privilege.Privilege.{Privilege};
 ghost use Rattle.reg_terms.specs.Kinds.{same_object};
 ghost use Rattle.reg_terms.specs.declared.kinds.Object.{Object};
 ghost use Rattle.reg_terms.specs.declared.kinds.Holder.{Holder};
-ghost use Rattle.reg_pit.specs.Spans.{AreSpans, NoLater};
+ghost use Rattle.reg_pit.specs.Spans.{AreSpans, NoLater, looked_at};
 ghost use Rattle.reg_pit.specs.Runs.{spans_of};
 ghost use Rattle.reg_pit.specs.Grants.{grant_cmp, is_granted, has_grant, held_cmp, Fits};
 
@@ -127,6 +127,8 @@ impl Grants {
         steps: &mut Steps<L>,
     ) -> bool
         ensures value { result ≡ is_granted self.now object privilege holder t }
+        ensures ticks { steps.new ≡ steps.old
+            + looked_at (spans_of grant_cmp self.now (object, privilege, holder)) t }
         ensures looks { steps.new ≤ steps.old + 1 }
         ensures cost { (n : ℕ) → steps.new ≡ steps.old + n
             → 2 ^ n ≤ 2 * length (spans_of grant_cmp self.now (object, privilege, holder)) + 1 }

@@ -6,6 +6,7 @@ ghost use Rattle.std.specs.Ordering.{eq_by_cmp, is_gt};
 ghost use Rattle.std.specs.List.{list_any};
 ghost use Rattle.std.specs.List.Sorted.{IsStrictlySortedBy};
 ghost use Rattle.reg_pit.specs.Spans.{covers, AreSpans, AreSpansOf, NoLater, spans_until};
+ghost use Rattle.reg_pit.specs.Spans.{looked_at};
 ghost use Rattle.reg_pit.specs.Runs.{AreRuns, EndedBy, Switched, is_between, spans_of, TiesAreOne};
 ghost use Rattle.reg_pit.specs.Runs.{AreAllOn, keyed_spans};
 
@@ -13,12 +14,12 @@ use crate::ends::End;
 use reg_base::{Moment, Steps};
 use std::alloc::{AllocError, Global};
 use std::collections::BTreeMap;
-use std::marker::Model;
-use std::sync::ledger::Ledger;
+use std::marker::{Brand, Model};
+use std::sync::ledger::{Blank, Ledger};
 
 /// Intervals of moments for each key: from a start until just before an end, or without an end.
 /// None is empty, and no two of a key touch. Contracts see the list of the intervals of each key,
-/// in order.
+/// in order. `at` ticks once for each interval that it looks at; all other calls count nothing.
 #[derive(Drop)]
 pub struct Intervals<K: Ord + Copy> {
     alloc: Global,
@@ -96,6 +97,22 @@ fn end<K: Ord + Copy>(
     Ok(())
 }
 
+/// Whether the key is on at a moment, with a counter that nobody reads.
+fn is_on_from<K: Ord + Copy, L: Ledger>(
+    intervals: &Intervals<K>,
+    key: K,
+    t: Moment,
+    blank: Blank,
+) -> bool
+    requires name { blank.name ≡ L.name }
+    requires parts { blank.parts ≡ L.parts }
+    requires some { 0 < blank.parts }
+    ensures { result ≡ covers (spans_of K.cmp intervals.now key) t }
+{
+    let mut steps = Steps::<L>::open(blank);
+    intervals.at(key, t, &mut steps)
+}
+
 impl<K: Ord + Copy> Intervals<K> {
     /// No key has an interval. Takes no memory.
     pub fn new(alloc: Global) -> Intervals<K>
@@ -129,50 +146,53 @@ impl<K: Ord + Copy> Intervals<K> {
         Ok(())
     }
 
-    /// The start of the first interval of the key that ends after a moment.
-    fn first_after(&self, key: K, t: Moment) -> Option<Moment>
+    /// The start of the first interval of the key that ends after a moment: one step for the
+    /// interval that it gives, and none where it gives none.
+    fn first_after<L: Ledger>(&self, key: K, t: Moment, steps: &mut Steps<L>) -> Option<Moment>
         ensures some { IfSome result (λ start. nat_le start t
             ≡ covers (spans_of K.cmp self.now key) t) }
-        ensures one { IfSome result (λ start. 1 ≤ length (spans_of K.cmp self.now key)) }
         ensures none { IfNone result (covers (spans_of K.cmp self.now key) t ≡ false) }
+        ensures one { IfSome result (λ start. looked_at (spans_of K.cmp self.now key) t ≡ 1) }
+        ensures zero { IfNone result (looked_at (spans_of K.cmp self.now key) t ≡ 0) }
+        ensures tick { IfSome result (λ start. steps.new ≡ steps.old + 1) }
+        ensures no_tick { IfNone result (steps.new ≡ steps.old) }
     {
         match self
             .starts
             .range((key, End::after(t))..=(key, End::never()))
             .next()
         {
-            Some((_, start)) => Some(*start),
+            Some((_, start)) => {
+                steps.tick(); // one interval looked at
+                Some(*start)
+            }
             None => None,
         }
     }
 
-    /// Whether the key is on at a moment. Takes no memory.
+    /// Whether the key is on at a moment: `at` for who counts no looks. Takes no memory.
     pub(crate) fn is_on(&self, key: K, t: Moment) -> bool
         ensures { result ≡ covers (spans_of K.cmp self.now key) t }
     {
-        match self.first_after(key, t) {
+        is_on_from::<K, Brand>(self, key, t, Blank::new(1))
+    }
+
+    /// Whether the key is on at a moment. A step is one interval looked at: the first that ends
+    /// after the moment, where there is one. Takes no memory.
+    pub fn at<L: Ledger>(&self, key: K, t: Moment, steps: &mut Steps<L>) -> bool
+        ensures value { result ≡ covers (spans_of K.cmp self.now key) t }
+        ensures ticks { steps.new ≡ steps.old + looked_at (spans_of K.cmp self.now key) t }
+        ensures looks { steps.new ≤ steps.old + 1 }
+        ensures cost { (s : ℕ) → steps.new ≡ steps.old + s
+            → 2 ^ s ≤ 2 * length (spans_of K.cmp self.now key) + 1 }
+    {
+        match self.first_after(key, t, steps) {
             Some(start) => start <= t,
             None => false,
         }
     }
 
-    /// Whether the key is on at a moment. A step is one interval looked at. Takes no memory.
-    pub fn at<L: Ledger>(&self, key: K, t: Moment, steps: &mut Steps<L>) -> bool
-        ensures value { result ≡ covers (spans_of K.cmp self.now key) t }
-        ensures looks { steps.new ≤ steps.old + 1 }
-        ensures cost { (s : ℕ) → steps.new ≡ steps.old + s
-            → 2 ^ s ≤ 2 * length (spans_of K.cmp self.now key) + 1 }
-    {
-        match self.first_after(key, t) {
-            Some(start) => {
-                steps.tick(); // one interval looked at
-                start <= t
-            }
-            None => false,
-        }
-    }
-
-    /// The intervals of the key, in order.
+    /// The intervals of the key, in order. Its looks are uncounted: they are as many as it gives.
     pub fn rows(&self, key: K) -> Result<Vec<(Moment, Option<Moment>)>, AllocError>
         ensures value { IfOk result (λ rows. rows.items ≡ spans_of K.cmp self.now key) }
         ensures spans { IfOk result (λ rows. AreSpans rows.items) }
@@ -185,8 +205,8 @@ impl<K: Ord + Copy> Intervals<K> {
         Ok(rows)
     }
 
-    /// The intervals of all keys from `from` up to `to`, each with its key, by key and start. Costs
-    /// what was ever set between them.
+    /// The intervals of all keys from `from` up to `to`, each with its key, by key and start. Its
+    /// looks are uncounted: it costs what was ever set between them.
     pub fn rows_between(
         &self,
         from: K,
@@ -205,8 +225,8 @@ impl<K: Ord + Copy> Intervals<K> {
         Ok(rows)
     }
 
-    /// The keys from `from` up to `to` that are on at a moment, in order, each once. Costs what was
-    /// ever set between them.
+    /// The keys from `from` up to `to` that are on at a moment, in order, each once. Its looks are
+    /// uncounted: it costs what was ever set between them.
     pub fn on_between(&self, from: K, to: K, t: Moment) -> Result<Vec<K>, AllocError>
         requires { is_gt (K.cmp from to) ≡ false }
         ensures ascending { IfOk result (λ keys. IsStrictlySortedBy K.cmp keys.items) }

@@ -4,7 +4,7 @@ ghost use Rattle.std.specs.Prelude.{map, nat_le, IfOk, OnOk, if◌then◌else◌
 ghost use Rattle.std.specs.List.{list_any};
 ghost use Rattle.std.specs.List.Sorted.{IsStrictlySortedBy};
 ghost use Rattle.std.specs.Ordering.{nat_cmp};
-ghost use Rattle.reg_pit.specs.Spans.{covers, NoLater, AreSpans};
+ghost use Rattle.reg_pit.specs.Spans.{covers, NoLater, AreSpans, looked_at};
 ghost use Rattle.reg_pit.specs.Runs.{spans_of};
 ghost use Rattle.reg_pit.specs.Members.{pair_cmp, are_on, has_pair, Lists, second_spans};
 
@@ -123,6 +123,7 @@ impl Memberships {
         steps: &mut Steps<L>,
     ) -> bool
         ensures value { result ≡ are_on self.now g s t }
+        ensures ticks { steps.new ≡ steps.old + looked_at (spans_of pair_cmp self.now (g, s)) t }
         ensures looks { steps.new ≤ steps.old + 1 }
         ensures cost { (n : ℕ) → steps.new ≡ steps.old + n
             → 2 ^ n ≤ 2 * length (spans_of pair_cmp self.now (g, s)) + 1 }

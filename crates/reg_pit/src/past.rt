@@ -10,7 +10,7 @@ ghost use Rattle.reg_terms.specs.Kinds.{same_object};
 ghost use Rattle.reg_terms.specs.declared.kinds.Object.{Object};
 ghost use Rattle.reg_terms.specs.declared.kinds.Holder.{Holder};
 ghost use Rattle.reg_terms.specs.declared.rows.AssignRow.{AssignRow};
-ghost use Rattle.reg_pit.specs.Spans.{AreSpansOf, spans_until};
+ghost use Rattle.reg_pit.specs.Spans.{AreSpansOf, looked_at, spans_until};
 ghost use Rattle.reg_pit.specs.Members.{Lists};
 ghost use Rattle.reg_pit.specs.Grants.{has_grant, held_cmp};
 ghost use Rattle.reg_pit.specs.Assigns.{changed, last_after};
@@ -27,7 +27,8 @@ use reg_terms::{AssignRow, Holder, Object};
 use std::alloc::{AllocError, Global};
 use std::sync::ledger::Ledger;
 
-/// What was the case at each moment, noted as it changed.
+/// What was the case at each moment, noted as it changed. `was_member` and `was_granted` tick once
+/// for each interval that they look at; all other calls count nothing.
 #[derive(Drop)]
 pub struct Past {
     memberships: Memberships,
@@ -195,6 +196,7 @@ impl Past {
         steps: &mut Steps<L>,
     ) -> bool
         ensures value { result ≡ was_member self.now g s t }
+        ensures ticks { steps.new ≡ steps.old + looked_at (member_spans self.now g s) t }
         ensures looks { steps.new ≤ steps.old + 1 }
         ensures cost { (n : ℕ) → steps.new ≡ steps.old + n
             → 2 ^ n ≤ 2 * length (member_spans self.now g s) + 1 }
@@ -260,6 +262,8 @@ impl Past {
         steps: &mut Steps<L>,
     ) -> bool
         ensures value { result ≡ was_granted self.now object privilege holder t }
+        ensures ticks { steps.new ≡ steps.old
+            + looked_at (grant_spans self.now object privilege holder) t }
         ensures looks { steps.new ≤ steps.old + 1 }
         ensures cost { (n : ℕ) → steps.new ≡ steps.old + n
             → 2 ^ n ≤ 2 * length (grant_spans self.now object privilege holder) + 1 }

@@ -9,10 +9,10 @@ use Rattle.std.specs.Cmp.{nat_cmp_total}
 use Rattle.std.specs.List.{list_any}
 use Rattle.std.specs.List.Sorted.{IsStrictlySortedBy}
 use Rattle.std.specs.Ordering.{nat_cmp}
-use Rattle.reg_attest.specs.States.{AreStates}
-use Rattle.reg_attest.specs.declared.state.StateKind.{StateKind}
+use Rattle.reg_access.specs.States.{AreStates}
+use Rattle.reg_access.specs.declared.state.StateKind.{StateKind}
 use Rattle.reg_machine.specs.History.{State, now_facts}
-use Rattle.reg_perm.specs.Grounds.{AreThose}
+use Rattle.reg_access.specs.Grounds.{AreThose}
 use Rattle.reg_terms.specs.declared.refusal.Refusal.{Refusal}
 use Rattle.reg_words.specs.declared.task.Report.{Report}
 use Rattle.reg_words.specs.declared.task.Report.TheVariants as report

@@ -13,8 +13,8 @@ use Rattle.reg_facts.specs.Attributes.{attribute_id}
 use Rattle.reg_facts.specs.Edits.{subject_id}
 use Rattle.reg_facts.specs.Lists.{Lists}
 use Rattle.reg_facts.specs.Naming.{group_id}
-use Rattle.reg_perm.specs.Grounds.{is_resource}
-use Rattle.reg_perm.specs.Sayings.{is_action}
+use Rattle.reg_access.specs.Grounds.{is_resource}
+use Rattle.reg_access.specs.Sayings.{is_action}
 
 -- a step and what follows it, up to the first refusal
 infixl 10 ◌>>=◌

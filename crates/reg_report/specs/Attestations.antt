@@ -2,10 +2,10 @@
 use Rattle.std.specs.Prelude.{◌≡◌, ℕ, List, Option, Result}
 use Rattle.reg_terms.specs.declared.refusal.Refusal.{Refusal}
 use Rattle.reg_machine.specs.History.{State, now_facts}
-use Rattle.reg_attest.specs.Groups.{attested_at}
-use Rattle.reg_attest.specs.States.{AreStates}
-use Rattle.reg_attest.specs.declared.state.State as attest
-use Rattle.reg_attest.specs.declared.state.StateKind.{StateKind}
+use Rattle.reg_access.specs.Groups.{attested_at}
+use Rattle.reg_access.specs.States.{AreStates}
+use Rattle.reg_access.specs.declared.state.State as attest
+use Rattle.reg_access.specs.declared.state.StateKind.{StateKind}
 use Rattle.reg_report.specs.Asked.{attestation_asked, attested_asked}
 use Rattle.reg_report.specs.Lines.{attestation_data, attested_data, line}
 use Rattle.reg_report.specs.Printed.{Printed}

@@ -5,3 +5,6 @@ pub mod Lines
 pub mod Permissions
 pub mod Printed
 pub mod Reported
+pub mod BatchAsked
+pub mod Delivered
+pub mod BatchLines

@@ -5,9 +5,9 @@ use Rattle.serde_json.specs.Data.{unsigned, boolean, string}
 use Rattle.serde_json.specs.View.{items_of}
 use Rattle.serde_json.specs.Written.{compact_text}
 use Rattle.reg_base.specs.MomentText.{text_of}
-use Rattle.reg_attest.specs.Words.{word_of}
-use Rattle.reg_attest.specs.declared.state.State.{State}
-use Rattle.reg_attest.specs.declared.state.StateKind.{StateKind}
+use Rattle.reg_access.specs.Words.{word_of}
+use Rattle.reg_access.specs.declared.state.State.{State}
+use Rattle.reg_access.specs.declared.state.StateKind.{StateKind}
 
 -- a line: the text of its data, and LF
 abbrev pub line : Data → List ℕ

@@ -5,8 +5,8 @@ use Rattle.reg_terms.specs.declared.refusal.Refusal.{Refusal}
 use Rattle.reg_terms.specs.declared.rows.SubjectRow.{SubjectRow}
 use Rattle.reg_facts.specs.Rows.{subject_row}
 use Rattle.reg_machine.specs.History.{State, now_facts}
-use Rattle.reg_perm.specs.Grounds.{AreThose, allows, first_of, grounds, is_allowed}
-use Rattle.reg_perm.specs.declared.ground.Ground.{Ground}
+use Rattle.reg_access.specs.Grounds.{AreThose, allows, first_of, grounds, is_allowed}
+use Rattle.reg_access.specs.declared.ground.Ground.{Ground}
 use Rattle.reg_report.specs.Asked.{permit_asked, permitted_asked}
 use Rattle.reg_report.specs.Lines.{line, permit_data, permitted_data}
 use Rattle.reg_report.specs.Printed.{Printed}

@@ -2,7 +2,7 @@
 use Rattle.std.specs.Prelude.{◌≡◌, ℕ, List, Result, Ok, Err, Vec}
 use Rattle.reg_terms.specs.declared.refusal.Refusal.{Refusal}
 use Rattle.reg_machine.specs.History.{State}
-use Rattle.reg_attest.specs.Reminders.{reminders_of}
+use Rattle.reg_access.specs.Reminders.{reminders_of}
 use Rattle.reg_words.specs.declared.task.Report.{Report}
 use Rattle.reg_words.specs.declared.task.Report.TheVariants as report
 use Rattle.reg_report.specs.Attestations.{AttestationTold, AttestedTold}

@@ -2,12 +2,12 @@
 ghost use Rattle.std.specs.Prelude.{◌≡◌, ◌≤◌, true, Some, IfOk, IfSome, codes};
 ghost use Rattle.reg_terms.specs.declared.refusal.Refusal.{Refusal};
 ghost use Rattle.reg_facts.specs.Sound.{has_group, has_subject};
-ghost use Rattle.reg_perm.specs.Grounds.{is_resource};
-ghost use Rattle.reg_perm.specs.Sayings.{is_action};
+ghost use Rattle.reg_access.specs.Grounds.{is_resource};
+ghost use Rattle.reg_access.specs.Sayings.{is_action};
 
+use reg_access::{is_action, is_resource};
 use reg_base::{AttrId, Entity, GroupId, Moment, SubjectId, Text, is_name};
 use reg_facts::Facts;
-use reg_perm::{is_action, is_resource};
 use reg_terms::Refusal;
 use std::alloc::{AllocError, Global};
 

@@ -5,7 +5,7 @@ ghost use Rattle.reg_report.specs.Printed.{Tells};
 
 use crate::asked::{Unreported, attestation_asked, attested_asked};
 use crate::line::{attestation_line, attested_line};
-use reg_attest::{state_at, states};
+use reg_access::{state_at, states};
 use reg_base::{GroupId, Text};
 use reg_effect::Kept;
 use reg_machine::Machine;

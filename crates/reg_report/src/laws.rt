@@ -10,5 +10,5 @@ pub fn law_one_report()
     ensures { (asked : Report) (s : State) (a b : Result (List ℕ) Refusal)
         → Reported asked s a → Reported asked s b → a ≡ b }
 {
-    reg_attest::law_one_list();
+    reg_access::law_one_list();
 }

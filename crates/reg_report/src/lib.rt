@@ -1,14 +1,21 @@
 //! Reports: what a word of the program that asks once is told by a machine, as a line of JSON or,
-//! of reminders, as a line for each.
+//! of reminders, as a line for each; and batches of operations for outside lists of memberships:
+//! what is asked for one, the lines that are delivered of it, and what its acknowledgement moves.
 #![tactic(auto)]
 
 mod asked;
 mod attestation;
+mod batch_asked;
+mod batch_line;
+mod delivery;
+mod delivery_laws;
 mod laws;
 mod line;
 mod permission;
 mod reporting;
 
-pub use asked::{Unreported, bad_name, not_found, person_found, person_in, subject_in};
+pub use asked::Unreported;
+pub use delivery::{Delivery, deliver};
+pub use delivery_laws::{law_acknowledged, law_one_delivery};
 pub use laws::law_one_report;
 pub use reporting::report;

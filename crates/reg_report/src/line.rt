@@ -10,7 +10,7 @@ ghost use Rattle.reg_report.specs.Lines.{number_data, period_data, period_items,
 ghost use Rattle.reg_report.specs.Lines.{permitted_data, strings};
 
 use json::Writer;
-use reg_attest::{State, StateKind};
+use reg_access::{State, StateKind};
 use reg_base::Moment;
 use reg_terms::Texts;
 use std::alloc::{AllocError, Global};
@@ -148,7 +148,7 @@ fn put_attestation(out: &mut Writer, states: &[(Moment, StateKind)]) -> Result<(
 }
 
 /// What was written, and LF.
-fn ended(out: Writer) -> Result<Vec<u8>, AllocError>
+pub fn ended(out: Writer) -> Result<Vec<u8>, AllocError>
     ensures { IfOk result (λ bytes. bytes.items ≡ (out.before ++ print out.tokens) ++ 10 ∷ []) }
 {
     let mut bytes = out.into_inner();

@@ -2,19 +2,19 @@
 ghost use Rattle.std.specs.Prelude.{◌≡◌, true, IfOk};
 ghost use Rattle.reg_facts.specs.Rows.{subject_row};
 ghost use Rattle.reg_machine.specs.History.{now_facts};
-ghost use Rattle.reg_perm.specs.Grounds.{is_resource};
-ghost use Rattle.reg_perm.specs.Sayings.{is_action};
+ghost use Rattle.reg_access.specs.Grounds.{is_resource};
+ghost use Rattle.reg_access.specs.Sayings.{is_action};
 ghost use Rattle.reg_report.specs.Permissions.{PermitTold, PermittedTold, ground_line, texts_of};
 ghost use Rattle.reg_report.specs.Permissions.{IsPermittedLine, text_of_row};
 ghost use Rattle.reg_report.specs.Printed.{Tells};
 
 use crate::asked::{Unreported, permit_asked, permitted_asked};
 use crate::line::{permit_line, permitted_line};
+use reg_access::{Ground, allowed, permit};
 use reg_base::{AttrId, SubjectId, Text};
 use reg_effect::Kept;
 use reg_facts::Facts;
 use reg_machine::Machine;
-use reg_perm::{Ground, allowed, permit};
 use reg_terms::Texts;
 use std::alloc::{AllocError, Global};
 
@@ -45,7 +45,7 @@ pub fn permit_report<K: Kept>(
 }
 
 /// The text of a person; empty where there is no such person.
-fn text_of(facts: &Facts, person: SubjectId) -> &str
+pub fn text_of(facts: &Facts, person: SubjectId) -> &str
     ensures { result.now ≡ text_of_row (subject_row person facts.now.subjects) }
 {
     match facts.subject(person) {

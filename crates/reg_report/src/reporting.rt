@@ -6,7 +6,7 @@ ghost use Rattle.reg_report.specs.Reported.{Reported, bytes_told};
 use crate::asked::Unreported;
 use crate::attestation::{attestation_report, attested_report};
 use crate::permission::{permit_report, permitted_report};
-use reg_attest::reminders;
+use reg_access::reminders;
 use reg_effect::Kept;
 use reg_machine::Machine;
 use reg_terms::Refusal;

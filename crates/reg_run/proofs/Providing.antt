@@ -22,8 +22,8 @@ use Rattle.reg_service.specs.declared.service.Cause.{Cause}
 use Rattle.reg_service.specs.declared.service.Cause.TheVariants as cause
 use Rattle.reg_session.specs.Replies.{is_accepted}
 use Rattle.reg_words.specs.declared.task.Provision.{Provision}
-use Rattle.reg_delivery.specs.Delivered.{IsDelivered, place_at}
-use Rattle.reg_delivery.specs.Lines.{place_line}
+use Rattle.reg_report.specs.Delivered.{IsDelivered, place_at}
+use Rattle.reg_report.specs.BatchLines.{place_line}
 use Rattle.reg_run.specs.Crash.{IsWhole}
 use Rattle.reg_run.specs.Once.{Printed, Put, TurnsOnce, end_of_reply}
 use Rattle.reg_run.specs.Providing.{Acknowledges, DeliversAll, IsWithheld, MovesBehindLines, MovesPlace, Provides, StandFlushed, ack_line, ack_request}

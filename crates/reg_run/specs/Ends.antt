@@ -29,7 +29,7 @@ use Rattle.reg_run.specs.Status.{check_line, status_of}
 use Rattle.reg_run.specs.Serving.{DidServe}
 use Rattle.reg_run.specs.World.{World, Out, IsFlushed, LookedOnce, SameClock, SameInput, SameNet}
 use Rattle.reg_run.specs.World.{SameOutput, output}
-use Rattle.reg_played.specs.Played.{summary, summary_text}
+use Rattle.reg_sample.specs.Played.{summary, summary_text}
 use Rattle.reg_run.specs.Once.{AsksOnce, IsTakenWhole, Printed, load_of}
 use Rattle.reg_run.specs.Due.{Due, Replied, RepliedFront, AnswersTo, ReportsAt}
 use Rattle.reg_run.specs.Providing.{DidProvision}

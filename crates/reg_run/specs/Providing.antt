@@ -17,9 +17,9 @@ use Rattle.reg_service.specs.Kept.{Halted}
 use Rattle.reg_service.specs.Turn.{at_moment}
 use Rattle.reg_session.specs.Replies.{is_accepted, line_of}
 use Rattle.reg_words.specs.declared.task.Provision.{Provision}
-use Rattle.reg_delivery.specs.Asked.{provision_asked}
-use Rattle.reg_delivery.specs.Delivered.{IsDelivered, place_at}
-use Rattle.reg_delivery.specs.Lines.{place_line}
+use Rattle.reg_report.specs.BatchAsked.{provision_asked}
+use Rattle.reg_report.specs.Delivered.{IsDelivered, place_at}
+use Rattle.reg_report.specs.BatchLines.{place_line}
 use Rattle.reg_run.specs.Crash.{Seen, DiskSurvives}
 use Rattle.reg_run.specs.Once.{Printed, Put, TurnsOnce, end_of_reply}
 use Rattle.reg_run.specs.Status.{status_of}

@@ -1,13 +1,13 @@
 // A registry from a number.
 ghost use Rattle.std.specs.Prelude.{◌≡◌, IfOk};
-ghost use Rattle.reg_played.specs.Played.{summary, summary_text};
+ghost use Rattle.reg_sample.specs.Played.{summary, summary_text};
 ghost use Rattle.reg_run.specs.Once.{Printed};
 ghost use Rattle.reg_run.specs.World.{out_of};
 
 use crate::perform::print;
 use crate::status::End;
 use reg_outside::{Failed, Sink};
-use reg_played::{sample, summary_text};
+use reg_sample::{sample, summary_text};
 use reg_words::Size;
 use std::alloc::{AllocError, Global};
 

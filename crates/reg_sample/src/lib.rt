@@ -1,11 +1,14 @@
-//! A registry from a number: the lines that a seed and a size give, which ask for one.
+//! A registry from a number: the lines that a seed and a size give, which ask for one; and what they
+//! lead to in numbers, put one after another to a registry that keeps nothing.
 #![tactic(auto)]
 
 mod lines;
 mod loading;
 mod making;
+mod playing;
 mod reading;
+mod tally;
 mod texts;
 
-pub use lines::{count, line};
-pub use reading::moment_of;
+pub use playing::sample;
+pub use tally::{Summary, summary_text};

@@ -3,6 +3,7 @@
 -- place, each at most once.
 use Rattle.std.specs.Prelude.{List, [], ◌∷◌, Bool, true, false, Option, Some, None, codes}
 use Rattle.std.specs.Prelude.{if◌then◌else◌, option_and_then, option_map}
+use Rattle.std.specs.List.{list_any}
 use Rattle.std.specs.Str.{bytes_eq}
 use Rattle.clap.specs.Words.{App, Kinds, Row, Rule, Text, fault_of, first_of, matches_of, new_app}
 use Rattle.clap.specs.Words.{new_rule, with_rule}
@@ -193,6 +194,19 @@ task_by word words =
     then read_bare (codes "reminders") (task.Report report.Reminders) words
     else (if bytes_eq word (codes "provision") then read_by provision provision_in words
     else None)))))))))))))
+
+-- this names a command
+abbrev pub is_command : Text → Bool
+is_command word =
+    list_any (λ name. bytes_eq word name)
+    (codes "init" ∷ codes "apply" ∷ codes "serve" ∷ codes "check" ∷ codes "members"
+    ∷ codes "history" ∷ codes "load" ∷ codes "sample" ∷ codes "permit" ∷ codes "permitted"
+    ∷ codes "attested" ∷ codes "attestation" ∷ codes "reminders" ∷ codes "provision" ∷ [])
+
+-- the first of the words does
+abbrev pub name_command : List Text → Bool
+name_command [] = false
+name_command (word ∷ words) = is_command word
 
 -- what the words ask for
 abbrev pub task_of : List Text → Option Task

@@ -1,10 +1,11 @@
 // From the words to what they ask for.
-ghost use Rattle.std.specs.Prelude.{◌≡◌, IfOk, map, string_bytes};
+ghost use Rattle.std.specs.Prelude.{◌≡◌, false, Ok, None, IfOk, map, string_bytes};
 ghost use Rattle.clap.specs.Words.{found_of, rows_of};
 ghost use Rattle.reg_words.specs.Words.{attestation, attestation_in, attested, attested_in};
 ghost use Rattle.reg_words.specs.Words.{history, history_in, load, load_in, members, members_in};
 ghost use Rattle.reg_words.specs.Words.{permit, permit_in, permitted, permitted_in};
-ghost use Rattle.reg_words.specs.Words.{provision, provision_in, provision_of};
+ghost use Rattle.reg_words.specs.Words.{is_command, name_command, provision, provision_in};
+ghost use Rattle.reg_words.specs.Words.{provision_of};
 ghost use Rattle.reg_words.specs.Words.{read_bare, read_by, sample, sample_in, sample_of, serve};
 ghost use Rattle.reg_words.specs.Words.{serve_in, serve_of, task_by, task_of};
 
@@ -312,7 +313,9 @@ fn read_provision(alloc: Global, words: &[String]) -> Result<Option<Task>, Alloc
 
 /// Reads the words of the command of this name.
 fn task_by(alloc: Global, word: &str, words: &[String]) -> Result<Option<Task>, AllocError>
-    ensures { IfOk result (λ asked. asked ≡ task_by word.now (map string_bytes words.now)) }
+    ensures asked { IfOk result (λ asked. asked
+        ≡ task_by word.now (map string_bytes words.now)) }
+    ensures unknown { is_command word.now ≡ false → result ≡ Ok None }
 {
     match word {
         "init" => read_bare(alloc, "init", Task::Init, words),
@@ -335,9 +338,10 @@ fn task_by(alloc: Global, word: &str, words: &[String]) -> Result<Option<Task>, 
 
 /// What the words ask for: the first names a command (`docs/REQUESTS.md`, "The program"), and the
 /// words behind it are that command's. None where they are none of the program's; the only error
-/// is out of memory.
+/// is out of memory, which comes only where the first word names a command.
 pub fn task_of(alloc: Global, words: &[String]) -> Result<Option<Task>, AllocError>
-    ensures { IfOk result (λ asked. asked ≡ task_of (map string_bytes words.now)) }
+    ensures asked { IfOk result (λ asked. asked ≡ task_of (map string_bytes words.now)) }
+    ensures unknown { name_command (map string_bytes words.now) ≡ false → result ≡ Ok None }
 {
     match words {
         [word, ..] => task_by(alloc, word.as_str(), words),

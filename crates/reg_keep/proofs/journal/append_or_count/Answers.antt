@@ -1,4 +1,4 @@
-use Rattle.reg_outside.proofs.DiskCrash.{now_too}
+use Rattle.reg_keep.proofs.DiskCrash.{now_too}
 use Rattle.reg_keep.proofs.Faults.{sound_after}
 use Rattle.reg_keep.proofs.Left.{long_after}
 use Rattle.reg_keep.proofs.journal.append_or_count.Goals as goal

@@ -1,0 +1,13 @@
+pub mod Fronts
+pub mod Later
+pub mod Sets
+pub mod Skipped
+pub mod Certified
+pub mod Periods
+pub mod Gathering
+pub mod Noting
+pub mod OneList
+pub mod Finding
+pub mod Passing
+pub mod Sweeping
+pub mod Lasting

@@ -1,0 +1,14 @@
+pub mod Covering
+pub mod Sayings
+pub mod Statements
+pub mod Orders
+pub mod Spoken
+pub mod Grounds
+pub mod Attested
+pub mod Assigned
+pub mod Between
+pub mod Stretches
+pub mod States
+pub mod Words
+pub mod Groups
+pub mod Reminders

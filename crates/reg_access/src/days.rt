@@ -1,0 +1,71 @@
+// For how many days a certification lasts.
+ghost use Rattle.std.specs.Prelude.{◌≡◌, ◌≤◌};
+ghost use Rattle.reg_access.specs.Attested.{days_in};
+ghost use Rattle.reg_access.specs.Assigned.{days_given, days_of};
+
+use reg_terms::{AssignRow, AttrValue};
+use std::marker::Model;
+
+/// The most days for which a certification lasts: ten years.
+const MOST_DAYS: i64 = 3_650;
+
+/// How many days a certification lasts, from 1 to 3,650. A day is 86,400,000,000 microseconds.
+#[derive(Clone, Copy)]
+pub(crate) struct Days {
+    number: u16,
+}
+
+impl Model for Days {
+    ghost use Rattle.std.specs.Prelude.{ℕ, ◌≤◌};
+
+    ghost Value = { ℕ };
+
+    ghost view = { λ d. d.number };
+
+    ghost invariant = { λ d. d.number ≤ 3650 };
+
+    ghost inverse = { λ n. record { number = n } };
+}
+
+impl Days {
+    /// The number of days.
+    pub(crate) fn number(self) -> u16
+        ensures value { result ≡ self }
+        ensures bound { result ≤ 3650 }
+    {
+        self.number
+    }
+}
+
+/// The days that a whole number gives. None exactly where it isn't from 1 to 3,650.
+fn days_in(number: i64) -> Option<Days>
+    ensures { result ≡ days_in number }
+{
+    if 1 <= number && number <= MOST_DAYS {
+        Some(Days {
+            number: number as u16,
+        })
+    } else {
+        None
+    }
+}
+
+/// The days that a value gives. None exactly where it isn't a whole number from 1 to 3,650.
+fn days_given(value: &AttrValue) -> Option<Days>
+    ensures { result ≡ days_given value.now }
+{
+    match value {
+        AttrValue::Int(number) => days_in(*number),
+        AttrValue::Text(_) | AttrValue::Moment(_) => None,
+    }
+}
+
+/// The days that the first value of the first of some assignments gives. None exactly where there
+/// is no such value, or it gives no days, whatever the others give.
+pub(crate) fn days_of(rows: &[AssignRow]) -> Option<Days>
+    ensures { result ≡ days_of rows.now }
+{
+    let row = rows.first()?;
+    let value = row.values.list().first()?;
+    days_given(value)
+}

@@ -1,6 +1,0 @@
-use Rattle.std.proofs.Common.{◌≡◌, take}
-use Rattle.reg_attest.specs.Assigned.{moments_in}
-use Rattle.reg_attest.proofs.moments.moments_in.Given as goal
-
-abbrev pub invariant-loop-row : goal.invariant-loop-row
-invariant-loop-row l = l.moments.items ≡ moments_in (take l.row-index l.rows)

@@ -1,7 +1,0 @@
-use Rattle.std.proofs.Common.{◌≡◌, ◌++◌, take}
-use Rattle.std.specs.List.{filter_map}
-use Rattle.reg_attest.specs.Assigned.{moment_given}
-use Rattle.reg_attest.proofs.moments.push_moments.Given as goal
-
-abbrev pub invariant-loop-value : goal.invariant-loop-value
-invariant-loop-value l = l.moments.items ≡ l.fn.moments.items ++ filter_map moment_given (take l.value-index l.values)

@@ -1,8 +1,0 @@
-pub mod Attested
-pub mod Assigned
-pub mod Between
-pub mod Stretches
-pub mod States
-pub mod Words
-pub mod Groups
-pub mod Reminders

@@ -1,5 +1,0 @@
-use Rattle.reg_delivery.proofs.One.{one_delivery}
-use Rattle.reg_delivery.proofs.laws.law_one_delivery.Goals as goal
-
-pub returns : goal.returns
-returns c = one_delivery c.law_one_batch.ensures.one

@@ -1,3 +1,0 @@
-pub mod Asked
-pub mod Delivered
-pub mod Lines

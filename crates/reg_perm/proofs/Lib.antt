@@ -1,4 +1,0 @@
-pub mod Fronts
-pub mod Later
-pub mod Sets
-pub mod Skipped

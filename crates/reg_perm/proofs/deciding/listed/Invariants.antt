@@ -1,6 +1,0 @@
-use Rattle.std.proofs.Common.{◌≡◌, map}
-use Rattle.std.specs.Map.Iter.{deref}
-use Rattle.reg_perm.proofs.deciding.listed.Given as goal
-
-abbrev pub invariant-loop-person : goal.invariant-loop-person
-invariant-loop-person l = l.found.items ≡ map deref l.yielded

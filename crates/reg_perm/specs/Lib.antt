@@ -1,6 +1,0 @@
-pub mod Covering
-pub mod Sayings
-pub mod Statements
-pub mod Orders
-pub mod Spoken
-pub mod Grounds
