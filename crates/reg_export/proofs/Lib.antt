@@ -8,4 +8,5 @@ pub mod Again
 pub mod Writing
 pub mod Requests
 pub mod Told
+pub mod Ids
 mod Worked

@@ -1,14 +1,17 @@
 // What the lines of commands tell: each law is the clause of a function that does nothing.
-ghost use Rattle.std.specs.Prelude.{◌≡◌, ◌<◌, ◌^◌, ℕ, Option, Ok};
+ghost use Rattle.std.specs.Prelude.{◌≡◌, ◌<◌, ◌^◌, ℕ, Option, Ok, true};
 ghost use Rattle.serde_json.specs.Data.{object};
 ghost use Rattle.reg_terms.specs.declared.command.Stamped.{Stamped};
 ghost use Rattle.reg_terms.specs.declared.request.Op.TheVariants as asked;
+ghost use Rattle.reg_ops.specs.Forms.{has_form, is_entity, is_moment};
 ghost use Rattle.reg_ops.specs.Table.{kind_of};
 ghost use Rattle.reg_ops.specs.declared.table.CommandKind.TheVariants as command;
 ghost use Rattle.reg_json.specs.Reading.{request_in};
 ghost use Rattle.reg_export.specs.Fields.{entity_text};
 ghost use Rattle.reg_export.specs.Lines.{line_members};
+ghost use Rattle.reg_export.specs.Listing.{made_by};
 ghost use Rattle.reg_export.specs.Telling.{IsTold, line_in, request_part};
+ghost use Rattle.reg_export.specs.declared.counts.Counts.{Counts};
 
 use reg_ops::law_commands;
 
@@ -31,3 +34,10 @@ pub fn law_line_reads_back()
 {
     law_commands();
 }
+
+/// A listed command that has its forms, as each accepted one has, is told with the id that the
+/// listing gives it: no field of its op has the id's key.
+pub fn law_listed_is_told()
+    ensures { (n : Counts) (s : Stamped) → is_moment s.at ≡ true → is_entity s.by ≡ true
+        → has_form s.command ≡ true → IsTold (made_by n s.command) s }
+{}

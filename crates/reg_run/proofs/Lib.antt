@@ -1,11 +1,13 @@
 pub mod Asking
 pub mod Crashing
 pub mod Ending
+pub mod Gathering
 pub mod KeepingUp
 pub mod Loading
 pub mod Naming
 pub mod Opened
 pub mod Providing
 pub mod Reporting
+pub mod Rereading
 pub mod Serving
 pub mod Usage

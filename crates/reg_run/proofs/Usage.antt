@@ -12,6 +12,7 @@ use Rattle.reg_run.specs.Crash.{Seen, seen}
 use Rattle.reg_terms.specs.declared.reply.Reply.{Reply}
 use Rattle.reg_terms.specs.declared.reply.Reply.TheVariants as reply
 use Rattle.reg_run.specs.Ends.{Did, IsIdle, IsUsage, LoadAsked, LoadBroke, RunDid}
+use Rattle.reg_run.specs.Listing.{PrintsLines}
 use Rattle.reg_run.specs.Once.{Printed, end_of_reply}
 use Rattle.reg_run.specs.Providing.{Provides}
 use Rattle.reg_run.specs.Status.{status_of}
@@ -58,6 +59,10 @@ provision_is_use asked s at answered kept old new (inr (place, last, lines, thos
 provision_is_use asked s at answered kept old new (inr (place, last, lines, those, inr (mid, wrote, flushed, inl (less, a)))) = told_is_use a.told _ mid new a.printed
 provision_is_use asked s at answered kept old new (inr (place, last, lines, those, inr (mid, wrote, flushed, inr (same, keeps, put)))) = print_is_use _ mid new (inl put)
 
+lines_are_use : (due : Option (List ℕ)) (faults later : ℕ) (old new : Out) → PrintsLines due the_end.Usage faults later old new → ⊥
+lines_are_use due faults later old new (inl printed) = printed
+lines_are_use due faults later old new (inr p) = let is : the_end.Usage ≡ the_end.Disk = p.0 in absurd (cc)
+
 -- no task ends so
 task_is_use : (d : Seen) (t : Task) (before after : World) → Did d t the_end.Usage before after → ⊥
 task_is_use d task.Init before after did = did.ends
@@ -73,6 +78,8 @@ task_is_use d (task.Report asked) before after (inl not) = not.cause
 task_is_use d (task.Report asked) before after (inr p) = p.2.ends
 task_is_use d (task.Load job) before after (inl not) = not.cause
 task_is_use d (task.Load job) before after (inr p) = load_is_use p.0 job p.2.taken before after _ _ p.2.ends
+task_is_use d (task.Commands places) before after (inl not) = not.cause
+task_is_use d (task.Commands places) before after (inr p) = lines_are_use _ _ _ _ _ p.2.printed
 task_is_use d (task.Provision asked) before after (inl not) = not.cause
 task_is_use d (task.Provision asked) before after (inr p) = provision_is_use asked _ p.2.at _ _ _ _ p.2.ends
 task_is_use d (task.Sample seed size) before after did = print_is_use _ _ _ did.printed

@@ -2,6 +2,7 @@ pub mod Crash
 pub mod Due
 pub mod Ends
 pub mod KeepsUp
+pub mod Listing
 pub mod Once
 pub mod Providing
 pub mod Questions

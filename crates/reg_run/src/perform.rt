@@ -17,6 +17,7 @@ ghost use Rattle.reg_run.specs.Status.{check_line};
 ghost use Rattle.reg_run.specs.World.{Net, World, world, holding, printing, at_clock, net_of};
 ghost use Rattle.reg_run.specs.World.{out_of};
 
+use crate::listing::commands_over;
 use crate::load::load_over;
 use crate::provision::provision_over;
 use crate::question::asked_by;
@@ -35,7 +36,7 @@ use reg_terms::Reply;
 use reg_words::{Question, Task};
 use std::alloc::{AllocError, Global};
 
-fn end_of_open(fault: OpenFault) -> End
+pub(crate) fn end_of_open(fault: OpenFault) -> End
     ensures { result ≡ end_of_open fault }
 {
     match fault {
@@ -322,6 +323,7 @@ pub fn perform<S: Source, K: Sink, D: Disk, C: Clock, L: Listener>(
         Task::Ask(question) => ask_over(alloc, question, out, disk, clock),
         Task::Report(asked) => report_over(alloc, asked, out, disk, clock),
         Task::Load { job } => load_over(alloc, job, input, out, disk, clock),
+        Task::Commands(places) => commands_over(alloc, places, out, disk),
         Task::Provision(asked) => provision_over(alloc, asked, out, disk, clock),
         Task::Sample { seed, size } => (print_sample(alloc, *seed, *size, out), disk),
     }

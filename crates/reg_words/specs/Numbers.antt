@@ -41,6 +41,11 @@ abbrev pub connections_in : Option (List ℕ) → Option ℕ
 connections_in None = Some 1000000
 connections_in (Some word) = number_in 1 1000000 word
 
+-- the place of a command that a word names, or the one that is meant without one
+abbrev pub place_in : ℕ → Option (List ℕ) → Option ℕ
+place_in meant None = Some meant
+place_in meant (Some word) = number_in 1 18446744073709551615 word
+
 -- how many entries of the log a word allows
 abbrev pub entries_in : List ℕ → Option ℕ
 entries_in word = number_in 1 1000000 word

@@ -9,7 +9,8 @@ use Rattle.clap.specs.Words.{App, Kinds, Row, Rule, Text, fault_of, first_of, ma
 use Rattle.clap.specs.Words.{new_rule, with_rule}
 use Rattle.clap.specs.Simple.{on_top}
 use Rattle.clap.specs.declared.builder.action.ArgAction.TheVariants.{Set}
-use Rattle.reg_words.specs.Numbers.{connections_in, entries_in, port_in, seed_in, size_in}
+use Rattle.reg_words.specs.Numbers.{connections_in, entries_in, place_in, port_in}
+use Rattle.reg_words.specs.Numbers.{seed_in, size_in}
 use Rattle.reg_words.specs.declared.task.Question.TheVariants as question
 use Rattle.reg_words.specs.declared.task.Report.TheVariants as report
 use Rattle.reg_words.specs.declared.task.Task.{Task}
@@ -79,6 +80,10 @@ abbrev pub provision : App
 provision =
     with_word (codes "max") (with_word (codes "subject")
     (with_word (codes "consumer") (bare (codes "provision"))))
+
+-- `commands [--from N] [--to M]`
+abbrev pub commands : App
+commands = with_option (codes "to") (with_option (codes "from") (bare (codes "commands")))
 
 -- what `members` asks, by what it found
 abbrev pub members_in : List Row → Option Task
@@ -162,6 +167,17 @@ provision_in rows =
     option_and_then (λ max. provision_of consumer subject max) (first_of (codes "max") rows))
     (first_of (codes "subject") rows)) (first_of (codes "consumer") rows)
 
+-- what `commands` asks, by its words: from the first place, and up to the last one that there may be
+abbrev pub commands_of : Option Text → Option Text → Option Task
+commands_of from to =
+    option_and_then (λ from.
+    option_map (λ to. task.Commands (record { from = from; to = to }))
+    (place_in 18446744073709551615 to)) (place_in 1 from)
+
+-- the same by what it found
+abbrev pub commands_in : List Row → Option Task
+commands_in rows = commands_of (first_of (codes "from") rows) (first_of (codes "to") rows)
+
 abbrev pub is_none : Kinds → Bool
 is_none [] = true
 is_none (k ∷ ks) = false
@@ -193,7 +209,8 @@ task_by word words =
     else (if bytes_eq word (codes "reminders")
     then read_bare (codes "reminders") (task.Report report.Reminders) words
     else (if bytes_eq word (codes "provision") then read_by provision provision_in words
-    else None)))))))))))))
+    else (if bytes_eq word (codes "commands") then read_by commands commands_in words
+    else None))))))))))))))
 
 -- this names a command
 abbrev pub is_command : Text → Bool
@@ -201,7 +218,7 @@ is_command word =
     list_any (λ name. bytes_eq word name)
     (codes "init" ∷ codes "apply" ∷ codes "serve" ∷ codes "check" ∷ codes "members"
     ∷ codes "history" ∷ codes "load" ∷ codes "sample" ∷ codes "permit" ∷ codes "permitted"
-    ∷ codes "attested" ∷ codes "attestation" ∷ codes "reminders" ∷ codes "provision" ∷ [])
+    ∷ codes "attested" ∷ codes "attestation" ∷ codes "reminders" ∷ codes "provision" ∷ codes "commands" ∷ [])
 
 -- the first of the words does
 abbrev pub name_command : List Text → Bool

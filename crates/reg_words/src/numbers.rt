@@ -1,7 +1,7 @@
 // Numbers in words.
 ghost use Rattle.std.specs.Prelude.{◌≡◌};
 ghost use Rattle.reg_words.specs.Numbers.{connections_in, entries_in, number_in, port_in, seed_in};
-ghost use Rattle.reg_words.specs.Numbers.{size_in};
+ghost use Rattle.reg_words.specs.Numbers.{place_in, size_in};
 
 use crate::task::Size;
 use reg_base::Text;
@@ -72,6 +72,17 @@ pub fn connections_in(word: &Option<Text>) -> Option<u64>
     match word {
         Some(word) => number_in(word.bytes(), 1, MOST_CONNECTIONS),
         None => Some(MOST_CONNECTIONS),
+    }
+}
+
+/// The place of a command that a word names: a number from 1 on, below 2^64. Without a word it is
+/// the one that is meant then.
+pub fn place_in(meant: u64, word: &Option<Text>) -> Option<u64>
+    ensures { result ≡ place_in meant word.now }
+{
+    match word {
+        Some(word) => number_in(word.bytes(), 1, u64::MAX),
+        None => Some(meant),
     }
 }
 

@@ -94,6 +94,15 @@ pub struct Provision {
     pub max: u64,
 }
 
+/// Some of the commands, by their places, of which the first is 1.
+#[derive(Clone, Copy)]
+pub struct Places {
+    /// The first place.
+    pub from: u64,
+    /// The last one.
+    pub to: u64,
+}
+
 /// What the words ask for.
 #[derive(Drop)]
 pub enum Task {
@@ -112,6 +121,8 @@ pub enum Task {
     /// Run a job over a table, which is the input. Whether the job's text is a name isn't asked
     /// yet.
     Load { job: Text },
+    /// Print the accepted commands of these places.
+    Commands(Places),
     /// Print a batch of operations and acknowledge where it ends.
     Provision(Provision),
     /// Put the requests of a seed and a size to a registry that keeps nothing.

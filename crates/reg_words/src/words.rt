@@ -5,16 +5,16 @@ ghost use Rattle.reg_words.specs.Words.{attestation, attestation_in, attested, a
 ghost use Rattle.reg_words.specs.Words.{history, history_in, load, load_in, members, members_in};
 ghost use Rattle.reg_words.specs.Words.{permit, permit_in, permitted, permitted_in};
 ghost use Rattle.reg_words.specs.Words.{is_command, name_command, provision, provision_in};
-ghost use Rattle.reg_words.specs.Words.{provision_of};
+ghost use Rattle.reg_words.specs.Words.{commands, commands_in, commands_of, provision_of};
 ghost use Rattle.reg_words.specs.Words.{read_bare, read_by, sample, sample_in, sample_of, serve};
 ghost use Rattle.reg_words.specs.Words.{serve_in, serve_of, task_by, task_of};
 
 use crate::commands::{
-    attestation, attested, bare, found, history, load, members, permit, permitted, provision,
-    sample, serve, value,
+    attestation, attested, bare, commands, found, history, load, members, permit, permitted,
+    provision, sample, serve, value,
 };
-use crate::numbers::{connections_in, entries_in, port_in, seed_in, size_in};
-use crate::task::{Provision, Question, Report, Task};
+use crate::numbers::{connections_in, entries_in, place_in, port_in, seed_in, size_in};
+use crate::task::{Places, Provision, Question, Report, Task};
 use clap::ArgMatches;
 use reg_base::Text;
 use std::alloc::{AllocError, Global};
@@ -311,6 +311,37 @@ fn read_provision(alloc: Global, words: &[String]) -> Result<Option<Task>, Alloc
     }
 }
 
+/// What `commands` asks, by its words.
+fn commands_of(from: &Option<Text>, to: &Option<Text>) -> Option<Task>
+    ensures { result ≡ commands_of from.now to.now }
+{
+    match (place_in(1, from), place_in(u64::MAX, to)) {
+        (Some(from), Some(to)) => Some(Task::Commands(Places { from, to })),
+        _ => None,
+    }
+}
+
+/// What `commands` asks, by what it found.
+fn commands_in(alloc: Global, matches: &ArgMatches) -> Result<Option<Task>, AllocError>
+    ensures { IfOk result (λ asked. asked ≡ commands_in (rows_of (found_of matches.now))) }
+{
+    let from = value(alloc, matches, "from")?;
+    let to = value(alloc, matches, "to")?;
+    Ok(commands_of(&from, &to))
+}
+
+/// Reads the words of `commands [--from N] [--to M]`.
+fn read_commands(alloc: Global, words: &[String]) -> Result<Option<Task>, AllocError>
+    ensures { IfOk result (λ asked. asked
+        ≡ read_by commands commands_in (map string_bytes words.now)) }
+{
+    let command = commands(alloc)?;
+    match found(command, words)? {
+        Some(matches) => commands_in(alloc, &matches),
+        None => Ok(None),
+    }
+}
+
 /// Reads the words of the command of this name.
 fn task_by(alloc: Global, word: &str, words: &[String]) -> Result<Option<Task>, AllocError>
     ensures asked { IfOk result (λ asked. asked
@@ -332,6 +363,7 @@ fn task_by(alloc: Global, word: &str, words: &[String]) -> Result<Option<Task>, 
         "attestation" => read_attestation(alloc, words),
         "reminders" => read_bare(alloc, "reminders", Task::Report(Report::Reminders), words),
         "provision" => read_provision(alloc, words),
+        "commands" => read_commands(alloc, words),
         _ => Ok(None),
     }
 }

@@ -12,6 +12,9 @@ returns-in-Apply-clause-did g c = rw c.in-Apply.is (c.apply_over.ensures.did (ne
 pub returns-in-Check-clause-did : goal.returns-in-Check-clause-did
 returns-in-Check-clause-did g c = rw c.in-Check.is (c.check_over.ensures.did (world g.S.Source g.K.Sink g.D.Disk g.C.Clock c.args.input.now c.args.out.now c.args.disk c.args.clock.now (net_of g.L.Listener c.args.net.now)))
 
+pub returns-in-Commands-clause-did : goal.returns-in-Commands-clause-did
+returns-in-Commands-clause-did g c = rw c.in-Commands.is (c.commands_over.ensures.did (world g.S.Source g.K.Sink g.D.Disk g.C.Clock c.args.input.now c.args.out.now c.args.disk c.args.clock.now (net_of g.L.Listener c.args.net.now)))
+
 pub returns-in-Ask-clause-did : goal.returns-in-Ask-clause-did
 returns-in-Ask-clause-did g c = rw c.in-Ask.is (c.ask_over.ensures.did (world g.S.Source g.K.Sink g.D.Disk g.C.Clock c.args.input.now c.args.out.now c.args.disk c.args.clock.now (net_of g.L.Listener c.args.net.now)))
 

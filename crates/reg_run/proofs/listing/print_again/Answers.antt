@@ -1,0 +1,13 @@
+use Rattle.std.proofs.Common.{inl}
+use Rattle.reg_run.proofs.Rereading.{not_reread, reread}
+use Rattle.reg_run.proofs.listing.print_again.Goals as goal
+
+-- the records are the history's
+pub returns-in-Ok-clause-printed : goal.returns-in-Ok-clause-printed
+returns-in-Ok-clause-printed g c from opens =
+    rw c.end_of-end.ensures (inl (c.print_records.ensures (g.D.Disk.contents c.args.disk) from.history (reread (g.D.Disk.contents c.args.disk) c.in-Ok.records from opens c.in-Ok.ensures.records)))
+
+-- the file isn't damaged
+pub returns-in-Err-clause-printed : goal.returns-in-Err-clause-printed
+returns-in-Err-clause-printed g c from opens =
+    rw c.end_of_open.ensures (not_reread c.args.places.now (g.D.Disk.contents c.args.disk) (g.D.Disk.faults c.args.disk) (g.D.Disk.faults c.in-Err.disk) _ c.in-Err.fault from c.in-Err.ensures.damaged c.in-Err.ensures.fault opens)
