@@ -26,8 +26,8 @@ returns-in-Ok-clause-did g c w =
     let only = g.met.D.Disk.only_now old in
     let again = rw c.close.ensures.disk at c.print_again.ensures in
     let left = survives_none g.D.Disk from.history _ _ old mid (survives_kept g.D.Disk from.history from.history from.history [] _ old mid mid c.in-Ok.ensures.crash only c.in-Ok.ensures.same (g.met.D.Disk.reads_now mid)
-        same (no_shorter from.history from.history [] same) (inl refl) (λ is. refl)
-        (stops_whole from.history from.history c.in-Ok.service.keeper c.in-Ok.service.keeper c.stays.ensures.crash c.close.ensures.again (rw c.close.ensures.disk at c.close.ensures.images))) in
+    same (no_shorter from.history from.history [] same) (inl refl) (λ is. refl)
+    (stops_whole from.history from.history c.in-Ok.service.keeper c.in-Ok.service.keeper c.stays.ensures.crash c.close.ensures.again (rw c.close.ensures.disk at c.close.ensures.images))) in
     inr (
       from,
       c.in-Ok.ensures.opens,
