@@ -1,6 +1,6 @@
 use Rattle.std.proofs.Common.{◌≡◌, take}
 use Rattle.reg_report.specs.BatchLines.{op_lines}
-use Rattle.reg_report.proofs.line.op_lines.Given as goal
+use Rattle.reg_report.proofs.batch_line.op_lines.Given as goal
 
 -- the lines of the operations so far
 abbrev pub invariant-loop-op : goal.invariant-loop-op

@@ -1,6 +1,6 @@
 use Rattle.std.proofs.Common.{append_assoc}
 use Rattle.reg_report.specs.BatchLines.{pair_data}
-use Rattle.reg_report.proofs.line.put_pair.Goals as goal
+use Rattle.reg_report.proofs.batch_line.put_pair.Goals as goal
 
 -- the tokens one behind the other
 pub returns-clause-ok : goal.returns-clause-ok

@@ -1,6 +1,6 @@
 use Rattle.std.proofs.Common.{append_assoc}
 use Rattle.reg_report.specs.BatchLines.{place_data}
-use Rattle.reg_report.proofs.line.put_place.Goals as goal
+use Rattle.reg_report.proofs.batch_line.put_place.Goals as goal
 
 -- the tokens one behind the other
 pub returns-clause-ok : goal.returns-clause-ok

@@ -1,7 +1,7 @@
 use Rattle.std.proofs.lemmas.Result.{IfOk-weaker}
 use Rattle.reg_report.specs.BatchLines.{op_data}
 use Rattle.reg_report.proofs.BatchPrinting.{line_more}
-use Rattle.reg_report.proofs.line.with_op.Goals as goal
+use Rattle.reg_report.proofs.batch_line.with_op.Goals as goal
 
 -- the line stands behind the bytes
 pub returns : goal.returns

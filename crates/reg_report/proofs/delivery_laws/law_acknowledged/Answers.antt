@@ -2,7 +2,7 @@ use Rattle.std.proofs.Common.{ap, []}
 use Rattle.reg_terms.specs.declared.command.Command.TheVariants.{ConsumerAck}
 use Rattle.reg_machine.specs.History.{State}
 use Rattle.reg_report.proofs.Acknowledging.{acknowledged_place}
-use Rattle.reg_report.proofs.laws.law_acknowledged.Goals as goal
+use Rattle.reg_report.proofs.delivery_laws.law_acknowledged.Goals as goal
 
 -- the moments of a legal history never fall, so no command is later than the acknowledgement
 pub returns : goal.returns
