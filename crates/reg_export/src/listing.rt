@@ -1,6 +1,5 @@
 // The lines of a history's commands.
-ghost use Rattle.std.specs.Prelude.{◌≡◌, ◌≤◌, ◌<◌, ◌∷◌, ◌++◌, [], ℕ, Option, OnOk, nat_le};
-ghost use Rattle.std.specs.Prelude.{if◌then◌else◌};
+ghost use Rattle.std.specs.Prelude.{◌≡◌, ◌<◌, ◌∷◌, ◌++◌, [], OnOk, nat_le};
 ghost use Rattle.reg_export.specs.Lines.{command_text};
 ghost use Rattle.reg_export.specs.Listing.{beginning, cleared, is_asked, with_command};
 
@@ -45,7 +44,6 @@ pub struct Listing {
 }
 
 impl Model for Listing {
-    ghost use Rattle.std.specs.Prelude.{◌≤◌, ◌<◌, ◌^◌};
     ghost use Rattle.reg_export.specs.Listing.{IsCounted, Progress};
 
     ghost Value = { Progress };

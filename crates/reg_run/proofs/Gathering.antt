@@ -13,6 +13,7 @@ use Rattle.reg_export.specs.Listing.{Progress, beginning, is_asked, line_at, lis
 use Rattle.reg_export.specs.declared.counts.Counts.{Counts}
 use Rattle.reg_words.specs.declared.task.Places.{Places}
 use Rattle.reg_run.specs.Listing.{AreRead, HandsOn, Lists, due_lines}
+use Rattle.reg_run.specs.Once.{Put}
 use Rattle.reg_run.specs.World.{Out}
 use Rattle.reg_run.specs.declared.status.End.{End}
 use Rattle.reg_run.specs.declared.status.End.TheVariants as the_end
@@ -166,14 +167,17 @@ broke_at places held history all old new mid p records e read so front flushed i
     subst (λ (x : End). Lists (due_lines places held history) x old new) (sym is)
     (rose, due_of (WritesFront old.written new.written) places held history read (λ are. so_far_behind places.from places.to history old.written mid new.written p records (so are) front), flushed)
 
--- all lines were written
-pub all_listed : (places : Places) (held : Option (List ℕ)) (history : List Stamped) (all : Records) (old new : Out) (mid : Option (List ℕ)) (p : Progress) (records : Records) → IfSome held (λ file. AreRead all history)
-    → (AreRead all history → SoFar places.from places.to history old.written mid p records) → (records ≡ []) ⊎ (p.to ≤ p.place) → new.written ≡ append_known mid p.lines → new.flushed ≡ option_map length new.written
-    → Lists (due_lines places held history) the_end.Done old new
-all_listed places held history all old new mid p records read so gone wrote flushed = (due_of (λ bytes. new.written ≡ append_known old.written bytes) places held history read (λ are. written (so are)), flushed)
+-- the last lines were printed, or the output failed
+pub last_printed : (places : Places) (held : Option (List ℕ)) (history : List Stamped) (all : Records) (old mid new : Out) (p : Progress) (records : Records) (e : End) → IfSome held (λ file. AreRead all history)
+    → (AreRead all history → SoFar places.from places.to history old.written mid.written p records) → (records ≡ []) ⊎ (p.to ≤ p.place) → mid.flushed ≡ old.flushed → old.writes ≤ mid.writes → Put the_end.Done p.lines e mid new
+    → Lists (due_lines places held history) e old new
+last_printed places held history all old mid new p records e read so gone flushed later (inl put) =
+    subst (λ (x : End). Lists (due_lines places held history) x old new) (sym put.0) (due_of (λ bytes. new.written ≡ append_known old.written bytes) places held history read (λ are. written (so are)), put.2)
   where
-    written : SoFar places.from places.to history old.written mid p records → new.written ≡ append_known old.written (listing places.from places.to history)
+    written : SoFar places.from places.to history old.written mid.written p records → new.written ≡ append_known old.written (listing places.from places.to history)
     written s =
         let none = all_gone p records s.rest s.read gone in
         let lines : s.done ++ p.lines ≡ listing places.from places.to history = ap (λ (l : List ℕ). s.done ++ l) (sym (append-nil p.lines) ∙ ap (λ (l : List ℕ). p.lines ++ l) (sym none)) ∙ s.whole in
-        more_written s.done p.lines old.written mid new.written s.written wrote ∙ ap (append_known old.written) lines
+        more_written s.done p.lines old.written mid.written new.written s.written put.1 ∙ ap (append_known old.written) lines
+last_printed places held history all old mid new p records e read so gone flushed later (inr put) =
+    broke_at places held history all old new mid.written p records e read so put.2 (put.3 ∙ flushed) put.0 (omega (arith, later, put.1))

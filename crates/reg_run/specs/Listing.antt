@@ -1,6 +1,6 @@
 -- How printing the lines of a history's commands ends.
 use Rattle.std.specs.Prelude.{◌≡◌, ◌⊎◌, ℕ, List, [], ◌∷◌, Option, Some, option_map, length, ⊤, ⊥}
-use Rattle.std.specs.Prelude.{IfSome, Result, Ok, Err}
+use Rattle.std.specs.Prelude.{IfSome}
 use Rattle.std.specs.Io.KnownBytes.{append_known}
 use Rattle.reg_outside.specs.Faults.{Rose}
 use Rattle.reg_outside.specs.Streams.{WritesFront}
@@ -58,11 +58,6 @@ pub record DidCommands (d : Seen) (places : Places) (end : End) (before after : 
   pub disk : DiskSurvives d from.history [] 0 (status_of end)
 
 -- ---- for private clauses
-
--- the end of printing that stopped there, or didn't
-abbrev pub end_of : {T : Type 0} → Result T End → End
-end_of (Ok done) = the_end.Done
-end_of (Err end) = end
 
 -- records are read as these commands, one by one
 abbrev pub AreRead : List (ℕ × List ℕ) → List Stamped → Type 0

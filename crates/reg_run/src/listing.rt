@@ -1,9 +1,8 @@
 // The lines of a journal's commands, printed.
 ghost use Rattle.std.specs.Prelude.{◌≡◌, ◌⊎◌, ◌≤◌, ◌<◌, ◌∷◌, [], ℕ, List, Option, Some, None, Ok, Err};
-ghost use Rattle.std.specs.Prelude.{IfErr, IfNone, IfSome, OnErr, OnOk, length, option_map};
-ghost use Rattle.std.specs.Io.KnownBytes.{append_known};
+ghost use Rattle.std.specs.Prelude.{IfErr, IfNone, IfSome, OnErr, OnOk};
 ghost use Rattle.reg_outside.specs.Disk.{Changes, Same};
-ghost use Rattle.reg_outside.specs.Faults.{Rose};
+ghost use Rattle.reg_outside.specs.Faults.{HasCause, Rose};
 ghost use Rattle.reg_outside.specs.Streams.{WritesFront};
 ghost use Rattle.reg_terms.specs.declared.command.Stamped.{Stamped};
 ghost use Rattle.reg_wire.specs.Payload.{stamped_of};
@@ -11,11 +10,11 @@ ghost use Rattle.reg_machine.specs.History.{State};
 ghost use Rattle.reg_export.specs.Listing.{with_command};
 ghost use Rattle.reg_run.specs.Crash.{OpensTo, seen};
 ghost use Rattle.reg_run.specs.Ends.{Did};
-ghost use Rattle.reg_run.specs.Listing.{AreRead, HandsOn, Lists, PrintsLines, due_lines, end_of};
+ghost use Rattle.reg_run.specs.Listing.{AreRead, HandsOn, Lists, PrintsLines, due_lines};
 ghost use Rattle.reg_run.specs.World.{World, holding, out_of, printing};
-ghost use Rattle.reg_run.specs.declared.status.End.TheVariants.{Damaged, Memory, Output};
+ghost use Rattle.reg_run.specs.declared.status.End.TheVariants.{Damaged, Memory};
 
-use crate::perform::{close, end_of_open, open, print};
+use crate::perform::{close, end_of_open, open, print_line};
 use crate::status::End;
 use reg_base::Bytes;
 use reg_export::Listing;
@@ -65,73 +64,40 @@ fn add_command(alloc: Global, listing: &mut Listing, at: u64, payload: &[u8]) ->
 }
 
 /// Writes the lines that are gathered, once they are enough.
-fn hand_on<K: Sink>(listing: &mut Listing, out: &mut K) -> Result<(), End>
+fn hand_on<K: Sink>(listing: &mut Listing, out: &mut K) -> Result<(), Failed>
     ensures written { OnOk result (HandsOn (K.written out.old) listing.old (K.written out.new)
         listing.new) }
     ensures front { OnErr result (WritesFront (K.written out.old) (K.written out.new)
         listing.old.lines) }
     ensures flushed { K.flushed out.new ≡ K.flushed out.old }
-    ensures later { K.write_faults out.old ≤ K.write_faults out.new }
-    ensures cause { IfErr result (λ e. (e ≡ Output)
-        × Rose (K.write_faults out.old) (K.write_faults out.new)) }
+    ensures cause { HasCause (K.write_faults out.old) (K.write_faults out.new) result }
 {
     if listing.lines().len() < PIECE {
         return Ok(());
     }
-    match write_whole(out, listing.lines()) {
-        Ok(()) => {
-            listing.clear();
-            Ok(())
-        }
-        Err(Failed) => Err(End::Output),
-    }
-}
-
-/// Writes the last lines, and flushes.
-fn print_last<K: Sink>(listing: &Listing, out: &mut K) -> Result<(), End>
-    ensures written { OnOk result (K.written out.new
-        ≡ append_known (K.written out.old) listing.now.lines) }
-    ensures flushed { OnOk result (K.flushed out.new ≡ option_map length (K.written out.new)) }
-    ensures unflushed { OnErr result (K.flushed out.new ≡ K.flushed out.old) }
-    ensures front { OnErr result (WritesFront (K.written out.old) (K.written out.new)
-        listing.now.lines) }
-    ensures cause { IfErr result (λ e. (e ≡ Output)
-        × Rose (K.write_faults out.old) (K.write_faults out.new)) }
-{
-    match print(out, listing.lines()) {
-        Ok(()) => Ok(()),
-        Err(Failed) => Err(End::Output),
-    }
+    write_whole(out, listing.lines())?;
+    listing.clear();
+    Ok(())
 }
 
 /// Prints the lines of the commands of these records.
-fn print_records<K: Sink>(
-    alloc: Global,
-    places: &Places,
-    records: Records,
-    out: &mut K,
-) -> Result<(), End>
+fn print_records<K: Sink>(alloc: Global, places: &Places, records: Records, out: &mut K) -> End
     ensures { (held : Option (List ℕ)) (history : List Stamped)
         → IfSome held (λ file. AreRead records history)
-        → Lists (due_lines places.now held history) (end_of result) (out_of ⟦<K as Sink>⟧ out.old)
+        → Lists (due_lines places.now held history) result (out_of ⟦<K as Sink>⟧ out.old)
         (out_of ⟦<K as Sink>⟧ out.new) }
 {
     let mut records = records;
     let mut listing = Listing::new(alloc, places.from, places.to);
     'commands: while let Some((at, payload)) = next_record(&mut records, &listing) {
-        add_command(alloc, &mut listing, at, payload.bytes())?;
-        hand_on(&mut listing, out)?;
+        if let Err(end) = add_command(alloc, &mut listing, at, payload.bytes()) {
+            return end;
+        }
+        if let Err(Failed) = hand_on(&mut listing, out) {
+            return End::Output;
+        }
     }
-    print_last(&listing, out)
-}
-
-fn end_of(listed: Result<(), End>) -> End
-    ensures { result ≡ end_of listed }
-{
-    match listed {
-        Ok(()) => End::Done,
-        Err(end) => end,
-    }
+    print_line(out, listing.lines(), End::Done)
 }
 
 /// Reads a journal once more, and prints the lines of its commands.
@@ -147,7 +113,7 @@ fn print_again<K: Sink, D: Disk>(alloc: Global, places: &Places, out: &mut K, di
 {
     match Journal::reopen(alloc, disk) {
         Ok((journal, records)) => {
-            let end = end_of(print_records(alloc, places, records, out));
+            let end = print_records(alloc, places, records, out);
             (end, journal.into_disk())
         }
         Err((fault, disk)) => (end_of_open(fault), disk),

@@ -5,7 +5,7 @@ use Rattle.reg_run.proofs.listing.print_again.Goals as goal
 -- the records are the history's
 pub returns-in-Ok-clause-printed : goal.returns-in-Ok-clause-printed
 returns-in-Ok-clause-printed g c from opens =
-    rw c.end_of-end.ensures (inl (c.print_records.ensures (g.D.Disk.contents c.args.disk) from.history (reread (g.D.Disk.contents c.args.disk) c.in-Ok.records from opens c.in-Ok.ensures.records)))
+    (inl (c.print_records-end.ensures (g.D.Disk.contents c.args.disk) from.history (reread (g.D.Disk.contents c.args.disk) c.in-Ok.records from opens c.in-Ok.ensures.records)))
 
 -- the file isn't damaged
 pub returns-in-Err-clause-printed : goal.returns-in-Err-clause-printed
