@@ -57,7 +57,8 @@ fn dev() -> GroupId {
 /// The registry after the first so many of the commands.
 fn registry_after(alloc: Global, count: usize) -> Result<Service<NoKeeper>, Otherwise> {
     let mut lines = Vec::new(alloc);
-    for &(op, fields) in COMMANDS.iter().take(count) {
+    let (first, _) = COMMANDS.split_at(count.min(COMMANDS.len()));
+    for &(op, fields) in first {
         put_line(alloc, &mut lines, op, fields)?;
     }
     after(alloc, lines, count as u64)
