@@ -72,6 +72,10 @@ pub nothing_yet : (from to : ℕ) (history : List Stamped) (w : Option (List ℕ
 nothing_yet from to history w p records begins read =
     subst (λ (x : Progress). SoFar from to history w w x records) (sym begins) (record { rest = history; read = read; done = []; written = append_none w; first = refl; last = refl; whole = refl })
 
+-- the records that are left
+pub left_over : (from to : ℕ) (history : List Stamped) (old now : Option (List ℕ)) (p : Progress) (records others : Records) → records ≡ others → SoFar from to history old now p records → SoFar from to history old now p others
+left_over from to history old now p records others same so = subst (λ (rs : Records). SoFar from to history old now p rs) same so
+
 -- one command more
 pub one_further : (from to : ℕ) (history : List Stamped) (old now : Option (List ℕ)) (p q : Progress) (r : ℕ × List ℕ) (records : Records) → SoFar from to history old now p (r ∷ records)
     → ((s : Stamped) → stamped_of r.1 ≡ Some s → q ≡ with_command p s) → SoFar from to history old now q records
