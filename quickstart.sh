@@ -18,12 +18,12 @@ minutes() {
 }
 
 # The gate's own command, over what the program stands on: neither the gate's wrong bodies, which prove a crate
-# twice, nor its worked examples and tests.
+# twice, nor its worked examples.
 copy() {
     mkdir "$copy"
-    tar -c --exclude='crates/*/out' --exclude='crates/*/must-fail' --exclude=crates/worked \
-        --exclude=crates/reg_tests HANDLES crates | tar -x -C "$copy" || return 1
-    grep -v -e '^worked:' -e '^reg_tests:' crates.txt > "$copy/crates.txt"
+    tar -c --exclude='crates/*/out' --exclude='crates/*/must-fail' --exclude=crates/worked HANDLES crates \
+        | tar -x -C "$copy" || return 1
+    grep -v '^worked:' crates.txt > "$copy/crates.txt"
 }
 
 # says how far it is: each crate that is proved, by the lines of the gate

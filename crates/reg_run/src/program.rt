@@ -42,10 +42,10 @@ fn follow<S: Source, K: Sink, D: Disk, C: Clock, L: Listener>(
 /// Runs the command that the words name over the disk's journal, and gives the exit status
 /// (`docs/REQUESTS.md`, "The program"): `init` begins a journal, `apply` answers each line of the
 /// input with a line of output, `serve PORT [--connections N]` answers the messages of so many
-/// connections, one after another, `check` opens the journal, `commands [--from N] [--to M]` prints
-/// its commands, `members NAME [--at T]` and `history NAME` ask it, and `provision CONSUMER SUBJECT
-/// MAX` prints operations for an outside list and acknowledges them. A status other than 0 has a
-/// note on `notes`; that it can't be written changes nothing.
+/// connections, one after another, `check` opens the journal, `commands [--from N] [--to M]`
+/// prints its commands, `members NAME [--at T]` and `history NAME` ask it, and
+/// `provision CONSUMER SUBJECT MAX` prints operations for an outside list and acknowledges them. A
+/// status other than 0 has a note on `notes`; that it can't be written changes nothing.
 pub fn run<S: Source, K: Sink, N: Sink, D: Disk, C: Clock, L: Listener>(
     alloc: Global,
     words: &[String],

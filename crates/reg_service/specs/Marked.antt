@@ -1,9 +1,9 @@
 -- The laws of an output that keeps up: from one moment to the next, and of a single reply.
-use Rattle.std.specs.Prelude.{◌≡◌, ◌⊎◌, ◌≤◌, ◌+◌, ℕ, List, [], ◌∷◌, ◌++◌, All, Option, Some, None}
+use Rattle.std.specs.Prelude.{◌≡◌, ◌⊎◌, ◌≤◌, ◌+◌, ℕ, List, [], ◌∷◌, ◌++◌, Option, Some, None}
 use Rattle.std.specs.Prelude.{Result, Ok, IfSome, is_some, true, length, take, option_map}
 use Rattle.std.specs.Io.KnownBytes.{append_known}
-use Rattle.std.proofs.Common.{refl, ap, sym, ◌∙◌, subst, inl, inr, arith, append_assoc, append-nil, suc}
-use Rattle.std.proofs.Common.{length-append}
+use Rattle.std.proofs.Common.{refl, ap, sym, ◌∙◌, subst, inl, inr, arith, suc, length-append}
+use Rattle.std.proofs.Common.{append_assoc, append-nil}
 use Rattle.std.proofs.lemmas.List.{take_all, take-append-le}
 use Rattle.std.proofs.lemmas.List.Elements.{All-append, All-nil, All-cons}
 use Rattle.reg_outside.specs.Disk.{Leaves}
@@ -39,7 +39,8 @@ among_last mark (m ∷ ms) = inr (among_last mark ms)
 texts_more : (ws vs : List Writing) → texts (ws ++ vs) ≡ texts ws ++ texts vs
 texts_more [] vs = refl
 texts_more (w ∷ ws) vs =
-    ap (λ (l : List ℕ). w.text ++ l) (texts_more ws vs) ∙ sym (append_assoc w.text (texts ws) (texts vs))
+    ap (λ (l : List ℕ). w.text ++ l) (texts_more ws vs)
+    ∙ sym (append_assoc w.text (texts ws) (texts vs))
 
 if_so : (P Q : ℕ → Type 0) (o : Option ℕ) → ((n : ℕ) → P n → Q n) → IfSome o P → IfSome o Q
 if_so P Q None h p = tt
@@ -99,10 +100,17 @@ are_later g k1 k2 h1 h2 more ms ns at ws grown l m =
 sets_more : (old mid new : Option (List Mark)) (a b : List Mark)
     → mid ≡ option_map (λ ms. ms ++ a) old → new ≡ option_map (λ ms. ms ++ b) mid
     → new ≡ option_map (λ ms. ms ++ (a ++ b)) old
-sets_more None mid new a b x y = y ∙ ap (λ (o : Option (List Mark)). option_map (λ ms. ms ++ b) o) x
+sets_more None mid new a b x y =
+    y ∙ ap (λ (o : Option (List Mark)). option_map (λ ms. ms ++ b) o) x
 sets_more (Some ms) mid new a b x y =
     y ∙ (ap (λ (o : Option (List Mark)). option_map (λ ms. ms ++ b) o) x
     ∙ ap (λ (l : List Mark). Some l) (append_assoc ms a b))
+
+-- what these writings acknowledge, the first at this place, is kept from a mark on, where the marks
+-- are told
+abbrev InMarks : {K : Type 0} → Ghosts K → K → List Stamped → ℕ → List Writing
+    → Option (List Mark) → Type 0
+InMarks g k h at ws marks = IfSome marks (λ ms. AreMarked g k h ms at ws)
 
 -- all that is acknowledged up to a second moment, at the third
 both_marked : {K : Type 0} (g : Ghosts K) (k1 k2 : K) (h1 h2 more : List Stamped)
@@ -111,26 +119,28 @@ both_marked : {K : Type 0} (g : Ghosts K) (k1 k2 : K) (h1 h2 more : List Stamped
     → IfSome p0 (λ ps. is_some p1 ≡ true) → w1 ≡ append_known w0 (texts ws)
     → m2 ≡ option_map (λ ms. ms ++ ns) m1
     → IfSome p1 (λ ps. Leaves g.keep_moment g.stopped_since (IsBetween h1 h2) k1 k2)
-    → IfSome p0 (λ ps. IfSome w0 (λ bytes. IfSome m1 (λ ms. AreMarked g k1 h1 ms (length bytes) ws)))
-    → IfSome p1 (λ ps. IfSome w1 (λ bytes. IfSome m2 (λ ms. AreMarked g k2 h2 ms (length bytes) vs)))
-    → IfSome p0 (λ ps. IfSome w0 (λ bytes.
-    IfSome m2 (λ ms. AreMarked g k2 h2 ms (length bytes) (ws ++ vs))))
+    → IfSome p0 (λ ps. IfSome w0 (λ bytes. InMarks g k1 h1 (length bytes) ws m1))
+    → IfSome p1 (λ ps. IfSome w1 (λ bytes. InMarks g k2 h2 (length bytes) vs m2))
+    → IfSome p0 (λ ps. IfSome w0 (λ bytes. InMarks g k2 h2 (length bytes) (ws ++ vs) m2))
 both_marked g k1 k2 h1 h2 more ws vs ns None p1 w0 w1 m1 m2 grown told e f l a b = tt
-both_marked g k1 k2 h1 h2 more ws vs ns (Some ps) None w0 w1 m1 m2 grown told e f l a b = absurd (cc)
+both_marked g k1 k2 h1 h2 more ws vs ns (Some ps) None w0 w1 m1 m2 grown told e f l a b =
+    absurd (cc)
 both_marked g k1 k2 h1 h2 more ws vs ns (Some ps) (Some qs) None w1 m1 m2 grown told e f l a b = tt
-both_marked g k1 k2 h1 h2 more ws vs ns (Some ps) (Some qs) (Some bytes) w1 None m2 grown told e f l a b =
-    subst (λ (o : Option (List Mark)). IfSome o (λ ms. AreMarked g k2 h2 ms (length bytes) (ws ++ vs))) (sym f) tt
-both_marked g k1 k2 h1 h2 more ws vs ns (Some ps) (Some qs) (Some bytes) w1 (Some ms) m2 grown told e f l a b =
-    subst (λ (o : Option (List Mark)). IfSome o (λ ms. AreMarked g k2 h2 ms (length bytes) (ws ++ vs))) (sym f)
-    (each_then (IsMarked g k2 h2 (ms ++ ns)) (length bytes) ws vs
-    (are_later g k1 k2 h1 h2 more ms ns (length bytes) ws grown l a)
-    (subst (λ (n : ℕ). AreMarked g k2 h2 (ms ++ ns) n vs) (length-append bytes (texts ws)) behind))
+both_marked g k1 k2 h1 h2 more ws vs ns (Some ps) (Some qs) (Some bytes) w1 m1 m2 grown told
+    e f l a b = both m1 f a
   where
-    told_so : IfSome m2 (λ ms. AreMarked g k2 h2 ms (length (bytes ++ texts ws)) vs)
-    told_so = subst (λ (o : Option (List ℕ)). IfSome o (λ bytes. IfSome m2 (λ ms. AreMarked g k2 h2 ms (length bytes) vs))) e b
+    behind : InMarks g k2 h2 (length (bytes ++ texts ws)) vs m2
+    behind = subst (λ (o : Option (List ℕ)). IfSome o (λ xs. InMarks g k2 h2 (length xs) vs m2)) e b
 
-    behind : AreMarked g k2 h2 (ms ++ ns) (length (bytes ++ texts ws)) vs
-    behind = subst (λ (o : Option (List Mark)). IfSome o (λ ms. AreMarked g k2 h2 ms (length (bytes ++ texts ws)) vs)) f told_so
+    both : (m : Option (List Mark)) → m2 ≡ option_map (λ ms. ms ++ ns) m
+        → InMarks g k1 h1 (length bytes) ws m → InMarks g k2 h2 (length bytes) (ws ++ vs) m2
+    both None f a = subst (InMarks g k2 h2 (length bytes) (ws ++ vs)) (sym f) tt
+    both (Some ms) f a =
+        subst (InMarks g k2 h2 (length bytes) (ws ++ vs)) (sym f)
+        (each_then (IsMarked g k2 h2 (ms ++ ns)) (length bytes) ws vs
+        (are_later g k1 k2 h1 h2 more ms ns (length bytes) ws grown l a)
+        (subst (λ (n : ℕ). AreMarked g k2 h2 (ms ++ ns) n vs) (length-append bytes (texts ws))
+        (subst (InMarks g k2 h2 (length (bytes ++ texts ws)) vs) f behind)))
 
 all_then : (w0 w1 w2 : Option (List ℕ)) (bs cs : List ℕ) → WritesAll w0 w1 bs
     → WritesAll w1 w2 cs → WritesAll w0 w2 (bs ++ cs)
@@ -148,7 +158,11 @@ take_behind n (b ∷ bs) cs =
 part_then : (w0 w1 w2 : Option (List ℕ)) (bs cs : List ℕ) → WritesAll w0 w1 bs
     → WritesFront w1 w2 cs → WritesFront w0 w2 (bs ++ cs)
 part_then w0 w1 w2 bs cs a b =
-    (length bs + b.0, omega (arith, length-append bs cs, b.1), subst (λ (l : List ℕ). w2 ≡ append_known w0 l) (sym (take_behind b.0 bs cs)) (all_then w0 w1 w2 bs (take b.0 cs) a b.2))
+    let front = all_then w0 w1 w2 bs (take b.0 cs) a b.2 in (
+      length bs + b.0,
+      omega (arith, length-append bs cs, b.1),
+      subst (λ (l : List ℕ). w2 ≡ append_known w0 l) (sym (take_behind b.0 bs cs)) front,
+    )
 
 then_by : {K : Type 0} (W : Option (List ℕ) → Option (List ℕ) → List ℕ → Type 0) (g : Ghosts K)
     (R : Writing → Type 0) (h0 h1 h2 : List Stamped) (k0 k1 k2 : K) (o0 o1 o2 : Output)
@@ -158,10 +172,13 @@ then_by : {K : Type 0} (W : Option (List ℕ) → Option (List ℕ) → List ℕ
 then_by W g R h0 h1 h2 k0 k1 k2 o0 o1 o2 join x y a b = record {
   writings = a.writings ++ b.writings;
   replies = All-append R a.writings b.writings a.replies b.replies;
-  text = subst (W o0.written o2.written) (sym (texts_more a.writings b.writings)) (join (texts a.writings) (texts b.writings) a.text b.text);
+  text = subst (W o0.written o2.written) (sym (texts_more a.writings b.writings))
+      (join (texts a.writings) (texts b.writings) a.text b.text);
   more = a.more ++ b.more;
   set = sets_more o0.marks o1.marks o2.marks a.more b.more a.set b.set;
-  marked = both_marked g k1 k2 h1 h2 y.more a.writings b.writings b.more (g.payloads k0) (g.payloads k1) o0.written o1.written o1.marks o2.marks y.grown x.told a.text b.set y.crash a.marked b.marked;
+  marked = both_marked g k1 k2 h1 h2 y.more a.writings b.writings b.more (g.payloads k0)
+      (g.payloads k1) o0.written o1.written o1.marks o2.marks y.grown x.told a.text b.set y.crash
+      a.marked b.marked;
 }
 
 -- from one moment to a second, and from that to a third
@@ -169,7 +186,8 @@ pub keeps_up_then : {K : Type 0} (g : Ghosts K) (R : Writing → Type 0) (h0 h1 
     (k0 k1 k2 : K) (o0 o1 o2 : Output) → KeptOn g h0 k0 h1 k1 → KeptOn g h1 k1 h2 k2
     → KeepsUp g R k0 o0 o1 h1 k1 → KeepsUp g R k1 o1 o2 h2 k2 → KeepsUp g R k0 o0 o2 h2 k2
 keeps_up_then g R h0 h1 h2 k0 k1 k2 o0 o1 o2 x y a b =
-    then_by WritesAll g R h0 h1 h2 k0 k1 k2 o0 o1 o2 (all_then o0.written o1.written o2.written) x y a b
+    then_by WritesAll g R h0 h1 h2 k0 k1 k2 o0 o1 o2 (all_then o0.written o1.written o2.written) x y
+    a b
 
 -- and to one where the last reply is cut short
 pub part_keeps_up_then : {K : Type 0} (g : Ghosts K) (R : Writing → Type 0)
@@ -177,7 +195,8 @@ pub part_keeps_up_then : {K : Type 0} (g : Ghosts K) (R : Writing → Type 0)
     → KeptOn g h1 k1 h2 k2 → KeepsUp g R k0 o0 o1 h1 k1 → KeepsUpInPart g R k1 o1 o2 h2 k2
     → KeepsUpInPart g R k0 o0 o2 h2 k2
 part_keeps_up_then g R h0 h1 h2 k0 k1 k2 o0 o1 o2 x y a b =
-    then_by WritesFront g R h0 h1 h2 k0 k1 k2 o0 o1 o2 (part_then o0.written o1.written o2.written) x y a b
+    then_by WritesFront g R h0 h1 h2 k0 k1 k2 o0 o1 o2 (part_then o0.written o1.written o2.written)
+    x y a b
 
 -- the same output, at a later moment
 pub keeps_up_later : (W : Option (List ℕ) → Option (List ℕ) → List ℕ → Type 0) {K : Type 0}
@@ -196,8 +215,8 @@ keeps_up_later W g R h0 h1 h2 k0 k1 k2 old new x y a = record {
     later : (p0 p1 : Option (List (List ℕ))) (w : Option (List ℕ)) (m : Option (List Mark))
         → IfSome p0 (λ ps. is_some p1 ≡ true)
         → IfSome p1 (λ ps. Leaves g.keep_moment g.stopped_since (IsBetween h1 h2) k1 k2)
-        → IfSome p0 (λ ps. IfSome w (λ bytes. IfSome m (λ ms. AreMarked g k1 h1 ms (length bytes) a.writings)))
-        → IfSome p0 (λ ps. IfSome w (λ bytes. IfSome m (λ ms. AreMarked g k2 h2 ms (length bytes) a.writings)))
+        → IfSome p0 (λ ps. IfSome w (λ bytes. InMarks g k1 h1 (length bytes) a.writings m))
+        → IfSome p0 (λ ps. IfSome w (λ bytes. InMarks g k2 h2 (length bytes) a.writings m))
     later None p1 w m told l f = tt
     later (Some ps) None w m told l f = absurd (cc)
     later (Some ps) (Some qs) None m told l f = tt
@@ -238,7 +257,9 @@ keeps_up_still W {K = K} g R h first k0 k1 old mid new bytes same is a =
       text = subst (λ (o : Option (List ℕ)). W old.written o (texts a.writings)) (sym bytes) a.text;
       more = a.more;
       set = same ∙ a.set;
-      marked = subst (λ (o : Option (List Mark)). IfSome (g.payloads first) (λ ps. IfSome old.written (λ xs. IfSome o (λ ms. AreMarked g k0 h ms (length xs) a.writings)))) (sym same) a.marked;
+      marked = subst (λ (o : Option (List Mark)). IfSome (g.payloads first)
+          (λ ps. IfSome old.written (λ xs. InMarks g k0 h (length xs) a.writings o))) (sym same)
+          a.marked;
     })
 
 by_none : (W : Option (List ℕ) → Option (List ℕ) → List ℕ → Type 0) {K : Type 0} (g : Ghosts K)
@@ -258,7 +279,7 @@ by_none W g R first k h old new none same = record {
     unchanged (Some ms) = ap (λ (l : List Mark). Some l) (sym (append-nil ms))
 
     all : (p : Option (List (List ℕ))) (w : Option (List ℕ)) (m : Option (List Mark))
-        → IfSome p (λ ps. IfSome w (λ bytes. IfSome m (λ ms. AreMarked g k h ms (length bytes) [])))
+        → IfSome p (λ ps. IfSome w (λ bytes. InMarks g k h (length bytes) [] m))
     all None w m = tt
     all (Some ps) None m = tt
     all (Some ps) (Some bytes) None = tt
@@ -282,11 +303,17 @@ pub part_of_whole : {K : Type 0} (g : Ghosts K) (R : Writing → Type 0) (first 
 part_of_whole g R first k h old new a = record {
   writings = a.writings;
   replies = a.replies;
-  text = (length (texts a.writings), omega arith, a.text ∙ ap (λ (l : List ℕ). append_known old.written l) (sym (take_all (length (texts a.writings)) (texts a.writings) (omega arith))));
+  text = (length all, omega arith, a.text ∙ ap (append_known old.written) (sym whole));
   more = a.more;
   set = a.set;
   marked = a.marked;
 }
+  where
+    all : List ℕ
+    all = texts a.writings
+
+    whole : take (length all) all ≡ all
+    whole = take_all (length all) all (omega arith)
 
 -- a command of this history, which each stop leaves since this moment, that has come
 abbrev pub IsLeft : {K : Type 0} → Ghosts K → K → List Stamped → ℕ → ℕ → Type 0
@@ -306,11 +333,14 @@ keeps_up_one W g R first k h old new w moment reply wrote set leaves = record {
   text = subst (W old.written new.written) (sym (append-nil w.text)) wrote;
   more = mark old.written ∷ [];
   set = set;
-  marked = all (g.payloads first) old.written old.marks new.marks set w.number leaves;
+  marked = all (g.payloads first) old.written old.marks new.marks set leaves;
 }
   where
     mark : Option (List ℕ) → Mark
     mark o = record { moment = moment; written = option_map length o }
+
+    whole : take (length h) h ≡ h
+    whole = take_all (length h) h (omega arith)
 
     one : (bytes : List ℕ) (ms : List Mark) (n : ℕ) → IsLeft g k h moment n
         → IsMarked g k h (ms ++ mark (Some bytes) ∷ []) (length bytes) n
@@ -322,22 +352,26 @@ keeps_up_one W g R first k h old new w moment reply wrote set leaves = record {
       before = omega arith;
       past = is.1;
       there = is.0;
-      leaves = λ r left. (length h, is.0, omega arith, is.2 r left ∙ ap (λ (l : List Stamped). Ok (payloads_of l)) (sym (take_all (length h) h (omega arith))));
+      leaves = λ r left.
+          let all = ap (λ (l : List Stamped). Ok (payloads_of l)) (sym whole) in
+          (length h, is.0, omega arith, is.2 r left ∙ all);
     }
 
     each : (bytes : List ℕ) (ms : List Mark) (o : Option ℕ) → IfSome o (IsLeft g k h moment)
         → IfSome o (IsMarked g k h (ms ++ mark (Some bytes) ∷ []) (length bytes))
-    each bytes ms o is = if_so (IsLeft g k h moment) (IsMarked g k h (ms ++ mark (Some bytes) ∷ []) (length bytes)) o (one bytes ms) is
+    each bytes ms o is =
+        if_so (IsLeft g k h moment)
+        (IsMarked g k h (ms ++ mark (Some bytes) ∷ []) (length bytes)) o (one bytes ms) is
 
-    all : (p : Option (List (List ℕ))) (o : Option (List ℕ)) (m0 m1 : Option (List Mark)) → m1 ≡ option_map (marked moment o) m0
-        → (number : Option ℕ) → IfSome number (IsLeft g k h moment)
-        → IfSome p (λ ps. IfSome o (λ bytes. IfSome m1 (λ ms. IfSome number (IsMarked g k h ms (length bytes)) × Unit {0})))
-    all None o m0 m1 e number is = tt
-    all (Some ps) None m0 m1 e number is = tt
-    all (Some ps) (Some bytes) None m1 e number is =
-        subst (λ (o : Option (List Mark)). IfSome o (λ ms. IfSome number (IsMarked g k h ms (length bytes)) × Unit {0})) (sym e) tt
-    all (Some ps) (Some bytes) (Some ms) m1 e number is =
-        subst (λ (o : Option (List Mark)). IfSome o (λ ms. IfSome number (IsMarked g k h ms (length bytes)) × Unit {0})) (sym e) (each bytes ms number is, tt)
+    all : (p : Option (List (List ℕ))) (o : Option (List ℕ)) (m0 m1 : Option (List Mark))
+        → m1 ≡ option_map (marked moment o) m0 → IfSome w.number (IsLeft g k h moment)
+        → IfSome p (λ ps. IfSome o (λ bytes. InMarks g k h (length bytes) (w ∷ []) m1))
+    all None o m0 m1 e is = tt
+    all (Some ps) None m0 m1 e is = tt
+    all (Some ps) (Some bytes) None m1 e is =
+        subst (InMarks g k h (length bytes) (w ∷ [])) (sym e) tt
+    all (Some ps) (Some bytes) (Some ms) m1 e is =
+        subst (InMarks g k h (length bytes) (w ∷ [])) (sym e) (each bytes ms w.number is, tt)
 
 -- a reply with a mark set just before it, of a service that goes on
 pub keeps_up_go : (W : Option (List ℕ) → Option (List ℕ) → List ℕ → Type 0) {K : Type 0}
@@ -347,11 +381,13 @@ pub keeps_up_go : (W : Option (List ℕ) → Option (List ℕ) → List ℕ → 
     → new.marks ≡ option_map (marked moment old.written) old.marks
     → moment ≡ g.keep_moment (keeper_of n) → LeavesSince g moment n → IsNumbered told n
     → n ≡ next.Go s → KeepsUpBy W g R first old new s.state.history s.keeper
-keeps_up_go W {K = K} g R first old new told text moment n s reply wrote set now leaves numbered is =
+keeps_up_go W {K = K} g R first old new told text moment n s reply wrote set now leaves numbered
+    is =
     keeps_up_one W g R first s.keeper s.state.history old new
     (record { text = text; number = number_of told }) moment reply wrote set
-    (if_so (λ k. k ≤ length s.state.history) (IsLeft g s.keeper s.state.history moment) (number_of told)
-    (λ k there. (there, omega (arith, at), since)) (subst (IsNumbered told) is numbered))
+    (if_so (λ k. k ≤ length s.state.history) (IsLeft g s.keeper s.state.history moment)
+    (number_of told) (λ k there. (there, omega (arith, at), since))
+    (subst (IsNumbered told) is numbered))
   where
     at : moment ≡ g.keep_moment s.keeper
     at = now ∙ ap (λ (m : Next K). g.keep_moment (keeper_of m)) is
@@ -370,7 +406,8 @@ pub keeps_up_stop : (W : Option (List ℕ) → Option (List ℕ) → List ℕ �
 keeps_up_stop W g R first old new told text moment n why k keeper h reply wrote set numbered is =
     let none : number_of told ≡ None = subst (IsNumbered told) is numbered in
     keeps_up_one W g R first keeper h old new (record { text = text; number = number_of told })
-    moment reply wrote set (subst (λ (o : Option ℕ). IfSome o (IsLeft g keeper h moment)) (sym none) tt)
+    moment reply wrote set
+    (subst (λ (o : Option ℕ). IfSome o (IsLeft g keeper h moment)) (sym none) tt)
 
 stopped_numbers : (why : Cause) → number_of (last_reply why) ≡ None
 stopped_numbers cause.Memory = refl

@@ -29,7 +29,7 @@ use reg_keep::{KeepFault, Keeper, OpenFault, Records};
 use reg_machine::Machine;
 use reg_outside::Stamp;
 use reg_terms::LoadCounts;
-use reg_view::{Op, Query, Reply, Request, ask};
+use reg_view::{Op, Query, Question, Reply, Request, ask};
 use reg_wire::{encode, payload_reads_back, read_is_payload};
 use std::alloc::{AllocError, Global};
 use std::marker::Model;
@@ -107,13 +107,14 @@ fn asked<K: Keeper>(
     ensures same { LeavesKeeper keeper result.1 }
     ensures unnumbered { (n : ℕ) (id : Option ℕ) → result.0 ≡ Reply.Number n id → ⊥ }
 {
-    let reply = match ask(alloc, &machine, &by, &query) {
+    let Ok(question) = Question::of(alloc, by, query) else {
+        return (Reply::NoMemory, Next::Go(Service { machine, keeper }));
+    };
+    let reply = match ask(alloc, &machine, question) {
         Ok(Ok(answer)) => Reply::Answer(answer),
         Ok(Err(refusal)) => Reply::Refused(refusal),
         Err(AllocError) => Reply::NoMemory,
     };
-    drop(query);
-    drop(by);
     (reply, Next::Go(Service { machine, keeper }))
 }
 

@@ -1,5 +1,5 @@
 -- How an output keeps up from line to line.
-use Rattle.std.proofs.Common.{◌≡◌, List, ℕ, Option, None, Result, Ok, refl, sym, ◌∙◌, subst, inl, inr, option_map}
+use Rattle.std.proofs.Common.{◌≡◌, List, ℕ, Option, Result, Ok, refl, sym, ◌∙◌, subst, inl, inr, option_map}
 use Rattle.std.specs.Prelude.{IfErr}
 use Rattle.reg_outside.specs.Faults.{Rose}
 use Rattle.reg_outside.specs.Marks.{Mark, marked}

@@ -12,7 +12,7 @@ use Rattle.reg_session.specs.Lines.{lines, ended_lines, lines_from, pending_from
 use Rattle.reg_session.specs.Pending.{Holds}
 use Rattle.reg_session.specs.Replies.{IsLine}
 use Rattle.reg_session.specs.Stops.{StopsIn, HaltsKeepingUp, IsAtLine}
-use Rattle.reg_session.specs.Input.{HasTaken, EndsInput, FlushesFor, StopsInput, StopsInputKeepingUp, StopsBehind, StopsLastKeepingUp}
+use Rattle.reg_session.specs.Input.{HasTaken, EndsInput, FlushesFor, StopsInputKeepingUp, StopsBehind, StopsLastKeepingUp}
 use Rattle.reg_session.specs.declared.pending.PendingLine.{PendingLine}
 use Rattle.reg_session.specs.declared.stop.Stop.{Stop}
 use Rattle.reg_session.specs.declared.stop.Stop.TheVariants as stop

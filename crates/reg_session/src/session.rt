@@ -135,7 +135,8 @@ pub fn answer_line<J: Keeper, K: Sink, C: Clock>(
         → Rose (J.keep_faults service.keeper) (J.keep_faults e.1)) }
     ensures others { IfErr result (λ e. IsAtLine e.0) }
 
-    // Before the reply stands a mark, since which each stop leaves the command that it acknowledges.
+    // Before the reply stands a mark, since which each stop leaves the command that it
+    // acknowledges.
     ensures keeps_up { IfOk result
         (λ after. KeepsUp ⟦<J as Keeper>⟧ IsLine service.keeper (output_of ⟦<K as Sink>⟧ out.old)
         (output_of ⟦<K as Sink>⟧ out.new) after.state.history after.keeper) }

@@ -23,6 +23,7 @@ pub mod Owned
 pub mod Shown
 pub mod Unnamed
 pub mod NotSeen
+pub mod Yields
 pub mod Worked
 pub mod Tellings
 pub mod Moved

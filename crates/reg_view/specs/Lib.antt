@@ -5,6 +5,8 @@ pub mod Powers
 pub mod View
 pub mod Show
 pub mod Answers
+pub mod Missing
+pub mod Asked
 pub mod Unseen
 pub mod Telling
 pub mod AtClock

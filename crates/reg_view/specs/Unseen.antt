@@ -1,17 +1,20 @@
--- Groups that a caller doesn't see.
-use Rattle.std.specs.Prelude.{◌≡◌, ⊤, ℕ, List, Bool, false, is_some, Option, Some, None}
+-- Groups and other objects that a caller doesn't see.
+use Rattle.std.specs.Prelude.{◌≡◌, ⊤, ℕ, List, Bool, true, false, is_some, Option, Some, None}
+use Rattle.reg_base.specs.Entities.{entity_of}
 use Rattle.reg_base.specs.declared.entity.Entity.{Entity}
 use Rattle.reg_base.specs.declared.entity.Entity.TheVariants as entity
+use Rattle.reg_terms.specs.declared.kinds.Object.{Object}
 use Rattle.reg_terms.specs.declared.kinds.Object.TheVariants as object
 use Rattle.reg_terms.specs.declared.query.Query.{Query}
 use Rattle.reg_terms.specs.declared.query.Query.TheVariants as query
 use Rattle.reg_facts.specs.Lists.{Lists}
-use Rattle.reg_facts.specs.Naming.{group_id}
+use Rattle.reg_facts.specs.Naming.{group_id, resolve}
 use Rattle.reg_effect.specs.declared.live.Live.{Live}
 use Rattle.reg_priv.specs.declared.who.Who.{Who}
 use Rattle.reg_priv.specs.May.{visible}
 use Rattle.reg_view.specs.Answers.{gone_found}
 use Rattle.reg_view.specs.Past.{Past}
+use Rattle.reg_view.specs.Show.{is_entity_text}
 use Rattle.reg_view.specs.View.{caller_of}
 
 -- an entity is the group of this name
@@ -21,16 +24,20 @@ IsGroup name (entity.Group group) = group ≡ name
 IsGroup name entity.System = ⊥
 IsGroup name entity.Everyone = ⊥
 
--- the query is of the group of this name
+-- a text is that of the entity of the group of this name
+abbrev pub IsGroupText : List ℕ → List ℕ → Type 0
+IsGroupText name text = (is_entity_text text ≡ true) × (entity_of text ≡ Some (entity.Group name))
+
+-- the query is of the group of this name: of an object it is by the text of the group's entity
 abbrev pub AsksOf : List ℕ → Query → Type 0
 AsksOf name (query.GroupGet group) = group ≡ name
 AsksOf name (query.FolderList folder) = ⊥
 AsksOf name (query.Members group at) = group ≡ name
 AsksOf name (query.Rows group) = group ≡ name
 AsksOf name (query.Groups subject at) = IsGroup name subject
-AsksOf name (query.Grants text at) = ⊥
-AsksOf name (query.May text e at) = ⊥
-AsksOf name (query.Attributes text at) = ⊥
+AsksOf name (query.Grants text at) = IsGroupText name text
+AsksOf name (query.May text e at) = IsGroupText name text
+AsksOf name (query.Attributes text at) = IsGroupText name text
 AsksOf name (query.History group) = group ≡ name
 AsksOf name (query.Log consumer max) = ⊥
 AsksOf name query.Admin = ⊥
@@ -59,3 +66,26 @@ abbrev pub IsOfNoneGone : Past → Live → Lists → List ℕ → Query → Typ
 IsOfNoneGone p L f by (query.Members group at) = finds_gone p L f (caller_of by f) group ≡ false
 IsOfNoneGone p L f by (query.History group) = finds_gone p L f (caller_of by f) group ≡ false
 IsOfNoneGone p L f by _ = ⊤
+
+-- ---- objects
+
+-- the query is of the object of this name, which is no entity's text
+abbrev pub AsksAbout : List ℕ → Query → Type 0
+AsksAbout name (query.Grants text at) = (text ≡ name) × (is_entity_text name ≡ false)
+AsksAbout name (query.May text e at) = (text ≡ name) × (is_entity_text name ≡ false)
+AsksAbout name (query.Attributes text at) = (text ≡ name) × (is_entity_text name ≡ false)
+AsksAbout name _ = ⊥
+
+-- no object has this name, or the caller doesn't see the one that has
+abbrev pub IsHiddenObject : Live → Lists → Who → Option Object → Type 0
+IsHiddenObject L f c None = ⊤
+IsHiddenObject L f c (Some o) = visible L f c o ≡ false
+
+-- and of a caller that may not stand
+abbrev pub IsObjectHiddenFrom : Live → Lists → Option Who → List ℕ → Type 0
+IsObjectHiddenFrom L f None name = ⊥
+IsObjectHiddenFrom L f (Some c) name = IsHiddenObject L f c (resolve name f)
+
+-- a caller that stands doesn't see an object of this name, or there is none
+abbrev pub IsUnseenObject : Live → Lists → List ℕ → List ℕ → Type 0
+IsUnseenObject L f by name = IsObjectHiddenFrom L f (caller_of by f) name

@@ -1,60 +1,81 @@
 // Asking.
-ghost use Rattle.std.specs.Prelude.{◌≡◌, ℕ, List, Err, IfOk};
+ghost use Rattle.std.specs.Prelude.{◌≡◌, ℕ, List, Ok, Err, IfErr, IfOk};
 ghost use Rattle.reg_terms.specs.declared.command.Stamped.{Stamped};
 ghost use Rattle.reg_machine.specs.History.{facts};
 ghost use Rattle.reg_current.specs.Live.{live};
 ghost use Rattle.reg_view.specs.AtClock.{asked_at, view};
+ghost use Rattle.reg_view.specs.Missing.{MayYield};
 ghost use Rattle.reg_view.specs.Past.{past_at};
 ghost use Rattle.reg_view.specs.Show.{show};
 ghost use Rattle.reg_view.specs.Telling.{IfRefused, TellsOf, names_of};
-ghost use Rattle.reg_view.specs.Unseen.{AsksOf, IsOfNoneGone, IsUnseen};
+ghost use Rattle.reg_view.specs.Unseen.{AsksAbout, AsksOf, IsOfNoneGone, IsUnseen, IsUnseenObject};
 
+use crate::Answer;
 use crate::answering::answer;
-use crate::{Answer, Query};
-use reg_base::Bytes;
+use crate::question::{Parts, Question};
 use reg_effect::Kept;
 use reg_facts::Refusal;
 use reg_machine::Machine;
 use std::alloc::{AllocError, Global};
 
-/// The answer to a query at the machine's clock, or why it is refused: what the view of the caller
-/// of this text shows, and nothing else. A question about the past is answered by what was the case
-/// at its moment, and judged by what the caller may do now. A text that names neither a person that
-/// stands nor the registry itself is nobody's.
+/// The answer to a question at the machine's clock, or why it is refused: what the view of the
+/// caller of its text shows, and nothing else. A question about the past is answered by what was
+/// the case at its moment, and judged by what the caller may do now. A text that names neither a
+/// person that stands nor the registry itself is nobody's.
 pub fn ask<K: Kept>(
     alloc: Global,
     machine: &Machine<K>,
-    by: &Bytes,
-    query: &Query,
+    question: Question,
 ) -> Result<Result<Answer, Refusal>, AllocError>
     ensures shown { IfOk result (λ r. r
         ≡ show (view machine.now.history machine.now.clock
-        (asked_at machine.now.clock query.now) by.now) query.now) }
+        (asked_at machine.now.clock question.query) question.by) question.query) }
 
     // Any other registry that gives this caller the same view gives this answer.
     ensures alike { IfOk result (λ r. (history : List Stamped) (now : ℕ)
-        → view history now (asked_at now query.now) by.now
-        ≡ view machine.now.history machine.now.clock (asked_at machine.now.clock query.now) by.now
-        → r ≡ show (view history now (asked_at now query.now) by.now) query.now) }
+        → view history now (asked_at now question.query) question.by
+        ≡ view machine.now.history machine.now.clock
+        (asked_at machine.now.clock question.query) question.by
+        → r ≡ show (view history now (asked_at now question.query) question.by) question.query) }
 
-    // A group that the caller doesn't see is answered as a name that no group has, and so is one
-    // that is gone, unless root asks of its past.
-    ensures unseen { IfOk result (λ r. (group : List ℕ) → AsksOf group query.now
+    // There may be no memory for an answer, and for a refusal that tells of what the view holds.
+    // That something isn't there for the caller, or that the caller doesn't stand, is told whatever
+    // memory there is.
+    ensures yields { IfErr result (λ _. IfRefused MayYield
+        (show (view machine.now.history machine.now.clock
+        (asked_at machine.now.clock question.query) question.by) question.query)) }
+
+    // A group that the caller doesn't see is answered as a name that no group has, whatever memory
+    // there is, and so is one that is gone, unless root asks of its past.
+    ensures unseen { (group : List ℕ) → AsksOf group question.query
         → IsUnseen (live machine.now.clock (facts machine.now.history machine.now.clock))
-        (facts machine.now.history machine.now.clock) by.now group
+        (facts machine.now.history machine.now.clock) question.by group
         → IsOfNoneGone (past_at machine.now)
         (live machine.now.clock (facts machine.now.history machine.now.clock))
-        (facts machine.now.history machine.now.clock) by.now query.now
-        → r ≡ Err (Refusal.NotFound group)) }
+        (facts machine.now.history machine.now.clock) question.by question.query
+        → result ≡ Ok (Err (Refusal.NotFound group)) }
+
+    // And so is a group, a definition or an attribute by its name, where any object may be named.
+    ensures unseen_object { (name : List ℕ) → AsksAbout name question.query
+        → IsUnseenObject (live machine.now.clock (facts machine.now.history machine.now.clock))
+        (facts machine.now.history machine.now.clock) question.by name
+        → result ≡ Ok (Err (Refusal.NotFound name)) }
 
     // A refusal names nothing that the query doesn't name, but for the root folder and the
     // definition of an attribute that the caller sees.
     ensures names { IfOk result
         (λ r. IfRefused (TellsOf
-        (view machine.now.history machine.now.clock (asked_at machine.now.clock query.now) by.now)
-        (names_of query.now)) r) }
+        (view machine.now.history machine.now.clock
+        (asked_at machine.now.clock question.query) question.by)
+        (names_of question.query)) r) }
 {
+    let Parts {
+        by,
+        query,
+        caller,
+        called,
+    } = question.into_parts();
     let facts = machine.facts();
     let kept = machine.kept();
-    answer(alloc, machine, facts, kept, by, query)
+    answer(alloc, machine, facts, kept, &by, &query, &caller, called)
 }

@@ -3,6 +3,7 @@ ghost use Rattle.std.specs.Prelude.{◌≡◌, IfOk};
 ghost use Rattle.reg_base.specs.Entities.{entity_of};
 ghost use Rattle.reg_facts.specs.Naming.{resolve};
 ghost use Rattle.reg_view.specs.Answers.{entity_found, entity_object, name_found, object_found};
+ghost use Rattle.reg_view.specs.Missing.{seen_object};
 ghost use Rattle.reg_view.specs.Show.{is_entity_text};
 
 use crate::refusing::not_found;
@@ -54,7 +55,22 @@ fn entity_object<K: Kept>(
     }
 }
 
+/// The object of this name, where the caller sees it. One that is hidden is None as one that isn't
+/// there. It takes no memory.
+pub fn seen_object<K: Kept>(facts: &Facts, kept: &K, who: &Who, text: &Text) -> Option<Object>
+    ensures { result ≡ seen_object (K.held kept.now) facts.now who.now text.now }
+{
+    let Some(object) = facts.resolve(text.as_str()) else {
+        return None;
+    };
+    if !is_visible(facts, kept, who, &object) {
+        return None;
+    }
+    Some(object)
+}
+
 /// The object of this name, if the caller sees it.
+#[tactic(auto, using(crate::proofs::Yields::name_some, crate::proofs::Yields::name_none))]
 fn name_found<K: Kept>(
     alloc: Global,
     facts: &Facts,
@@ -65,13 +81,10 @@ fn name_found<K: Kept>(
     ensures { IfOk result (λ r. r
         ≡ name_found (K.held kept.now) facts.now who.now text.now (resolve text.now facts.now)) }
 {
-    let Some(object) = facts.resolve(text.as_str()) else {
-        return Ok(Err(not_found(alloc, text.as_str())?));
-    };
-    if !is_visible(facts, kept, who, &object) {
-        return Ok(Err(not_found(alloc, text.as_str())?));
+    match seen_object(facts, kept, who, text) {
+        Some(object) => Ok(Ok(Some(object))),
+        None => Ok(Err(not_found(alloc, text.as_str())?)),
     }
-    Ok(Ok(Some(object)))
 }
 
 /// Whether a text is an entity's: it has a `/`, which no name has.

@@ -14,6 +14,8 @@ mod history;
 mod listing;
 mod logging;
 mod memberships;
+mod missing;
+mod question;
 mod refusing;
 mod rows;
 mod seeing;
@@ -22,4 +24,5 @@ mod timing;
 
 pub use asking::ask;
 pub use earlier::law_powers;
+pub use question::Question;
 pub use reg_terms::{Answer, FactorsShown, Op, Query, Reply, Request, RowShown, RowsShown};

@@ -126,7 +126,7 @@ fn entries_told<K: Kept>(
 }
 
 /// The place of the consumer of this name, which root alone sees.
-fn place_seen<K: Kept>(
+pub fn place_seen<K: Kept>(
     machine: &Machine<K>,
     facts: &Facts,
     kept: &K,

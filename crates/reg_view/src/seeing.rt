@@ -1,6 +1,7 @@
 // What the caller sees, and what it may read.
 ghost use Rattle.std.specs.Prelude.{◌≡◌, IfOk};
 ghost use Rattle.reg_view.specs.Answers.{gone_found, group_past, group_read, group_seen};
+ghost use Rattle.reg_view.specs.Missing.{seen_group};
 ghost use Rattle.reg_view.specs.Past.{past_at};
 
 use crate::refusing::{denied, not_found};
@@ -11,7 +12,22 @@ use reg_machine::Machine;
 use reg_priv::{Who, is_root, is_visible, may};
 use std::alloc::{AllocError, Global};
 
+/// The group of this name, where the caller sees it. A group that is hidden is None as one that
+/// isn't there. It takes no memory.
+pub fn seen_group<K: Kept>(facts: &Facts, kept: &K, who: &Who, group: &Name) -> Option<GroupId>
+    ensures { result ≡ seen_group (K.held kept.now) facts.now who.now group.now }
+{
+    let Some(id) = facts.group_id(group.as_str()) else {
+        return None;
+    };
+    if !is_visible(facts, kept, who, &Object::Group(id)) {
+        return None;
+    }
+    Some(id)
+}
+
 /// The group of this name, if the caller sees it.
+#[tactic(auto, using(crate::proofs::Yields::seen_some, crate::proofs::Yields::seen_none))]
 pub fn group_seen<K: Kept>(
     alloc: Global,
     facts: &Facts,
@@ -21,13 +37,10 @@ pub fn group_seen<K: Kept>(
 ) -> Result<Result<GroupId, Refusal>, AllocError>
     ensures { IfOk result (λ r. r ≡ group_seen (K.held kept.now) facts.now who.now group.now) }
 {
-    let Some(id) = facts.group_id(group.as_str()) else {
-        return Ok(Err(not_found(alloc, group.as_str())?));
-    };
-    if !is_visible(facts, kept, who, &Object::Group(id)) {
-        return Ok(Err(not_found(alloc, group.as_str())?));
+    match seen_group(facts, kept, who, group) {
+        Some(id) => Ok(Ok(id)),
+        None => Ok(Err(not_found(alloc, group.as_str())?)),
     }
-    Ok(Ok(id))
 }
 
 /// The group of this name, if the caller may read it.
@@ -51,7 +64,7 @@ pub fn group_read<K: Kept>(
 }
 
 /// The group that is gone and had this name last, which root alone finds.
-fn gone_found<K: Kept>(
+pub fn gone_found<K: Kept>(
     machine: &Machine<K>,
     facts: &Facts,
     kept: &K,

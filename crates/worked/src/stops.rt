@@ -140,11 +140,7 @@ fn add_end(
     stop: u64,
     stopped: &Stopped,
 ) -> Result<(), AllocError> {
-    let Stopped {
-        status,
-        acknowledged,
-        ..
-    } = stopped;
+    let (status, acknowledged) = (stopped.status, stopped.acknowledged);
     let line = format!(in alloc;
         "    stopped at call {stop}: status {status}, {acknowledged} acknowledged\n"
     )?;

@@ -62,7 +62,7 @@ fn commands(alloc: Global) -> Result<Vec<u8>, AllocError> {
 }
 
 /// At how many of the moments at which the last person joined or left the past tells otherwise.
-fn otherwise<L: Ledger>(machine: &Machine<Incremental>, blank: Blank) -> u64
+fn wrong_moments<L: Ledger>(machine: &Machine<Incremental>, blank: Blank) -> u64
     requires name { blank.name ≡ L.name }
     requires parts { blank.parts ≡ L.parts }
     requires some { 0 < blank.parts }
@@ -84,8 +84,8 @@ fn otherwise<L: Ledger>(machine: &Machine<Incremental>, blank: Blank) -> u64
 }
 
 /// The same, for who counts no steps.
-fn otherwise_told(machine: &Machine<Incremental>) -> u64 {
-    otherwise::<Brand>(machine, Blank::new(1))
+fn wrong_moments_told(machine: &Machine<Incremental>) -> u64 {
+    wrong_moments::<Brand>(machine, Blank::new(1))
 }
 
 /// All commands are accepted, and each change of a membership is in the log. The last group has all
@@ -96,7 +96,7 @@ fn judge(machine: &Machine<Incremental>) -> Result<(), Otherwise> {
     expect_number(machine.log().last(), 504_400, "entries of the log")?;
     let members = machine.kept().members(GroupId::new(200))?;
     expect_number(members.len() as u64, 2_000, "members of the last group")?;
-    let wrong = otherwise_told(machine);
+    let wrong = wrong_moments_told(machine);
     expect_number(wrong, 0, "moments of which the past tells otherwise")
 }
 

@@ -57,7 +57,8 @@ fn dev() -> GroupId {
 /// The registry after the first so many of the commands.
 fn registry_after(alloc: Global, count: usize) -> Result<Service<NoKeeper>, Otherwise> {
     let mut lines = Vec::new(alloc);
-    for &(op, fields) in COMMANDS.iter().take(count) {
+    let (first, _) = COMMANDS.split_at(count.min(COMMANDS.len()));
+    for &(op, fields) in first {
         put_line(alloc, &mut lines, op, fields)?;
     }
     after(alloc, lines, count as u64)
@@ -74,14 +75,17 @@ pub fn play_commands(machine: &Machine<Incremental>) -> Result<(), Otherwise> {
     expect_number(machine.commands() as u64, wanted, "accepted commands")
 }
 
+/// Whether an end is this one, or none is wanted and there is none.
+fn is_end(end: &Option<Moment>, wanted: Option<u64>) -> bool {
+    match end {
+        Some(moment) => wanted == Some(moment.micros()),
+        None => wanted.is_none(),
+    }
+}
+
 /// Whether a span begins at one moment and ends just before another, or has no end.
 fn is_span(span: &(Moment, Option<Moment>), from: u64, until: Option<u64>) -> bool {
-    let ends = match (&span.1, until) {
-        (Some(moment), Some(until)) => moment.micros() == until,
-        (None, None) => true,
-        _ => false,
-    };
-    span.0.micros() == from && ends
+    span.0.micros() == from && is_end(&span.1, until)
 }
 
 /// The spans of a membership that was taken away and given again.
@@ -191,16 +195,16 @@ pub fn play_may(alloc: Global, machine: &Machine<Incremental>) -> Result<(), Oth
 }
 
 /// Whether a caller may do everything.
-fn is_caller_root(machine: &Machine<Incremental>, caller: &Entity) -> Result<bool, AllocError> {
-    is_root(machine.facts(), machine.names(), machine.kept(), caller)
+fn is_caller_root(machine: &Machine<Incremental>, caller: Entity) -> Result<bool, AllocError> {
+    is_root(machine.facts(), machine.names(), machine.kept(), &caller)
 }
 
 /// Who may do everything: GrouperSystem, and who is in the wheel group.
 pub fn play_root(alloc: Global, machine: &Machine<Incremental>) -> Result<(), Otherwise> {
-    let ann = is_caller_root(machine, &person(alloc, "uni/ann")?)?;
-    let bob = is_caller_root(machine, &person(alloc, "uni/bob")?)?;
-    let system = is_caller_root(machine, &Entity::System)?;
-    let everyone = is_caller_root(machine, &Entity::Everyone)?;
+    let ann = is_caller_root(machine, person(alloc, "uni/ann")?)?;
+    let bob = is_caller_root(machine, person(alloc, "uni/bob")?)?;
+    let system = is_caller_root(machine, Entity::System)?;
+    let everyone = is_caller_root(machine, Entity::Everyone)?;
     expect(!ann, "who isn't in the wheel group may not do everything")?;
     expect(bob, "who is in it may")?;
     expect(system, "GrouperSystem may")?;
@@ -210,8 +214,10 @@ pub fn play_root(alloc: Global, machine: &Machine<Incremental>) -> Result<(), Ot
 /// What is in the scope of `app`: directly in it, or at any depth below it.
 pub fn play_scopes(machine: &Machine<Incremental>) -> Result<(), Otherwise> {
     let facts = machine.facts();
-    let (near, far) = (Object::Group(vpn()), Object::Group(dev()));
-    let (own, other) = (Object::Folder(app()), Object::Group(GroupId::new(1)));
+    let near = Object::Group(vpn());
+    let far = Object::Group(dev());
+    let own = Object::Folder(app());
+    let other = Object::Group(GroupId::new(1));
     let is_near_in_one = in_scope(facts, app(), Scope::One, &near);
     let is_far_in_one = in_scope(facts, app(), Scope::One, &far);
     expect(is_near_in_one, "`app:vpn` is directly in the folder")?;

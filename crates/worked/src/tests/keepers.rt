@@ -58,13 +58,13 @@ fn expect_first(records: Records, count: u64) -> Result<(), Otherwise> {
 /// writes, a sync, the write that opens the gate, and a sync. Once the gate is written the payload
 /// is there.
 fn play_stop(alloc: Global, stop: u64) -> Result<(), Otherwise> {
-    let mut journal = begun(alloc, stop + 5)?;
+    let mut journal = begun(alloc, stop.saturating_add(5))?;
     let count = acknowledged(&mut journal);
     let disk = journal.into_disk();
     expect_number(count, stop / 8, "acknowledged appends")?;
     let records = opened(alloc, disk.bytes())?;
     let is_open = stop % 8 == 7;
-    expect_first(records, count + u64::from(is_open))
+    expect_first(records, count.saturating_add(u64::from(is_open)))
 }
 
 /// Ten appends are stopped at each call of the disk, and at none.

@@ -9,4 +9,8 @@ returns-in-NeedMore-clause-keeps_up g c = keeps_up_none g.K.Keeper IsResponse c.
 
 -- a head isn't taken
 pub returns-in-Bad-clause-keeps_up_to : goal.returns-in-Bad-clause-keeps_up_to
-returns-in-Bad-clause-keeps_up_to g c = (c.refuse_head.ensures.ended _, c.refuse_head.ensures.keeps_up _)
+returns-in-Bad-clause-keeps_up_to g c = rw c.in-Bad.is (c.refuse_head.ensures.ended _, c.refuse_head.ensures.keeps_up _)
+
+-- a message ended the connection
+pub returns-in-Err-clause-keeps_up_to : goal.returns-in-Err-clause-keeps_up_to
+returns-in-Err-clause-keeps_up_to g c = rw c.in-Call.is c.in-Err.ensures.keeps_up_to
