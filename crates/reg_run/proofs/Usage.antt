@@ -12,11 +12,11 @@ use Rattle.reg_run.specs.Crash.{Seen, seen}
 use Rattle.reg_terms.specs.declared.reply.Reply.{Reply}
 use Rattle.reg_terms.specs.declared.reply.Reply.TheVariants as reply
 use Rattle.reg_run.specs.Ends.{Did, IsIdle, IsUsage, LoadAsked, LoadBroke, RunDid}
-use Rattle.reg_run.specs.Listing.{PrintsLines}
+use Rattle.reg_run.specs.Listing.{PrintsLines, due_lines}
 use Rattle.reg_run.specs.Once.{Printed, end_of_reply}
 use Rattle.reg_run.specs.Providing.{Provides}
 use Rattle.reg_run.specs.Status.{status_of}
-use Rattle.reg_run.specs.World.{Out, World}
+use Rattle.reg_run.specs.World.{Out, World, output}
 
 status_two : (end : End) → status_of end ≡ 2 → end ≡ the_end.Usage
 status_two the_end.Done e = absurd (omega arith)
@@ -79,7 +79,7 @@ task_is_use d (task.Report asked) before after (inr p) = p.2.ends
 task_is_use d (task.Load job) before after (inl not) = not.cause
 task_is_use d (task.Load job) before after (inr p) = load_is_use p.0 job p.2.taken before after _ _ p.2.ends
 task_is_use d (task.Commands places) before after (inl not) = not.cause
-task_is_use d (task.Commands places) before after (inr p) = lines_are_use _ _ _ _ _ p.2.printed
+task_is_use d (task.Commands places) before after (inr p) = lines_are_use (due_lines places before.held p.0.history) before.faults after.faults (output before) (output after) p.2.printed
 task_is_use d (task.Provision asked) before after (inl not) = not.cause
 task_is_use d (task.Provision asked) before after (inr p) = provision_is_use asked _ p.2.at _ _ _ _ p.2.ends
 task_is_use d (task.Sample seed size) before after did = print_is_use _ _ _ did.printed
