@@ -11,7 +11,7 @@ returns-in-Go-clause-open g c = finishes_open _ _ c.in-Go.service c.args.call.no
 pub returns-in-Go-clause-served : goal.returns-in-Go-clause-served
 returns-in-Go-clause-served g c =
     let m = answers_go _ _ _ _ _ _ c.answer-reply.result c.in-Go.service (rw c.asked_of-asked.ensures at c.answer-reply.ensures) c.in-Go.is in
-    finishes_served _ _ _ _ _ c.in-Go.service c.args.call.now m.0 _ c.finish_call.result m.1 m.2 (rw (c.asked_of-asked.ensures, c.note-2.ensures.written) at c.finish_call.ensures.sends)
+    finishes_served _ _ _ _ _ c.in-Go.service c.args.call.now m.0 _ c.finish_call.result m.1 m.2 (rw (c.asked_of-asked.ensures, c.note-in-Go.ensures.written) at c.finish_call.ensures.sends)
 
 pub returns-in-Go-clause-kept : goal.returns-in-Go-clause-kept
 returns-in-Go-clause-kept g c =
@@ -21,19 +21,19 @@ returns-in-Go-clause-kept g c =
 pub returns-in-Go-clause-ended : goal.returns-in-Go-clause-ended
 returns-in-Go-clause-ended g c =
     let m = answers_go _ _ _ _ _ _ c.answer-reply.result c.in-Go.service (rw c.asked_of-asked.ensures at c.answer-reply.ensures) c.in-Go.is in
-    finishes_ended g.K.Keeper c.args.service.keeper _ _ _ _ _ c.in-Go.service c.args.call.now m.0 _ c.finish_call.result m.1 m.2 m.3 (rw (c.asked_of-asked.ensures, c.note-2.ensures.written) at c.finish_call.ensures.sends)
+    finishes_ended g.K.Keeper c.args.service.keeper _ _ _ _ _ c.in-Go.service c.args.call.now m.0 _ c.finish_call.result m.1 m.2 m.3 (rw (c.asked_of-asked.ensures, c.note-in-Go.ensures.written) at c.finish_call.ensures.sends)
 
 pub returns-in-Go-clause-keeps_up : goal.returns-in-Go-clause-keeps_up
 returns-in-Go-clause-keeps_up g c =
     let m = answers_go _ _ _ _ _ _ c.answer-reply.result c.in-Go.service c.answer-reply.ensures c.in-Go.is in
     finishes_up g.K.Keeper c.args.service.keeper c.stamp.result _ _ _ _ c.in-Go.service _ c.args.call.now _ c.finish_call.result (may_of _ _ _ _ _ m.2) (record { past = omega (arith, c.stamp.ensures.moment); leaves = c.stamp.ensures.leaves })
-    (c.finish_call.ensures.marks ∙ c.note-2.ensures.marks) (rw c.note-2.ensures.written at c.finish_call.ensures.sends)
+    (c.finish_call.ensures.marks ∙ c.note-in-Go.ensures.marks) (rw c.note-in-Go.ensures.written at c.finish_call.ensures.sends)
 
 pub returns-in-Go-clause-keeps_up_to : goal.returns-in-Go-clause-keeps_up_to
 returns-in-Go-clause-keeps_up_to g c =
     let m = answers_go _ _ _ _ _ _ c.answer-reply.result c.in-Go.service c.answer-reply.ensures c.in-Go.is in
     finishes_up_to g.K.Keeper c.args.service.keeper c.stamp.result _ _ _ _ _ _ c.in-Go.service _ c.args.call.now _ _ c.finish_call.result (may_of _ _ _ _ _ m.2) (record { past = omega (arith, c.stamp.ensures.moment); leaves = c.stamp.ensures.leaves })
-    (c.finish_call.ensures.marks ∙ c.note-2.ensures.marks) (rw c.note-2.ensures.written at c.finish_call.ensures.sends) (returns-in-Go-clause-ended g c)
+    (c.finish_call.ensures.marks ∙ c.note-in-Go.ensures.marks) (rw c.note-in-Go.ensures.written at c.finish_call.ensures.sends) (returns-in-Go-clause-ended g c)
 
 -- it stopped
 pub returns-in-Stop-clause-keeps_up_to : goal.returns-in-Stop-clause-keeps_up_to
