@@ -6,13 +6,13 @@ use Rattle.reg_run.proofs.program.follow.Goals as goal
 -- the task's end
 pub returns-in-Ok-Some-clause-did : goal.returns-in-Ok-Some-clause-did
 returns-in-Ok-Some-clause-did g c =
-    let is : task_of (map string_bytes c.args.words.now) ≡ Some c.in-Ok-Some.task = sym c.in-Ok-Some.ensures ∙ c.in-Ok-Some.field-0-is in
+    let is : task_of (map string_bytes c.args.words.now) ≡ Some c.in-Ok-Some.task = sym c.in-Ok-Some.ensures.asked ∙ c.in-Ok-Some.field-0-is in
     rw is (inl (search rules))
 
 -- the words ask for nothing
 pub returns-in-Ok-None-clause-did : goal.returns-in-Ok-None-clause-did
 returns-in-Ok-None-clause-did g c =
-    let is : task_of (map string_bytes c.args.words.now) ≡ None = sym c.in-Ok-None.ensures ∙ c.in-Ok-None.field-0-is in
+    let is : task_of (map string_bytes c.args.words.now) ≡ None = sym c.in-Ok-None.ensures.asked ∙ c.in-Ok-None.field-0-is in
     rw is (inl refl, (refl, refl))
 
 -- there was no memory to read them
