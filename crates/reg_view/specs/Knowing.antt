@@ -56,7 +56,8 @@ is_factor_read L f c name =
 abbrev pub is_holder_told : Past → Live → Lists → Who → ℕ → List ℕ → Bool
 is_holder_told p L f c at text =
     list_any (λ (o : Object). is_admin L f c o
-    && is_among text (map (λ (g : Grant). holder_text p f g.1) (holders o (p.facts at)))) (objects f)
+    && is_among text (map (λ (g : Grant). holder_text p f g.1) (holders o (p.facts at))))
+    (objects f)
 
 -- ---- what an answer names
 
