@@ -66,6 +66,7 @@ pub(crate) fn open<D: Disk>(alloc: Global, disk: D) -> Result<Service<Journal<D>
         (λ s. Changes D.moment D.may_leave D.left_since Same disk (disk_of s.keeper)) }
     ensures object { IfOk result (λ s. D.name (disk_of s.keeper) ≡ D.name disk) }
     ensures later { IfOk result (λ s. D.faults disk ≤ D.faults (disk_of s.keeper)) }
+    ensures still { IfOk result (λ s. D.faults (disk_of s.keeper) ≡ D.faults disk) }
     ensures cause { IfErr result
         (λ e. OpenCaused e.0 (D.contents disk) (D.faults disk) (D.faults e.1)) }
     ensures same_err { IfErr result (λ e. D.contents e.1 ≡ D.contents disk) }
