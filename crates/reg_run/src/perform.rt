@@ -17,6 +17,7 @@ ghost use Rattle.reg_run.specs.Status.{check_line};
 ghost use Rattle.reg_run.specs.World.{Net, World, world, holding, printing, at_clock, net_of};
 ghost use Rattle.reg_run.specs.World.{out_of};
 
+use crate::as_of::as_of_over;
 use crate::listing::commands_over;
 use crate::load::load_over;
 use crate::provision::provision_over;
@@ -46,7 +47,7 @@ pub(crate) fn end_of_open(fault: OpenFault) -> End
     }
 }
 
-fn end_of_stop(stop: Stop) -> End
+pub(crate) fn end_of_stop(stop: Stop) -> End
     ensures { result ≡ end_of_stop stop }
 {
     match stop {
@@ -325,6 +326,7 @@ pub fn perform<S: Source, K: Sink, D: Disk, C: Clock, L: Listener>(
         Task::Report(asked) => report_over(alloc, asked, out, disk, clock),
         Task::Load { job } => load_over(alloc, job, input, out, disk, clock),
         Task::Commands(places) => commands_over(alloc, places, out, disk),
+        Task::AsOf { at } => as_of_over(alloc, at, input, out, disk, clock),
         Task::Provision(asked) => provision_over(alloc, asked, out, disk, clock),
         Task::Sample { seed, size } => (print_sample(alloc, *seed, *size, out), disk),
     }
