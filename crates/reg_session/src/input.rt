@@ -22,13 +22,13 @@ use reg_service::Service;
 use std::alloc::Global;
 
 /// How many bytes of input a session takes at most.
-const LIMIT: u64 = 1 << 32;
+pub const LIMIT: u64 = 1 << 32;
 
 /// How many bytes are read at a time.
-const PIECE: usize = 4096;
+pub const PIECE: usize = 4096;
 
 /// Reads a piece of input, once so many bytes are taken: as many more as a session takes, at most.
-fn read_some<S: Source>(input: &mut S, buf: &mut [u8], taken: u64) -> Result<usize, Stop>
+pub fn read_some<S: Source>(input: &mut S, buf: &mut [u8], taken: u64) -> Result<usize, Stop>
     requires fits { PIECE ≤ length buf.old }
     requires some { taken < LIMIT }
     ensures within { IfOk result (λ n. taken + n ≤ LIMIT) }
@@ -48,7 +48,8 @@ fn read_some<S: Source>(input: &mut S, buf: &mut [u8], taken: u64) -> Result<usi
     }
 }
 
-fn flush<K: Sink>(out: &mut K) -> Result<(), Stop>
+/// Hands on what was written so far. `Stop::Output` comes only where the output failed.
+pub fn flush<K: Sink>(out: &mut K) -> Result<(), Stop>
     ensures same { K.written out.new ≡ K.written out.old }
     ensures flushed { OnOk result (K.flushed out.new ≡ option_map length (K.written out.new)) }
     ensures count { K.write_faults out.old ≤ K.write_faults out.new }
@@ -64,7 +65,7 @@ fn flush<K: Sink>(out: &mut K) -> Result<(), Stop>
 
 /// Flushes where the input stops a session, and says why it stopped: for that, or since the flush
 /// failed.
-fn stop_flushed<K: Sink>(out: &mut K, why: Stop) -> Stop
+pub fn stop_flushed<K: Sink>(out: &mut K, why: Stop) -> Stop
     ensures same { K.written out.new ≡ K.written out.old }
     ensures why { FlushesFor why result (K.written out.new) (K.flushed out.new)
         (K.write_faults out.old) (K.write_faults out.new) }

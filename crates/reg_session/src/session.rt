@@ -25,7 +25,8 @@ use reg_service::{Next, Service};
 use reg_terms::Reply;
 use std::alloc::{AllocError, Global};
 
-const LINE_FEED: u8 = 10;
+/// The byte that ends a line.
+pub const LINE_FEED: u8 = 10;
 
 /// The text of a reply, and LF.
 pub fn reply_line(alloc: Global, reply: &Reply) -> Result<Vec<u8>, AllocError>
@@ -68,8 +69,9 @@ fn write_unprinted<K: Sink>(reply: &Reply, out: &mut K) -> Result<(), Stop>
     }
 }
 
-/// Writes a reply, or what stands for it where there is no memory to print it.
-fn write_line<K: Sink>(alloc: Global, reply: &Reply, out: &mut K) -> Result<(), Stop>
+/// Writes a reply, or what stands for it where there is no memory to print it. `Stop::Memory` comes
+/// only for an accepted command's reply, and `Stop::Output` only where the output failed.
+pub fn write_line<K: Sink>(alloc: Global, reply: &Reply, out: &mut K) -> Result<(), Stop>
     ensures written { WritesReply reply.now (K.written out.old) (K.written out.new) result }
     ensures count { K.write_faults out.old ≤ K.write_faults out.new }
     ensures output { IfErr result (λ e. e ≡ Stop.Output
@@ -167,7 +169,7 @@ pub fn answer_line<J: Keeper, K: Sink, C: Clock>(
 }
 
 /// How many bytes stand before the first LF.
-fn line_end(bytes: &[u8]) -> usize
+pub fn line_end(bytes: &[u8]) -> usize
     ensures within { result ≤ length bytes.now }
     ensures before { All (λ b. b ≢ LINE_FEED) (take result bytes.now) }
     ensures there { result < length bytes.now → slice_index bytes.now result ≡ LINE_FEED }
