@@ -10,8 +10,9 @@ ghost use Rattle.reg_asof.specs.Told.{Told, ToldInPart};
 
 use crate::earlier::Earlier;
 use reg_outside::{Sink, Source};
-use reg_session::{LIMIT, PIECE, PendingLine, Stop};
-use reg_session::{flush, line_end, read_some, stop_flushed, write_line};
+use reg_session::{
+    LIMIT, PIECE, PendingLine, Stop, flush, line_end, read_some, stop_flushed, write_line,
+};
 use std::alloc::Global;
 
 /// Answers a line, unless it is skipped.
@@ -148,7 +149,9 @@ pub fn answer_input<S: Source, K: Sink>(
             }
         };
         if count == 0 {
-            return finish(alloc, earlier, &line, out);
+            let last = finish(alloc, earlier, &line, out);
+            drop(line);
+            return last;
         }
         line = feed(alloc, earlier, line, &buf[..count], out)?;
         taken += count as u64;

@@ -23,10 +23,10 @@ fn acts_by(alloc: Global, payload: &[u8], at: Moment) -> Result<bool, AllocError
 {
     match decode(alloc, payload)? {
         Some(stamped) => {
-            let is_by = is_by(&stamped, at);
+            let acts = is_by(&stamped, at);
             // By a call: dropped in place it would be taken apart by its kinds.
             drop(stamped);
-            Ok(is_by)
+            Ok(acts)
         }
         None => Ok(true),
     }
