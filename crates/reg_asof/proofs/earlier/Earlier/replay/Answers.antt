@@ -1,0 +1,1 @@
+use Rattle.reg_asof.proofs.earlier.Earlier.replay.Goals as goal
