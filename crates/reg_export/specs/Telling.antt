@@ -1,5 +1,6 @@
 -- What the object of a line tells: the request that asked for the command, once the members that no
--- request has are taken away; and the command with its number, its place, its moment and its caller.
+-- request has are taken away; and the command with its number, its place, its moment and its
+-- caller.
 use Rattle.std.specs.Prelude.{◌≡◌, ◌⊎◌, ℕ, List, [], ◌∷◌, true, false, Option, None, Some, Result}
 use Rattle.std.specs.Prelude.{Ok, Err, codes, if◌then◌else◌, ok_or, option_and_then, option_map}
 use Rattle.std.specs.Str.{bytes_eq}

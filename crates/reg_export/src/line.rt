@@ -49,7 +49,8 @@ fn line_members(
     made: Option<u64>,
     stamped: &Stamped,
 ) -> Result<Map<String, Value>, AllocError>
-    ensures { IfOk result (λ ms. members_view ms.entries ≡ line_members number place made stamped.now) }
+    ensures { IfOk result (λ ms. members_view ms.entries
+        ≡ line_members number place made stamped.now) }
 {
     let mut members = request_members(alloc, &stamped.by, &stamped.command)?;
     put_id(alloc, &mut members, made)?;

@@ -154,8 +154,8 @@ pub record NoFault (before after : World) : Type 0 where
   pub disk : Rose before.faults after.faults → ⊥
 
 -- Status 9, exactly: where as many bytes were taken as a run takes at the most, and so before the
--- end of the input was found, and where no call failed. Without a fault and want of memory it comes wherever so many were
--- taken, and so wherever the input has so many.
+-- end of the input was found, and where no call failed. Without a fault and want of memory it comes
+-- wherever so many were taken, and so wherever the input has so many.
 pub record TooMuchExactly (end : End) (taken : List ℕ) (before after : World) : Type 0 where
   pub only : end ≡ the_end.TooMuch → (length taken ≡ 2 ^ 32) × SameFaults before after
   pub where_taken : NoFault before after → length taken ≡ 2 ^ 32
@@ -300,7 +300,8 @@ Did d (task.Load job) end before after =
     OverJournal d (DidLoad d job end before after) end before after
 Did d (task.Commands places) end before after =
     OverJournal d (DidCommands d places end before after) end before after
-Did d (task.AsOf at) end before after = OverJournal d (DidAsOf d at end before after) end before after
+Did d (task.AsOf at) end before after =
+    OverJournal d (DidAsOf d at end before after) end before after
 Did d (task.Provision asked) end before after =
     OverJournal d (DidProvision d asked end before after) end before after
 Did d (task.Sample seed size) end before after = DidSample d seed size end before after

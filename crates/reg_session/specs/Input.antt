@@ -58,8 +58,8 @@ StopsLastKeepingUp g before old line from to failed why keeper =
 abbrev pub IsAllFlushed : Option (List ℕ) → Option ℕ → Type 0
 IsAllFlushed written flushed = flushed ≡ option_map length written
 
--- a session that stops for this flushed, and so it did, with the output's count of faults as it was;
--- or the flush failed, and it stopped for that
+-- a session that stops for this flushed, and so it did, with the output's count of faults as it
+-- was; or the flush failed, and it stopped for that
 abbrev pub FlushesFor : (why stopped : Stop) → Option (List ℕ) → Option ℕ → (before after : ℕ)
     → Type 0
 FlushesFor why stopped written flushed before after =
