@@ -1,8 +1,7 @@
 -- The records up to a moment give the history up to it.
-use Rattle.std.proofs.Common.{◌≡◌, ◌≤◌, ◌<◌, ◌++◌, ◌∷◌, [], List, ℕ, Bool, Option, Some, None, Result, Ok, Err, true, false, refl, ap, sym, ◌∙◌, arith, subst, append-nil, take-append-drop, take, drop, cond}
+use Rattle.std.proofs.Common.{◌≡◌, ◌≤◌, ◌<◌, ◌++◌, ◌∷◌, [], List, ℕ, Bool, Option, Some, None, Result, Ok, Err, true, false, refl, ap, sym, ◌∙◌, arith, subst, append_assoc, append-nil, cond}
 use Rattle.std.specs.Prelude.{nat_le, nat_lt, if◌then◌else◌}
 use Rattle.std.specs.List.{take_while}
-use Rattle.std.proofs.lemmas.Bool.{le-leb}
 use Rattle.std.proofs.lemmas.Bool.Decides.{nat_tests}
 use Rattle.std.proofs.lemmas.List.Elements.{filter-append}
 use Rattle.std.proofs.lemmas.List.Sums.{take_while-cons}
@@ -12,7 +11,7 @@ use Rattle.reg_machine.specs.History.{State, appended, start, up_to}
 use Rattle.reg_machine.specs.Refusals.{refusal}
 use Rattle.reg_wire.specs.Payload.{stamped_of}
 use Rattle.reg_service.specs.Opening.{accepted, after_stamped, after_payload, or_place, and_then, judged}
-use Rattle.reg_service.proofs.Opens.{Records, judged_append}
+use Rattle.reg_service.proofs.Opens.{Records}
 use Rattle.reg_asof.specs.Then.{acts_by, is_by, state_at}
 
 -- a payload was taken: its command is at the end of the history, at the clock, which didn't fall
@@ -87,62 +86,76 @@ none_more t s z (r ∷ rs) past e =
     let rest = none_more t first.after z rs (omega (arith, past, one.later, one.clock)) first.rest in
     rest ∙ (rw one.grown (up_to_past t s.history one.one (past_not one.one.at t (omega (arith, past, one.later)))))
 
-abbrev front : ℕ → Records → Records
+abbrev pub front : ℕ → Records → Records
 front t records = take_while (is_by t) records
 
 front_is : (t : ℕ) (r : ℕ × List ℕ) (rs : Records) (b : Bool) → is_by t r ≡ b → front t (r ∷ rs) ≡ cond b (r ∷ front t rs) []
-front_is t r rs b e = rw e at (take_while-cons (is_by t) r rs)
+front_is t r rs b e = take_while-cons (is_by t) r rs ∙ ap (λ (x : Bool). cond x (r ∷ front t rs) []) e
+
+-- one record more of those up to the moment
+pub front_more : (t : ℕ) (all so_far records rest more : Records) (r : ℕ × List ℕ) → front t all ≡ so_far ++ front t records → records ≡ r ∷ rest → is_by t r ≡ true → more ≡ so_far ++ r ∷ [] → front t all ≡ more ++ front t rest
+front_more t all so_far records rest more r is cut by grown =
+    let next : front t records ≡ r ∷ front t rest = ap (front t) cut ∙ front_is t r rest true by in
+    is ∙ (ap (λ (l : Records). so_far ++ l) next ∙ (sym (append_assoc so_far (r ∷ []) (front t rest)) ∙ ap (λ (l : Records). l ++ front t rest) (sym grown)))
 
 -- the clock after the records up to a moment isn't past it
 pub clock_by : (t : ℕ) (s m : State) (records : Records) → s.clock ≤ t → judged s (front t records) ≡ Ok m → m.clock ≤ t
 clock_by t s m [] by e = let is : s ≡ m = cc in rw is at by
-clock_by t s m (r ∷ rs) by e = cases (is_by t r) refl
-  where
-    cases : (b : Bool) → is_by t r ≡ b → m.clock ≤ t
-    cases false is = let at_once : judged s [] ≡ Ok m = rw (front_is t r rs false is) at e in let same : s ≡ m = cc in rw same at by
-    cases true is =
-        let first = first_judged s m r (front t rs) (rw (front_is t r rs true is) at e) in
-        let one = first.taken in
-        let early = by_is one.one.at t (acts_is t r.1 one.one true one.read is) in
-        clock_by t first.after m rs (omega (arith, one.clock, early)) first.rest
+clock_by t s m (r ∷ rs) by e =
+    elim (is_by t r) as (λ b. is_by t r ≡ b → m.clock ≤ t) [
+      | true ↦ λ is.
+          let first = first_judged s m r (front t rs) (rw (front_is t r rs true is) at e) in
+          let one = first.taken in
+          clock_by t first.after m rs (omega (arith, one.clock, by_is one.one.at t (acts_is t r.1 one.one true one.read is))) first.rest
+      | false ↦ λ is.
+          let at_once : judged s [] ≡ Ok m = rw (front_is t r rs false is) at e in
+          let same : s ≡ m = cc in
+          rw same at by
+    ] refl
+
+same_after : (s a b : State) (bytes : List ℕ) → after_payload s bytes ≡ Some a → after_payload s bytes ≡ Some b → b ≡ a
+same_after s a b bytes e f = cc
 
 -- and the history is what the whole history has up to the moment
-pub front_up_to : (t : ℕ) (s m z : State) (records : Records) → s.clock ≤ t → up_to t s.history ≡ s.history → judged s (front t records) ≡ Ok m → judged s records ≡ Ok z → m.history ≡ up_to t z.history
+front_up_to : (t : ℕ) (s m z : State) (records : Records) → s.clock ≤ t → up_to t s.history ≡ s.history → judged s (front t records) ≡ Ok m → judged s records ≡ Ok z → m.history ≡ up_to t z.history
 front_up_to t s m z [] by all e f = let one : s ≡ m = cc in let two : s ≡ z = cc in rw (← one, ← two) (sym all)
-front_up_to t s m z (r ∷ rs) by all e f = cases (is_by t r) refl
-  where
-    cases : (b : Bool) → is_by t r ≡ b → m.history ≡ up_to t z.history
-    cases false is =
-        let at_once : judged s [] ≡ Ok m = rw (front_is t r rs false is) at e in
-        let same : s ≡ m = cc in
-        let first = first_judged s z r rs f in
-        let one = first.taken in
-        let late = acts_is t r.1 one.one false one.read is in
-        let rest = none_more t first.after z rs (omega (arith, past_is one.one.at t late, one.clock)) first.rest in
-        sym (rest ∙ (rw one.grown (up_to_past t s.history one.one late) ∙ (all ∙ ap (λ (x : State). x.history) same)))
-    cases true is =
-        let first = first_judged s m r (front t rs) (rw (front_is t r rs true is) at e) in
-        let one = first.taken in
-        let other = first_judged s z r rs f in
-        let early = acts_is t r.1 one.one true one.read is in
-        let same : other.after ≡ first.after = same_after (after_payload s r.1) refl first.made other.made in
-        front_up_to t first.after m z rs (omega (arith, one.clock, by_is one.one.at t early)) (rw one.grown (up_to_more t s.history one.one early all)) first.rest (rw same at other.rest)
+front_up_to t s m z (r ∷ rs) by all e f =
+    elim (is_by t r) as (λ b. is_by t r ≡ b → m.history ≡ up_to t z.history) [
+      | true ↦ λ is.
+          let first = first_judged s m r (front t rs) (rw (front_is t r rs true is) at e) in
+          let one = first.taken in
+          let other = first_judged s z r rs f in
+          let early = acts_is t r.1 one.one true one.read is in
+          let same : other.after ≡ first.after = same_after s first.after other.after r.1 first.made other.made in
+          let rest : judged first.after rs ≡ Ok z = subst (λ (x : State). judged x rs ≡ Ok z) same other.rest in
+          let kept : up_to t first.after.history ≡ first.after.history = ap (up_to t) one.grown ∙ (up_to_more t s.history one.one early all ∙ sym one.grown) in
+          front_up_to t first.after m z rs (omega (arith, one.clock, by_is one.one.at t early)) kept first.rest rest
+      | false ↦ λ is.
+          let at_once : judged s [] ≡ Ok m = rw (front_is t r rs false is) at e in
+          let same : s ≡ m = cc in
+          let first = first_judged s z r rs f in
+          let one = first.taken in
+          let late = acts_is t r.1 one.one false one.read is in
+          let rest = none_more t first.after z rs (omega (arith, past_is one.one.at t late, one.clock)) first.rest in
+          sym (rest ∙ (ap (up_to t) one.grown ∙ (up_to_past t s.history one.one late ∙ (all ∙ ap (λ (x : State). x.history) same))))
+    ] refl
 
-    same_after : {a b : State} (o : Option State) → after_payload s r.1 ≡ o → after_payload s r.1 ≡ Some a → after_payload s r.1 ≡ Some b → b ≡ a
-    same_after o is e f = cc
+damaged_after : (r : ℕ × List ℕ) (place : ℕ) (o : Option State) (f g : State → Result State ℕ) → ((a : State) → f a ≡ Err place → g a ≡ Err place) → and_then (or_place r.0 o) f ≡ Err place → and_then (or_place r.0 o) g ≡ Err place
+damaged_after r place None f g h e = e
+damaged_after r place (Some a) f g h e = h a e
 
 -- damage up to the moment is damage of the whole
 pub front_damaged : (t : ℕ) (s : State) (place : ℕ) (records : Records) → judged s (front t records) ≡ Err place → judged s records ≡ Err place
 front_damaged t s place [] e = e
-front_damaged t s place (r ∷ rs) e = cases (is_by t r) refl
-  where
-    cases : (b : Bool) → is_by t r ≡ b → judged s (r ∷ rs) ≡ Err place
-    cases false is = let at_once : judged s [] ≡ Err place = rw (front_is t r rs false is) at e in absurd (cc)
-    cases true is = after (after_payload s r.1) (rw (front_is t r rs true is) at e)
-
-    after : (o : Option State) → and_then (or_place r.0 o) (λ a. judged a (front t rs)) ≡ Err place → and_then (or_place r.0 o) (λ a. judged a rs) ≡ Err place
-    after None e = e
-    after (Some a) e = front_damaged t a place rs e
+front_damaged t s place (r ∷ rs) e =
+    elim (is_by t r) as (λ b. is_by t r ≡ b → judged s (r ∷ rs) ≡ Err place) [
+      | true ↦ λ is.
+          let first : judged s (r ∷ front t rs) ≡ Err place = rw (front_is t r rs true is) at e in
+          damaged_after r place (after_payload s r.1) (λ a. judged a (front t rs)) (λ a. judged a rs) (λ a. front_damaged t a place rs) first
+      | false ↦ λ is.
+          let at_once : judged s [] ≡ Err place = rw (front_is t r rs false is) at e in
+          absurd (cc)
+    ] refl
 
 -- the registry after the records up to a moment, moved there, is the whole one's as it was then
 pub replayed : (t : ℕ) (m s : State) (records : Records) → judged start (front t records) ≡ Ok m → judged start records ≡ Ok s → record { history = m.history; clock = t } ≡ state_at s.history t

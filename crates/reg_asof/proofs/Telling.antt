@@ -1,22 +1,20 @@
 -- From line to line, and how answering ends.
-use Rattle.std.proofs.Common.{◌≡◌, ◌≢◌, ◌≤◌, ◌<◌, ◌^◌, ◌+◌, ◌++◌, ◌∷◌, [], List, ℕ, Option, Some, None, Result, Ok, Err, true, false, refl, ap, sym, ◌∙◌, append_assoc, append-nil, arith, length, length-append, take, drop, take-append-drop, map, inl, inr, ◌⊎◌, subst}
+use Rattle.std.proofs.Common.{◌≡◌, ◌≢◌, ◌≤◌, ◌<◌, ◌^◌, ◌+◌, ◌++◌, ◌∷◌, [], List, ℕ, Option, Some, None, Result, Ok, Err, true, false, refl, ap, sym, ◌∙◌, append_assoc, append-nil, arith, length, length-append, take, drop, map, inl, inr, ◌⊎◌, subst}
 use Rattle.std.specs.Prelude.{max, All, IfErr, OnErr, OnOk, slice_index}
 use Rattle.std.specs.Io.KnownBytes.{append_known, prepend_known, IsAtEnd}
 use Rattle.std.proofs.lemmas.List.{take_all, take_more, take-append-le}
-use Rattle.std.proofs.Math.Seq.{take-add}
-use Rattle.reg_outside.specs.Faults.{Rose}
+use Rattle.std.proofs.Math.Seq.{take-add, take-append-add}
 use Rattle.reg_outside.specs.Streams.{WritesFront}
 use Rattle.reg_terms.specs.declared.refusal.Refusal.{Refusal}
 use Rattle.reg_terms.specs.declared.request.Request.{Request}
 use Rattle.reg_terms.specs.declared.request.Op.{Op}
 use Rattle.reg_terms.specs.declared.request.Op.TheVariants as op
 use Rattle.reg_terms.specs.declared.reply.Reply.{Reply}
-use Rattle.reg_terms.specs.declared.reply.Reply.TheVariants as reply
 use Rattle.reg_machine.specs.History.{State}
 use Rattle.reg_json.specs.Reading.{reading_of}
 use Rattle.reg_service.specs.Turn.{AsksNoChange, IsQuery, at_moment, requested, turn}
-use Rattle.reg_session.specs.Input.{FlushesFor, IsAllFlushed, Takes}
-use Rattle.reg_session.specs.Lines.{ended_from, ended_lines, is_skipped, lines, lines_from, pending_from, readings}
+use Rattle.reg_session.specs.Input.{FlushesFor}
+use Rattle.reg_session.specs.Lines.{ended_from, ended_lines, is_skipped, lines_from, pending_from, readings}
 use Rattle.reg_session.specs.Pending.{Holds}
 use Rattle.reg_session.specs.Replies.{IsShown, WritesReply, is_accepted, line_of, lines_of}
 use Rattle.reg_session.specs.declared.pending.PendingLine.{PendingLine}
@@ -79,12 +77,8 @@ front_then : (a b c : Option (List ℕ)) (xs ys : List ℕ) → b ≡ append_kno
 front_then a b c xs ys e w = (
   length xs + w.0,
   omega (arith, length-append xs ys, w.1),
-  w.2 ∙ (ap (λ (o : Option (List ℕ)). append_known o (take w.0 ys)) e ∙ (append_more a xs (take w.0 ys) ∙ ap (append_known a) (sym (take_past xs ys w.0)))),
+  w.2 ∙ (ap (λ (o : Option (List ℕ)). append_known o (take w.0 ys)) e ∙ (append_more a xs (take w.0 ys) ∙ ap (append_known a) (sym (take-append-add xs ys w.0)))),
 )
-  where
-    take_past : (xs ys : List ℕ) (n : ℕ) → take (length xs + n) (xs ++ ys) ≡ xs ++ take n ys
-    take_past [] ys n = refl
-    take_past (x ∷ xs) ys n = ap (λ (l : List ℕ). x ∷ l) (take_past xs ys n)
 
 -- a front of bytes before others
 front_wider : (a b : Option (List ℕ)) (xs ys : List ℕ) → WritesFront a b xs → WritesFront a b (xs ++ ys)

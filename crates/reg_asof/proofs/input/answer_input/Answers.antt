@@ -1,6 +1,6 @@
 use Rattle.std.proofs.Common.{arith, rules, refl, inl, inr}
 use Rattle.std.proofs.lemmas.List.{length-take-le}
-use Rattle.reg_session.proofs.Halting.{err_by, err_one}
+use Rattle.reg_session.proofs.Halting.{err_by}
 use Rattle.reg_session.proofs.Reading.{early_input, early_output}
 use Rattle.reg_asof.specs.Ends.{StopsTelling}
 use Rattle.reg_asof.proofs.Telling.{ok_so, err_so, has_none, has_more, tells_all, stops_early, stops_last, stops_piece}
@@ -42,7 +42,7 @@ returns-then-count-eq0-clause-stopped g c =
 pub returns-in_err-line-clause-stopped : goal.returns-in_err-line-clause-stopped
 returns-in_err-line-clause-stopped g c =
     err_by (λ why. StopsTelling c.args.earlier.now (g.S.Source.left c.args.input.now) (g.S.Source.left c.read_some.new.input) (g.K.Sink.written c.args.out.now) (g.K.Sink.written c.feed.new.out) (g.K.Sink.flushed c.feed.new.out) why)
-    c.from_residual.result c.in_err-line.field-0 c.from_residual.ensures.1
+    c.from_residual.result c.in_err-line.field-0.0 c.from_residual.ensures.1
     (stops_piece c.args.earlier.now _ _ _ _ _ _ _ _ _ _ _ _ c.loop-taken.invariant.done c.loop-taken.invariant.held (omega (arith, c.in-Ok.ensures.within, length-take-le _ _ c.in-Ok.ensures.filled)) c.in-Ok.ensures.bytes c.in_err-line.ensures.output.0
     c.in_err-line.ensures.part)
 
