@@ -43,12 +43,14 @@ def least(words, folder):
 
 
 def compare(folder, count):
-    """Ends the program where a line isn't the request's with its number, moment and caller."""
+    """Ends the program where a line isn't the request's with its number, moment, caller and a later place."""
+    place = 0
     with open(os.path.join(folder, "out"), "rb") as lines:
         for number, request in enumerate(requests(count), 1):
             line = json.loads(lines.readline())
             line.pop("at")
-            if line != {**request, "by": SYSTEM, "number": number}:
+            before, place = place, line.pop("place")
+            if place <= before or line != {**request, "by": SYSTEM, "number": number}:
                 sys.exit("commands.py: wanted %s, found %s" % (request, line))
         if lines.readline():
             sys.exit("commands.py: there are more lines than commands")

@@ -9,10 +9,10 @@ use Rattle.reg_outside.specs.Faults.{Rose}
 use Rattle.reg_outside.specs.Streams.{WritesFront}
 use Rattle.reg_terms.specs.declared.command.Stamped.{Stamped}
 use Rattle.reg_wire.specs.Payload.{stamped_of}
-use Rattle.reg_export.specs.Listing.{Progress, beginning, is_asked, line_at, listed, listing, made_after, nothing_made, with_command}
+use Rattle.reg_export.specs.Listing.{Progress, Row, beginning, counted, is_asked, line_at, listed, listing, made_after, made_by, nothing_made, with_command}
 use Rattle.reg_export.specs.declared.counts.Counts.{Counts}
 use Rattle.reg_words.specs.declared.task.Places.{Places}
-use Rattle.reg_run.specs.Listing.{AreRead, HandsOn, Lists, due_lines}
+use Rattle.reg_run.specs.Listing.{AreRead, HandsOn, Lists, at_places, counted_lines}
 use Rattle.reg_run.specs.Once.{Put}
 use Rattle.reg_run.specs.World.{Out}
 use Rattle.reg_run.specs.declared.status.End.{End}
@@ -56,36 +56,45 @@ front_behind done lines rest bytes old mid new wrote (n, few, more) whole =
 
 -- ---- a listing
 
--- It went over the commands before those of these records. Their lines were written, but for those
--- that it holds.
-pub record SoFar (from to : ℕ) (history : List Stamped) (old now : Option (List ℕ)) (p : Progress) (records : Records) : Type 0 where
+-- the lines of the commands of some records, behind those of this many, which made so much
+abbrev pub left : Progress → Records → List Stamped → List ℕ
+left p records rest = listed p.from p.to (p.number + 1) (counted p.counts (at_places records rest))
+
+-- the lines of the commands of all records
+abbrev pub all_lines : Places → Records → List Stamped → List ℕ
+all_lines places all history = listing places.from places.to (counted nothing_made (at_places all history))
+
+-- It went over the commands before those of these records. Their lines, which are a front of those
+-- that are due, were written, but for those that it holds.
+pub record SoFar (places : Places) (due : List ℕ) (old now : Option (List ℕ)) (p : Progress) (records : Records) : Type 0 where
   pub rest : List Stamped
   pub read : AreRead records rest
   pub done : List ℕ
   pub written : now ≡ append_known old done
-  pub first : p.from ≡ from
-  pub last : p.to ≡ to
-  pub whole : done ++ (p.lines ++ listed p.from p.to (p.place + 1) p.counts rest) ≡ listing from to history
+  pub first : p.from ≡ places.from
+  pub last : p.to ≡ places.to
+  pub whole : done ++ (p.lines ++ left p records rest) ≡ due
 
 -- at first nothing
-pub nothing_yet : (from to : ℕ) (history : List Stamped) (w : Option (List ℕ)) (p : Progress) (records : Records) → p ≡ beginning from to → AreRead records history → SoFar from to history w w p records
-nothing_yet from to history w p records begins read =
-    subst (λ (x : Progress). SoFar from to history w w x records) (sym begins) (record { rest = history; read = read; done = []; written = append_none w; first = refl; last = refl; whole = refl })
+pub nothing_yet : (places : Places) (history : List Stamped) (w : Option (List ℕ)) (p : Progress) (records : Records) → p ≡ beginning places.from places.to → AreRead records history → SoFar places (all_lines places records history) w w p records
+nothing_yet places history w p records begins read =
+    subst (λ (x : Progress). SoFar places (all_lines places records history) w w x records) (sym begins) (record { rest = history; read = read; done = []; written = append_none w; first = refl; last = refl; whole = refl })
 
 -- the records that are left
-pub left_over : (from to : ℕ) (history : List Stamped) (old now : Option (List ℕ)) (p : Progress) (records others : Records) → records ≡ others → SoFar from to history old now p records → SoFar from to history old now p others
-left_over from to history old now p records others same so = subst (λ (rs : Records). SoFar from to history old now p rs) same so
+pub left_over : (places : Places) (due : List ℕ) (old now : Option (List ℕ)) (p : Progress) (records others : Records) → records ≡ others → SoFar places due old now p records → SoFar places due old now p others
+left_over places due old now p records others same so = subst (λ (rs : Records). SoFar places due old now p rs) same so
 
 -- one command more
-pub one_further : (from to : ℕ) (history : List Stamped) (old now : Option (List ℕ)) (p q : Progress) (r : ℕ × List ℕ) (records : Records) → SoFar from to history old now p (r ∷ records)
-    → ((s : Stamped) → stamped_of r.1 ≡ Some s → q ≡ with_command p s) → SoFar from to history old now q records
-one_further from to history old now p q r records so step = by_rest so.rest so.read so.whole
+pub one_further : (places : Places) (due : List ℕ) (old now : Option (List ℕ)) (p q : Progress) (r : ℕ × List ℕ) (records : Records) → SoFar places due old now p (r ∷ records)
+    → ((s : Stamped) → stamped_of r.1 ≡ Some s → q ≡ with_command p r.0 s) → SoFar places due old now q records
+one_further places due old now p q r records so step = by_rest so.rest so.read so.whole
   where
-    by_rest : (rest : List Stamped) → AreRead (r ∷ records) rest → so.done ++ (p.lines ++ listed p.from p.to (p.place + 1) p.counts rest) ≡ listing from to history → SoFar from to history old now q records
+    by_rest : (rest : List Stamped) → AreRead (r ∷ records) rest → so.done ++ (p.lines ++ left p (r ∷ records) rest) ≡ due → SoFar places due old now q records
     by_rest [] read whole = elim read [ ]
     by_rest (s ∷ rest) read whole =
-        let lines = append_assoc p.lines (line_at p.from p.to (p.place + 1) p.counts s) (listed p.from p.to (p.place + 1 + 1) (made_after p.counts s.command) rest) in
-        subst (λ (x : Progress). SoFar from to history old now x records) (sym (step s read.0)) (record {
+        let row : Row = record { place = r.0; made = made_by p.counts s.command; stamped = s } in
+        let lines = append_assoc p.lines (line_at p.from p.to (p.number + 1) row) (left (with_command p r.0 s) records rest) in
+        subst (λ (x : Progress). SoFar places due old now x records) (sym (step s read.0)) (record {
           rest = rest;
           read = read.1;
           done = so.done;
@@ -96,57 +105,53 @@ one_further from to history old now p q r records so step = by_rest so.rest so.r
         })
 
 -- the lines were handed on, or not
-pub handed : (from to : ℕ) (history : List Stamped) (old mid new : Option (List ℕ)) (p q : Progress) (records : Records) → SoFar from to history old mid p records → HandsOn mid p new q → SoFar from to history old new q records
-handed from to history old mid new p q records so (inl e) =
-    subst (λ (x : Option (List ℕ)). SoFar from to history old x q records) (sym e.0) (subst (λ (x : Progress). SoFar from to history old mid x records) (sym e.1) so)
-handed from to history old mid new p q records so (inr e) = subst (λ (x : Progress). SoFar from to history old new x records) (sym e.1) (record {
+pub handed : (places : Places) (due : List ℕ) (old mid new : Option (List ℕ)) (p q : Progress) (records : Records) → SoFar places due old mid p records → HandsOn mid p new q → SoFar places due old new q records
+handed places due old mid new p q records so (inl e) =
+    subst (λ (x : Option (List ℕ)). SoFar places due old x q records) (sym e.0) (subst (λ (x : Progress). SoFar places due old mid x records) (sym e.1) so)
+handed places due old mid new p q records so (inr e) = subst (λ (x : Progress). SoFar places due old new x records) (sym e.1) (record {
   rest = so.rest;
   read = so.read;
   done = so.done ++ p.lines;
   written = more_written so.done p.lines old mid new so.written e.0;
   first = so.first;
   last = so.last;
-  whole = append_assoc so.done p.lines (listed p.from p.to (p.place + 1) p.counts so.rest) ∙ so.whole;
+  whole = append_assoc so.done p.lines (left p records so.rest) ∙ so.whole;
 })
 
-not_asked : (from to place : ℕ) → to < place → is_asked from to place ≡ false
-not_asked from to place behind = either (nat_le from place) (nat_le place to) refl
+not_asked : (from to number : ℕ) → to < number → is_asked from to number ≡ false
+not_asked from to number behind = either (nat_le from number) (nat_le number to) refl
   where
-    either : (a b : Bool) → nat_le place to ≡ b → (a && b) ≡ false
-    either true true is = absurd (omega (arith, leb-true place to is, behind))
+    either : (a b : Bool) → nat_le number to ≡ b → (a && b) ≡ false
+    either true true is = absurd (omega (arith, leb-true number to is, behind))
     either true false is = refl
     either false b is = refl
 
--- behind the last place there is no line
-past_last : (from to place : ℕ) (n : Counts) (ss : List Stamped) → to < place → listed from to place n ss ≡ []
-past_last from to place n [] behind = refl
-past_last from to place n (s ∷ ss) behind = rw (not_asked from to place behind) (past_last from to (place + 1) (made_after n s.command) ss (omega (arith, behind)))
+-- behind the last number there is no line
+past_last : (from to number : ℕ) (rows : List Row) → to < number → listed from to number rows ≡ []
+past_last from to number [] behind = refl
+past_last from to number (row ∷ rows) behind = rw (not_asked from to number behind) (past_last from to (number + 1) rows (omega (arith, behind)))
 
-all_gone : (p : Progress) (records : Records) (rest : List Stamped) → AreRead records rest → (records ≡ []) ⊎ (p.to ≤ p.place) → listed p.from p.to (p.place + 1) p.counts rest ≡ []
-all_gone p records rest read (inl none) = no_more rest (subst (λ (x : Records). AreRead x rest) none read)
-  where
-    no_more : (rest : List Stamped) → AreRead [] rest → listed p.from p.to (p.place + 1) p.counts rest ≡ []
-    no_more [] read = refl
-    no_more (s ∷ ss) read = elim read [ ]
-all_gone p records rest read (inr over) = past_last p.from p.to (p.place + 1) p.counts rest (omega (arith, over))
+all_gone : (p : Progress) (records : Records) (rest : List Stamped) → (records ≡ []) ⊎ (p.to ≤ p.number) → left p records rest ≡ []
+all_gone p records rest (inl none) = subst (λ (x : Records). left p x rest ≡ []) (sym none) refl
+all_gone p records rest (inr over) = past_last p.from p.to (p.number + 1) (counted p.counts (at_places records rest)) (omega (arith, over))
 
 -- ---- how printing ends
 
--- what is true of a history's lines, where they are known
-due_of : (P : List ℕ → Type 0) {A : Type 0} (places : Places) (held : Option (List ℕ)) (history : List Stamped) → IfSome held (λ file. A) → (A → P (listing places.from places.to history)) → IfSome (due_lines places held history) P
-due_of P places None history a each = tt
-due_of P places (Some file) history a each = each a
+-- what is true of the lines, where they are known
+due_of : (P : List ℕ → Type 0) {A : Type 0} (places : Places) (held : Option (List ℕ)) (all : Records) (history : List Stamped) → IfSome held (λ file. A) → (A → P (all_lines places all history)) → IfSome (counted_lines places held all history) P
+due_of P places None all history a each = tt
+due_of P places (Some file) all history a each = each a
 
 -- a front of the lines, where a listing stands so
-so_far_front : (from to : ℕ) (history : List Stamped) (old now : Option (List ℕ)) (p : Progress) (records : Records) → SoFar from to history old now p records → WritesFront old now (listing from to history)
-so_far_front from to history old now p records so = front_written so.done (p.lines ++ listed p.from p.to (p.place + 1) p.counts so.rest) (listing from to history) old now so.written so.whole
+so_far_front : (places : Places) (due : List ℕ) (old now : Option (List ℕ)) (p : Progress) (records : Records) → SoFar places due old now p records → WritesFront old now due
+so_far_front places due old now p records so = front_written so.done (p.lines ++ left p records so.rest) due old now so.written so.whole
 
-so_far_behind : (from to : ℕ) (history : List Stamped) (old mid new : Option (List ℕ)) (p : Progress) (records : Records) → SoFar from to history old mid p records → WritesFront mid new p.lines → WritesFront old new (listing from to history)
-so_far_behind from to history old mid new p records so front = front_behind so.done p.lines (listed p.from p.to (p.place + 1) p.counts so.rest) (listing from to history) old mid new so.written front so.whole
+so_far_behind : (places : Places) (due : List ℕ) (old mid new : Option (List ℕ)) (p : Progress) (records : Records) → SoFar places due old mid p records → WritesFront mid new p.lines → WritesFront old new due
+so_far_behind places due old mid new p records so front = front_behind so.done p.lines (left p records so.rest) due old mid new so.written front so.whole
 
 -- a record is read as a command
-not_none : (from to : ℕ) (history : List Stamped) (old now : Option (List ℕ)) (p : Progress) (r : ℕ × List ℕ) (records : Records) → SoFar from to history old now p (r ∷ records) → stamped_of r.1 ≡ None → ⊥
-not_none from to history old now p r records so none = by_rest so.rest so.read
+not_none : (places : Places) (due : List ℕ) (old now : Option (List ℕ)) (p : Progress) (r : ℕ × List ℕ) (records : Records) → SoFar places due old now p (r ∷ records) → stamped_of r.1 ≡ None → ⊥
+not_none places due old now p r records so none = by_rest so.rest so.read
   where
     by_rest : (rest : List Stamped) → AreRead (r ∷ records) rest → ⊥
     by_rest [] read = read
@@ -154,34 +159,34 @@ not_none from to history old now p r records so none = by_rest so.rest so.read
 
 -- there was no memory for a line, or a record was no command
 pub stopped_at : (places : Places) (held : Option (List ℕ)) (history : List Stamped) (all : Records) (old new : Out) (p : Progress) (at : ℕ) (r : ℕ × List ℕ) (records : Records) (e : End) → IfSome held (λ file. AreRead all history)
-    → (AreRead all history → SoFar places.from places.to history old.written new.written p (r ∷ records)) → new.flushed ≡ old.flushed → (e ≡ the_end.Memory) ⊎ ((e ≡ the_end.Damaged at) × (stamped_of r.1 ≡ None))
-    → Lists (due_lines places held history) e old new
+    → (AreRead all history → SoFar places (all_lines places all history) old.written new.written p (r ∷ records)) → new.flushed ≡ old.flushed → (e ≡ the_end.Memory) ⊎ ((e ≡ the_end.Damaged at) × (stamped_of r.1 ≡ None))
+    → Lists (counted_lines places held all history) e old new
 stopped_at places held history all old new p at r records e read so flushed (inl memory) =
-    subst (λ (x : End). Lists (due_lines places held history) x old new) (sym memory)
-    (due_of (WritesFront old.written new.written) places held history read (λ are. so_far_front places.from places.to history old.written new.written p (r ∷ records) (so are)), flushed)
+    subst (λ (x : End). Lists (counted_lines places held all history) x old new) (sym memory)
+    (due_of (WritesFront old.written new.written) places held all history read (λ are. so_far_front places (all_lines places all history) old.written new.written p (r ∷ records) (so are)), flushed)
 stopped_at places held history all old new p at r records e read so flushed (inr damaged) =
-    subst (λ (x : End). Lists (due_lines places held history) x old new) (sym damaged.0)
-    (due_of (λ bytes. ⊥) places held history read (λ are. not_none places.from places.to history old.written new.written p r records (so are) damaged.1), flushed)
+    subst (λ (x : End). Lists (counted_lines places held all history) x old new) (sym damaged.0)
+    (due_of (λ bytes. ⊥) places held all history read (λ are. not_none places (all_lines places all history) old.written new.written p r records (so are) damaged.1), flushed)
 
 -- the output failed
 pub broke_at : (places : Places) (held : Option (List ℕ)) (history : List Stamped) (all : Records) (old new : Out) (mid : Option (List ℕ)) (p : Progress) (records : Records) (e : End) → IfSome held (λ file. AreRead all history)
-    → (AreRead all history → SoFar places.from places.to history old.written mid p records) → WritesFront mid new.written p.lines → new.flushed ≡ old.flushed → e ≡ the_end.Output → Rose old.writes new.writes
-    → Lists (due_lines places held history) e old new
+    → (AreRead all history → SoFar places (all_lines places all history) old.written mid p records) → WritesFront mid new.written p.lines → new.flushed ≡ old.flushed → e ≡ the_end.Output → Rose old.writes new.writes
+    → Lists (counted_lines places held all history) e old new
 broke_at places held history all old new mid p records e read so front flushed is rose =
-    subst (λ (x : End). Lists (due_lines places held history) x old new) (sym is)
-    (rose, due_of (WritesFront old.written new.written) places held history read (λ are. so_far_behind places.from places.to history old.written mid new.written p records (so are) front), flushed)
+    subst (λ (x : End). Lists (counted_lines places held all history) x old new) (sym is)
+    (rose, due_of (WritesFront old.written new.written) places held all history read (λ are. so_far_behind places (all_lines places all history) old.written mid new.written p records (so are) front), flushed)
 
 -- the last lines were printed, or the output failed
 pub last_printed : (places : Places) (held : Option (List ℕ)) (history : List Stamped) (all : Records) (old mid new : Out) (p : Progress) (records : Records) (e : End) → IfSome held (λ file. AreRead all history)
-    → (AreRead all history → SoFar places.from places.to history old.written mid.written p records) → (records ≡ []) ⊎ (p.to ≤ p.place) → mid.flushed ≡ old.flushed → old.writes ≤ mid.writes → Put the_end.Done p.lines e mid new
-    → Lists (due_lines places held history) e old new
+    → (AreRead all history → SoFar places (all_lines places all history) old.written mid.written p records) → (records ≡ []) ⊎ (p.to ≤ p.number) → mid.flushed ≡ old.flushed → old.writes ≤ mid.writes → Put the_end.Done p.lines e mid new
+    → Lists (counted_lines places held all history) e old new
 last_printed places held history all old mid new p records e read so gone flushed later (inl put) =
-    subst (λ (x : End). Lists (due_lines places held history) x old new) (sym put.0) (due_of (λ bytes. new.written ≡ append_known old.written bytes) places held history read (λ are. written (so are)), put.2)
+    subst (λ (x : End). Lists (counted_lines places held all history) x old new) (sym put.0) (due_of (λ bytes. new.written ≡ append_known old.written bytes) places held all history read (λ are. written (so are)), put.2)
   where
-    written : SoFar places.from places.to history old.written mid.written p records → new.written ≡ append_known old.written (listing places.from places.to history)
+    written : SoFar places (all_lines places all history) old.written mid.written p records → new.written ≡ append_known old.written (all_lines places all history)
     written s =
-        let none = all_gone p records s.rest s.read gone in
-        let lines : s.done ++ p.lines ≡ listing places.from places.to history = ap (λ (l : List ℕ). s.done ++ l) (sym (append-nil p.lines) ∙ ap (λ (l : List ℕ). p.lines ++ l) (sym none)) ∙ s.whole in
+        let none = all_gone p records s.rest gone in
+        let lines : s.done ++ p.lines ≡ all_lines places all history = ap (λ (l : List ℕ). s.done ++ l) (sym (append-nil p.lines) ∙ ap (λ (l : List ℕ). p.lines ++ l) (sym none)) ∙ s.whole in
         more_written s.done p.lines old.written mid.written new.written s.written put.1 ∙ ap (append_known old.written) lines
 last_printed places held history all old mid new p records e read so gone flushed later (inr put) =
     broke_at places held history all old new mid.written p records e read so put.2 (put.3 ∙ flushed) put.0 (omega (arith, later, put.1))

@@ -17,7 +17,8 @@ use Rattle.reg_service.specs.Opening.{accepted, after_payload, after_stamped, an
 use Rattle.reg_words.specs.declared.task.Places.{Places}
 use Rattle.reg_run.specs.Crash.{AsBefore, DiskSurvives, IsSound, OpensTo, OpensWith, Survives, seen}
 use Rattle.reg_run.specs.Ends.{end_of_open}
-use Rattle.reg_run.specs.Listing.{AreRead, PrintsLines, due_lines}
+use Rattle.reg_run.specs.Listing.{AreRead, Lists, PrintsLines, counted_lines, due_lines, placed}
+use Rattle.reg_export.specs.Listing.{counted, listing, nothing_made}
 use Rattle.reg_run.specs.World.{Out}
 use Rattle.reg_run.specs.declared.status.End.{End}
 use Rattle.reg_run.specs.declared.status.End.TheVariants as the_end
@@ -75,6 +76,14 @@ are_read t records is = let adds = judged_adds start t records is in subst (λ (
 pub reread : (held : Option (List ℕ)) (records : Records) (from : State) → OpensTo held (Ok from) → IfSome held (λ file. opened file ≡ Ok records) → IfSome held (λ file. AreRead records from.history)
 reread None records from opens_to opened_as = tt
 reread (Some file) records from opens_to opened_as = are_read from records (ap judged_all (sym opened_as) ∙ opens_to)
+
+-- the lines by these records are those that are due
+same_lines : (places : Places) (held : Option (List ℕ)) (records : Records) (history : List Stamped) → IfSome held (λ file. opened file ≡ Ok records) → counted_lines places held records history ≡ due_lines places held history
+same_lines places None records history is = refl
+same_lines places (Some file) records history is = ap (λ (rs : Result Records ℕ). Some (listing places.from places.to (counted nothing_made (placed rs history)))) (sym is)
+
+pub prints_due : (places : Places) (held : Option (List ℕ)) (records : Records) (history : List Stamped) (end : End) (old new : Out) → IfSome held (λ file. opened file ≡ Ok records) → Lists (counted_lines places held records history) end old new → Lists (due_lines places held history) end old new
+prints_due places held records history end old new is printed = subst (λ (due : Option (List ℕ)). Lists due end old new) (same_lines places held records history is) printed
 
 undamaged : (places : Places) (held : Option (List ℕ)) (from : State) (at : ℕ) → IfSome held (λ file. opened file ≡ Err at) → OpensTo held (Ok from) → IfSome (due_lines places held from.history) (λ bytes. ⊥)
 undamaged places None from at is opens_to = tt

@@ -1,6 +1,6 @@
 // The lines of a journal's commands, printed.
-ghost use Rattle.std.specs.Prelude.{◌≡◌, ◌⊎◌, ◌≤◌, ◌<◌, ◌∷◌, [], ℕ, List, Option, Some, None, Ok, Err};
-ghost use Rattle.std.specs.Prelude.{IfErr, IfNone, IfSome, OnErr, OnOk};
+ghost use Rattle.std.specs.Prelude.{◌≡◌, ◌⊎◌, ◌≤◌, ◌<◌, ◌∷◌, [], ℕ, List, Option, Some, None, Ok};
+ghost use Rattle.std.specs.Prelude.{Err, IfErr, IfNone, IfSome, OnErr, OnOk};
 ghost use Rattle.reg_outside.specs.Disk.{Changes, Same};
 ghost use Rattle.reg_outside.specs.Faults.{HasCause, Rose};
 ghost use Rattle.reg_outside.specs.Streams.{WritesFront};
@@ -10,7 +10,8 @@ ghost use Rattle.reg_machine.specs.History.{State};
 ghost use Rattle.reg_export.specs.Listing.{with_command};
 ghost use Rattle.reg_run.specs.Crash.{OpensTo, seen};
 ghost use Rattle.reg_run.specs.Ends.{Did};
-ghost use Rattle.reg_run.specs.Listing.{AreRead, HandsOn, Lists, PrintsLines, due_lines};
+ghost use Rattle.reg_run.specs.Listing.{AreRead, HandsOn, Lists, PrintsLines, counted_lines};
+ghost use Rattle.reg_run.specs.Listing.{due_lines};
 ghost use Rattle.reg_run.specs.World.{World, holding, out_of, printing};
 ghost use Rattle.reg_run.specs.declared.status.End.TheVariants.{Damaged, Memory};
 
@@ -30,8 +31,8 @@ const PIECE: usize = 65_536;
 /// The next record, unless the listing is over.
 fn next_record(records: &mut Records, listing: &Listing) -> Option<(u64, Bytes)>
     ensures next { IfSome result (λ r. records.old ≡ (r.0, r.1) ∷ records.new) }
-    ensures place { IfSome result (λ r. listing.now.place < listing.now.to) }
-    ensures none { IfNone result ((records.old ≡ []) ⊎ (listing.now.to ≤ listing.now.place)) }
+    ensures number { IfSome result (λ r. listing.now.number < listing.now.to) }
+    ensures none { IfNone result ((records.old ≡ []) ⊎ (listing.now.to ≤ listing.now.number)) }
 {
     if listing.is_over() {
         return None;
@@ -39,18 +40,18 @@ fn next_record(records: &mut Records, listing: &Listing) -> Option<(u64, Bytes)>
     records.take_first()
 }
 
-/// Goes over the command that a payload is read as. Where it is no command's, the record's place is
-/// damaged.
+/// Goes over the command that the payload of a record at a place is read as. Where it is no
+/// command's, that place is damaged.
 fn add_command(alloc: Global, listing: &mut Listing, at: u64, payload: &[u8]) -> Result<(), End>
-    requires { listing.old.place < listing.old.to }
+    requires { listing.old.number < listing.old.to }
     ensures added { OnOk result ((s : Stamped) → stamped_of payload.now ≡ Some s
-        → listing.new ≡ with_command listing.old s) }
+        → listing.new ≡ with_command listing.old at s) }
     ensures refused { IfErr result (λ e. (e ≡ Memory)
         ⊎ ((e ≡ Damaged at) × (stamped_of payload.now ≡ None))) }
 {
     match decode(alloc, payload) {
         Ok(Some(stamped)) => {
-            let added = listing.add(alloc, &stamped);
+            let added = listing.add(alloc, at, &stamped);
             // By a call: dropped in place it would be taken apart by its kinds.
             drop(stamped);
             match added {
@@ -84,8 +85,8 @@ fn hand_on<K: Sink>(listing: &mut Listing, out: &mut K) -> Result<(), Failed>
 fn print_records<K: Sink>(alloc: Global, places: &Places, records: Records, out: &mut K) -> End
     ensures { (held : Option (List ℕ)) (history : List Stamped)
         → IfSome held (λ file. AreRead records history)
-        → Lists (due_lines places.now held history) result (out_of ⟦<K as Sink>⟧ out.old)
-        (out_of ⟦<K as Sink>⟧ out.new) }
+        → Lists (counted_lines places.now held records history) result
+        (out_of ⟦<K as Sink>⟧ out.old) (out_of ⟦<K as Sink>⟧ out.new) }
 {
     let mut records = records;
     let mut listing = Listing::new(alloc, places.from, places.to);
@@ -121,7 +122,7 @@ fn print_again<K: Sink, D: Disk>(alloc: Global, places: &Places, out: &mut K, di
 }
 
 /// Opens the journal on a disk as `check` does, and then prints the lines of its commands of these
-/// places. The machine that opening made is let go before the file is read again.
+/// numbers. The machine that opening made is let go before the file is read again.
 pub(crate) fn commands_over<K: Sink, D: Disk>(
     alloc: Global,
     places: &Places,

@@ -1,11 +1,13 @@
 use Rattle.std.proofs.Common.{inl}
-use Rattle.reg_run.proofs.Rereading.{not_reread, reread}
+use Rattle.reg_run.proofs.Rereading.{not_reread, prints_due, reread}
 use Rattle.reg_run.proofs.listing.print_again.Goals as goal
 
 -- the records are the history's
 pub returns-in-Ok-clause-printed : goal.returns-in-Ok-clause-printed
 returns-in-Ok-clause-printed g c from opens =
-    (inl (c.print_records-end.ensures (g.D.Disk.contents c.args.disk) from.history (reread (g.D.Disk.contents c.args.disk) c.in-Ok.records from opens c.in-Ok.ensures.records)))
+    let held = g.D.Disk.contents c.args.disk in
+    inl (prints_due c.args.places.now held c.in-Ok.records from.history _ _ _ c.in-Ok.ensures.records
+    (c.print_records-end.ensures held from.history (reread held c.in-Ok.records from opens c.in-Ok.ensures.records)))
 
 -- the file isn't damaged
 pub returns-in-Err-clause-printed : goal.returns-in-Err-clause-printed
