@@ -1,6 +1,6 @@
 //! What is due of access beside membership: what the values of attributes of groups allow and deny
-//! their members (roles and permissions), and whether a group's members were confirmed lately enough
-//! (attestation). Two attributes of a group say the latter: `etc:attest:days`, for how many days a
+//! their members (roles and permissions), and whether a group's members were confirmed lately
+//! enough (attestation). Two attributes of a group say the latter: `etc:attest:days`, for how many days a
 //! confirmation lasts, and `etc:attest:certified`, the moments at which the members were confirmed.
 //! `state_at` tells the state at a moment, `states` the list of all states up to the clock, also
 //! those that come by time alone, and `reminders` a line for each group of which owners are to be

@@ -16,6 +16,7 @@ use Rattle.reg_priv.specs.May.{wheel}
 use Rattle.reg_priv.specs.Touched.{is_listed, KnowsTouched}
 use Rattle.reg_audit.specs.Assigning.{all_changed, last_after_all}
 use Rattle.reg_audit.specs.Audit.{IsAudit}
+use Rattle.reg_audit.specs.Changed.{changed_by, may_change}
 use Rattle.reg_audit.specs.Consumers.{places_after}
 use Rattle.reg_audit.specs.Definitions.{all_attributes, attributes_made, definition_in, last_definition}
 use Rattle.reg_audit.specs.Kept.{defined_in, life_in, name_in, named_in}
@@ -27,7 +28,7 @@ use Rattle.reg_audit.specs.declared.audit.Audit.{Audit}
 use Rattle.reg_audit.specs.declared.gone.Gone.{Gone}
 use Rattle.reg_audit.proofs.Consuming.{all_events}
 use Rattle.reg_audit.proofs.Defining.{attributes_more, definition_more}
-use Rattle.reg_audit.proofs.Granting.{assigns_more, granted_more, last_more_assigned, wheel_more}
+use Rattle.reg_audit.proofs.Granting.{assigns_more, granted_more, last_more_assigned, step_leaves, wheel_more}
 use Rattle.reg_audit.proofs.Stepping.{last_more, life_more, log_more, gone_more, groups_more, member_more, name_more, named_more, objects_leaving}
 
 -- ---- consumers
@@ -49,7 +50,7 @@ pub record Noted (notes : StepNotes) (turned : List (ℕ × ℕ × Bool)) (after
   pub defined : (a : ℕ) → defined_in new.records.definitions a ≡ last_definition a (defined_in old.records.definitions a) notes.attributes
   pub places : (name : List ℕ) → place_of new.records.places name ≡ places_after name (place_of old.records.places name) notes.consumers
   pub members : (g s t : ℕ) → was_member new.past g s t ≡ (if nat_le notes.at t then after_turns turned g s (was_member old.past g s t) else was_member old.past g s t)
-  pub granted : (o : Object) (p : Privilege) (h : Holder) (t : ℕ) → was_granted new.past o p h t ≡ (if is_listed o touched && nat_le notes.at t then has_grant (grants o after) p h else was_granted old.past o p h t)
+  pub granted : (o : Object) (p : Privilege) (h : Holder) (t : ℕ) → was_granted new.past o p h t ≡ (if (is_listed o touched && may_change notes.changed (p, h)) && nat_le notes.at t then has_grant (grants o after) p h else was_granted old.past o p h t)
   pub noted_wheel : (t : ℕ) → wheel_at new.past t ≡ (if nat_le notes.at t then wheel after else wheel_at old.past t)
   pub assigns : (t : ℕ) → assigns_at new.past t ≡ (if nat_le notes.at t then all_changed notes.assigns (assigns_at old.past t) else assigns_at old.past t)
   pub greatest : last_assign new.past ≡ last_after_all notes.assigns (last_assign old.past)
@@ -67,7 +68,7 @@ audit_more old new turned touched steps step law h f e knows n = record {
   defined = λ a. n.defined a ∙ rw (h.defined a) (sym (ap (λ xs. last_definition a None xs) (attributes_more steps step) ∙ definition_more a (all_attributes steps) (attributes_made step.events) None));
   places = λ name. n.places name ∙ rw (h.places name) (places_more steps step name f);
   members = λ t g s. member_more steps step old new turned t g s h f e law (n.members g s t);
-  granted = λ t o p j. granted_more steps step old new h f touched t o p j knows (n.granted o p j t);
+  granted = λ t o p j. granted_more steps step old new h f touched (changed_by step.events) t o p j knows (step_leaves steps step f o p j) (n.granted o p j t);
   noted_wheel = λ t. wheel_more steps step old new h f t (n.noted_wheel t);
   assigns = λ t. assigns_more steps step old new h f t (n.assigns t);
   last_assigned = last_more_assigned steps step old new h f n.greatest;

@@ -1,28 +1,42 @@
 -- Grants, the wheel group and assignments, as a step leaves them.
-use Rattle.std.proofs.Common.{◌≡◌, ◌≤◌, ◌<◌, ◌+◌, ◌++◌, ◌||◌, ◌&&◌, ℕ, List, [], ◌∷◌, Bool, true, false, Option, Some, length, drop, get_or, nat_le, if◌then◌else◌, arith, refl, sym, ap, subst, ◌∙◌, inl, inr}
+use Rattle.std.proofs.Common.{◌≡◌, ◌≤◌, ◌<◌, ◌+◌, ◌++◌, ◌||◌, ◌&&◌, ℕ, List, [], ◌∷◌, Bool, true, false, Option, None, Some, length, drop, get_or, nat_le, if◌then◌else◌, arith, refl, sym, ap, subst, ◌∙◌, inl, inr}
 use Rattle.std.proofs.lemmas.Bool.{cases_Bool}
 use Rattle.std.proofs.lemmas.Bool.Decides.{nat_tests}
 use Rattle.std.proofs.lemmas.List.{drop_more}
 use Rattle.reg_base.specs.declared.privilege.Privilege.{Privilege}
 use Rattle.reg_terms.specs.Kinds.{same_object}
+use Rattle.reg_terms.specs.declared.event.Event.{Event}
 use Rattle.reg_terms.specs.declared.kinds.Object.{Object}
 use Rattle.reg_terms.specs.declared.kinds.Holder.{Holder}
+use Rattle.reg_facts.specs.Events.{happened, all_happened}
 use Rattle.reg_facts.specs.Lists.{Lists}
 use Rattle.reg_facts.proofs.Places.{same_is}
 use Rattle.reg_pit.specs.Grants.{has_grant}
 use Rattle.reg_pit.specs.Past.{assigns_at, last_assign, was_granted, wheel_at, NotedBy}
 use Rattle.reg_pit.specs.declared.past.Past.{Past}
-use Rattle.reg_priv.specs.Grants.{grants}
+use Rattle.reg_priv.specs.Filling.{is_among}
+use Rattle.reg_priv.specs.Grants.{Grant, grants}
 use Rattle.reg_priv.specs.May.{wheel}
 use Rattle.reg_priv.specs.Touched.{is_listed, KnowsTouched}
 use Rattle.reg_audit.specs.Assigning.{AreNew, all_changed, assign_changes, last_after_all}
 use Rattle.reg_audit.specs.Audit.{IsAudit}
+use Rattle.reg_audit.specs.Changed.{changed_by, changed_grant, may_change}
 use Rattle.reg_audit.specs.Steps.{Step, FollowsOn, last_by, last_facts, facts_of, facts_by}
 use Rattle.reg_audit.specs.declared.audit.Audit.{Audit}
 use Rattle.reg_audit.proofs.Changing.{events_changed, events_last, events_new}
+use Rattle.reg_audit.proofs.OrderedGrants.{has_among}
+use Rattle.reg_audit.proofs.RowChanging.{changed}
 use Rattle.reg_audit.proofs.Stepping.{all_seen, last_by_more, last_more}
 
 -- ---- one object more
+
+all_of : (b : Bool) → (b && true) ≡ b
+all_of true = refl
+all_of false = refl
+
+none_of : (b : Bool) → (b && false) ≡ false
+none_of true = refl
+none_of false = refl
 
 one_more : (s listed le has new old : Bool) → new ≡ (if s && le then has else old) → (if listed && le then has else new) ≡ (if (s || listed) && le then has else old)
 one_more true true true has new old e = refl
@@ -32,6 +46,22 @@ one_more true false false has new old e = e
 one_more false true true has new old e = refl
 one_more false true false has new old e = e
 one_more false false le has new old e = e
+
+-- the same of what may change alone
+one_known : (s listed may le has new old : Bool) → new ≡ (if (s && may) && le then has else old) → (if (listed && may) && le then has else new) ≡ (if ((s || listed) && may) && le then has else old)
+one_known s listed true le has new old e = let with_all : (b : Bool) → (b && true) ≡ b = all_of in rw (with_all (s || listed), with_all listed) (one_more s listed le has new old (rw (with_all s) at e))
+one_known s listed false le has new old e = let none : (b : Bool) → (b && false) ≡ false = none_of in rw (none (s || listed), none listed) (rw (none s) at e)
+
+-- what is held of the one is what is held of it
+pub one_held : (s same le is has old : Bool) → (same ≡ true → is ≡ has) → (if (s && same) && le then is else old) ≡ (if (s && same) && le then has else old)
+one_held true true true is has old h = h refl
+one_held true true false is has old h = refl
+one_held true false le is has old h = refl
+one_held false same le is has old h = refl
+
+-- where none is known, all may change
+pub all_may : (s le has old new : Bool) → new ≡ (if s && le then has else old) → new ≡ (if (s && true) && le then has else old)
+all_may s le has old new e = rw (all_of s) e
 
 turned_object : (a b : Object) → same_object a b ≡ same_object b a
 turned_object a b = elim (cases_Bool (same_object a b)) [
@@ -43,17 +73,17 @@ turned_object a b = elim (cases_Bool (same_object a b)) [
 ]
 
 -- what is noted of the object is said of one that is it
-of_it : (f : Lists) (x o : Object) (p : Privilege) (h : Holder) (le old : Bool) → (if same_object o x && le then has_grant (grants x f) p h else old) ≡ (if same_object x o && le then has_grant (grants o f) p h else old)
-of_it f x o p h le old = elim (cases_Bool (same_object x o)) [
+of_it : (f : Lists) (x o : Object) (p : Privilege) (h : Holder) (may le old : Bool) → (if (same_object o x && may) && le then has_grant (grants x f) p h else old) ≡ (if (same_object x o && may) && le then has_grant (grants o f) p h else old)
+of_it f x o p h may le old = elim (cases_Bool (same_object x o)) [
   | inl y ↦ rw (same_is x o y) refl
   | inr n ↦ rw (turned_object o x, n) refl
 ]
 
-pub object_noted : (f : Lists) (touched : List Object) (i : ℕ) (x o : Object) (p : Privilege) (h : Holder) (at t : ℕ) (new old : Bool) → i < length touched → x ≡ get_or touched i x → new ≡ (if same_object o x && nat_le at t then has_grant (grants x f) p h else old)
-    → (if is_listed o (drop (i + 1) touched) && nat_le at t then has_grant (grants o f) p h else new) ≡ (if is_listed o (drop i touched) && nat_le at t then has_grant (grants o f) p h else old)
-object_noted f touched i x o p h at t new old w is e =
+pub object_noted : (f : Lists) (touched : List Object) (i : ℕ) (x o : Object) (p : Privilege) (h : Holder) (may : Bool) (at t : ℕ) (new old : Bool) → i < length touched → x ≡ get_or touched i x → new ≡ (if (same_object o x && may) && nat_le at t then has_grant (grants x f) p h else old)
+    → (if (is_listed o (drop (i + 1) touched) && may) && nat_le at t then has_grant (grants o f) p h else new) ≡ (if (is_listed o (drop i touched) && may) && nat_le at t then has_grant (grants o f) p h else old)
+object_noted f touched i x o p h may at t new old w is e =
     let left : drop i touched ≡ x ∷ drop (i + 1) touched = drop_more touched i x w ∙ ap (λ y. y ∷ drop (i + 1) touched) (sym is) in
-    rw left (one_more (same_object x o) (is_listed o (drop (i + 1) touched)) (nat_le at t) (has_grant (grants o f) p h) new old (e ∙ of_it f x o p h (nat_le at t) old))
+    rw left (one_known (same_object x o) (is_listed o (drop (i + 1) touched)) may (nat_le at t) (has_grant (grants o f) p h) new old (e ∙ of_it f x o p h may (nat_le at t) old))
 
 -- ---- the wheel group that was noted last
 
@@ -64,6 +94,24 @@ wheel_stays past group at t stays noted e = elim (cases_Bool (nat_le at t)) [
       rw y (stays at t w noted ∙ e)
   | inr n ↦ rw n refl
 ]
+
+-- ---- what the events of a step may change
+
+event_leaves : (e : Event) (f : Lists) (o : Object) (x : Grant) (one : Option Grant) → changed_grant e ≡ one → may_change one x ≡ false → is_among x (grants o (happened e f)) ≡ is_among x (grants o f)
+event_leaves e f o x None is m = cc
+event_leaves e f o x (Some g) is m = changed e f o g x is m
+
+events_leave : (es : List Event) (f : Lists) (o : Object) (x : Grant) → may_change (changed_by es) x ≡ false → is_among x (grants o (all_happened es f)) ≡ is_among x (grants o f)
+events_leave [] f o x m = refl
+events_leave (e ∷ []) f o x m = event_leaves e f o x (changed_grant e) refl m
+events_leave (e ∷ d ∷ es) f o x m = cc
+
+pub step_leaves : (steps : List Step) (step : Step) → FollowsOn steps step → (o : Object) (p : Privilege) (j : Holder) → may_change (changed_by step.events) (p, j) ≡ false → has_grant (grants o step.after) p j ≡ has_grant (grants o step.before) p j
+step_leaves steps step f o p j m =
+    ap (λ (gs : List Grant). has_grant gs p j) (f.grants_after o)
+    ∙ (has_among p j (grants o (all_happened step.events step.before))
+    ∙ (events_leave step.events step.before o (p, j) m
+    ∙ sym (has_among p j (grants o step.before))))
 
 -- ---- a step more
 
@@ -82,20 +130,23 @@ facts_before : (t : ℕ) (steps : List Step) (step : Step) → FollowsOn steps s
 facts_before t steps step f w = ap facts_of (all_seen t steps (omega (arith, f.later, w))) ∙ sym f.before
 
 module _ (steps : List Step) (step : Step) (audit new : Audit) (h : IsAudit steps audit) (f : FollowsOn steps step) where
-  pub granted_more : (touched : List Object) (t : ℕ) (o : Object) (p : Privilege) (j : Holder) → KnowsTouched step.before step.after touched
-      → was_granted new.past o p j t ≡ (if is_listed o touched && nat_le step.at t then has_grant (grants o step.after) p j else was_granted audit.past o p j t)
+  -- what no event changes stays as the past has it
+  pub granted_more : (touched : List Object) (changed : Option Grant) (t : ℕ) (o : Object) (p : Privilege) (j : Holder) → KnowsTouched step.before step.after touched
+      → (may_change changed (p, j) ≡ false → has_grant (grants o step.after) p j ≡ has_grant (grants o step.before) p j)
+      → was_granted new.past o p j t ≡ (if (is_listed o touched && may_change changed (p, j)) && nat_le step.at t then has_grant (grants o step.after) p j else was_granted audit.past o p j t)
       → was_granted new.past o p j t ≡ has_grant (grants o (facts_by t (steps ++ step ∷ []))) p j
-  granted_more touched t o p j knows noted = elim (cases_Bool (nat_le step.at t)) [
+  granted_more touched changed t o p j knows stays noted = elim (cases_Bool (nat_le step.at t)) [
     | inl y ↦
         let w : step.at ≤ t = grind (arith, nat_tests, y) in
+        let before : was_granted audit.past o p j t ≡ has_grant (grants o step.before) p j = h.granted t o p j ∙ ap (λ (g : Lists). has_grant (grants o g) p j) (facts_before t steps step f w) in
         noted ∙ (elim (cases_Bool (is_listed o touched)) [
-          | inl l ↦ rw (l, y, facts_then t steps step y) refl
-          | inr l ↦ rw (l, facts_then t steps step y, knows o l) (h.granted t o p j ∙ ap (λ (g : Lists). has_grant (grants o g) p j) (facts_before t steps step f w))
+          | inl l ↦ elim (cases_Bool (may_change changed (p, j))) [
+            | inl m ↦ rw (l, m, y, facts_then t steps step y) refl
+            | inr m ↦ rw (l, m, facts_then t steps step y) (before ∙ sym (stays m))
+          ]
+          | inr l ↦ rw (l, facts_then t steps step y, knows o l) before
         ])
-    | inr n ↦ noted ∙ (elim (cases_Bool (is_listed o touched)) [
-      | inl l ↦ rw (l, n, facts_still t steps step n) (h.granted t o p j)
-      | inr l ↦ rw (l, facts_still t steps step n) (h.granted t o p j)
-    ])
+    | inr n ↦ noted ∙ rw (n, none_of (is_listed o touched && may_change changed (p, j)), facts_still t steps step n) (h.granted t o p j)
   ]
 
   pub wheel_more : (t : ℕ) → wheel_at new.past t ≡ (if nat_le step.at t then wheel step.after else wheel_at audit.past t) → wheel_at new.past t ≡ wheel (facts_by t (steps ++ step ∷ []))

@@ -4,6 +4,8 @@ pub mod Stepping
 pub mod Changing
 pub mod Defining
 pub mod OrderedGrants
+pub mod Looking
+pub mod RowChanging
 pub mod Granting
 pub mod Adding
 pub mod Worked

@@ -127,12 +127,12 @@ turned_equal Less = refl
 turned_equal Equal = refl
 turned_equal Greater = refl
 
-is_that : (p : Privilege) (h : Holder) (g : Grant) → (is_eq (privilege_cmp g.0 p) && is_eq (holder_cmp g.1 h)) ≡ same_grant (p, h) g
+pub is_that : (p : Privilege) (h : Holder) (g : Grant) → (is_eq (privilege_cmp g.0 p) && is_eq (holder_cmp g.1 h)) ≡ same_grant (p, h) g
 is_that p h g =
     sym (both_equal (privilege_cmp g.0 p) (holder_cmp g.1 h))
     ∙ (ap is_eq (held_agrees g (p, h) ∙ grant_total.antisymm g (p, h)) ∙ turned_equal (grant_cmp (p, h) g))
 
-has_among : (p : Privilege) (h : Holder) (gs : List Grant) → has_grant gs p h ≡ is_among (p, h) gs
+pub has_among : (p : Privilege) (h : Holder) (gs : List Grant) → has_grant gs p h ≡ is_among (p, h) gs
 has_among p h gs = any_same (λ (g : Grant). is_eq (privilege_cmp g.0 p) && is_eq (holder_cmp g.1 h)) (same_grant (p, h)) gs (is_that p h)
 
 or_none : (a b : Bool) → b ≡ false → a ≡ (a || b)

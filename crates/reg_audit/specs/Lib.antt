@@ -5,6 +5,7 @@ pub mod Lines
 pub mod Lives
 pub mod Definitions
 pub mod Consumers
+pub mod Changed
 pub mod Notes
 pub mod Kept
 pub mod Audit

@@ -2,12 +2,14 @@
 use Rattle.std.specs.Prelude.{◌≡◌, ◌≤◌, ℕ, List, [], ◌∷◌, Option, None, Some, nat_le, if◌then◌else◌}
 use Rattle.std.specs.Option.{option_or}
 use Rattle.reg_terms.specs.declared.event.Event.{Event}
+use Rattle.reg_terms.specs.declared.kinds.Object.{Object}
 use Rattle.reg_terms.specs.declared.rows.ConsumerRow.{ConsumerRow}
 use Rattle.reg_facts.specs.Events.{all_happened}
 use Rattle.reg_facts.specs.Lists.{Lists, start}
 use Rattle.reg_effect.specs.declared.live.Live.{Live}
 use Rattle.reg_effect.specs.Changes.{nothing}
 use Rattle.reg_effect.specs.Member.{member}
+use Rattle.reg_priv.specs.Grants.{grants}
 use Rattle.reg_rules.specs.declared.actions.Action.{Action}
 use Rattle.reg_audit.specs.Assigning.{AllMakeNew}
 
@@ -73,8 +75,8 @@ abbrev pub consumers_by : List Step → List ConsumerRow
 consumers_by steps = (last_facts steps).consumers
 
 -- a step comes after others: it isn't earlier, it begins with the memberships and the facts with
--- which the last one ended, its events alone change the consumers and the assignments, and the
--- assignments that they make are new
+-- which the last one ended, its events alone change the consumers, the assignments and the grants,
+-- and the assignments that they make are new
 pub record FollowsOn (steps : List Step) (step : Step) : Type 0 where
   pub later : last_moment steps ≤ step.at
   pub members : (g s : ℕ) → member step.live g s ≡ member (last_live steps) g s
@@ -83,3 +85,5 @@ pub record FollowsOn (steps : List Step) (step : Step) : Type 0 where
   pub assigns_after : step.after.assigns ≡ (all_happened step.events step.before).assigns
   pub made_after : step.after.made.assigns ≡ (all_happened step.events step.before).made.assigns
   pub new_assigns : AllMakeNew step.events step.before
+  pub grants_after : (o : Object)
+      → grants o step.after ≡ grants o (all_happened step.events step.before)

@@ -54,8 +54,9 @@ impl Audit {
     }
 
     /// One step more, by what it changes itself and what rules do after that, the memberships that
-    /// it turns, the facts after it, and the objects whose grants it may change. Of each of these
-    /// it costs what was ever noted of it and what holds on it. Out of memory all is given up.
+    /// it turns, the facts after it, and the objects whose grants it may change. Where it adds or
+    /// takes away one grant or one inherit alone, each of these costs a look at each folder above
+    /// it; else what was ever noted of it and what holds on it. Out of memory all is given up.
     pub fn note(
         self,
         alloc: Global,
@@ -76,8 +77,9 @@ impl Audit {
         let Audit { mut records, past } = self;
         records.note(alloc, &notes, turned)?;
         let at = notes.at;
+        let changed = notes.changed;
         let changes = notes.into_assigns();
-        let past = note_past(alloc, past, turned, facts, touched, changes, at)?;
+        let past = note_past(alloc, past, turned, facts, touched, &changed, changes, at)?;
         Ok(Audit { records, past })
     }
 

@@ -6,14 +6,17 @@ ghost use Rattle.reg_terms.specs.declared.kinds.Object.{Object};
 ghost use Rattle.reg_terms.specs.declared.kinds.Holder.{Holder};
 ghost use Rattle.reg_pit.specs.Grants.{has_grant};
 ghost use Rattle.reg_pit.specs.Past.{was_granted, NotedBy, KeepsMembers, KeepsWheel, KeepsAssigns};
+ghost use Rattle.reg_priv.specs.Filling.{same_grant};
 ghost use Rattle.reg_priv.specs.Grants.{grants};
 ghost use Rattle.reg_priv.specs.Touched.{is_listed};
+ghost use Rattle.reg_audit.specs.Changed.{may_change};
 
-use reg_base::Moment;
+use crate::held::is_granted;
+use reg_base::{Moment, Privilege};
 use reg_facts::Facts;
 use reg_pit::Past;
 use reg_priv::holders;
-use reg_terms::Object;
+use reg_terms::{Holder, Object};
 use std::alloc::{AllocError, Global};
 
 /// Notes who holds what on an object, direct and inherited; nothing was noted later. Out of memory
@@ -40,20 +43,73 @@ fn note_holders(
     Ok(past)
 }
 
-/// Notes who holds what on some objects, direct and inherited; nothing was noted later. Out of
-/// memory the past is given up.
-pub(crate) fn note_touched(
-    alloc: Global,
+/// Notes whether one holder has one privilege on an object, direct or inherited; nothing was noted
+/// later. Out of memory the past is given up.
+fn note_grant(
     past: Past,
     facts: &Facts,
-    touched: &[Object],
+    object: Object,
+    privilege: Privilege,
+    holder: Holder,
     at: Moment,
 ) -> Result<Past, AllocError>
     requires { NotedBy at past }
     ensures noted { IfOk result (λ new. (o : Object) (p : Privilege) (h : Holder) (t : ℕ)
         → was_granted new o p h t
-        ≡ (if is_listed o touched.now && nat_le at t then has_grant (grants o facts.now) p h
-        else was_granted past o p h t)) }
+        ≡ (if (same_object o object && same_grant (p, h) (privilege, holder)) && nat_le at t
+        then has_grant (grants object facts.now) p h else was_granted past o p h t)) }
+    ensures members { IfOk result (λ new. KeepsMembers past new) }
+    ensures wheel { IfOk result (λ new. KeepsWheel past new) }
+    ensures assigns { IfOk result (λ new. KeepsAssigns past new) }
+    ensures last { IfOk result (λ new. NotedBy at new) }
+{
+    let is_held = is_granted(facts, &object, privilege, &holder);
+    let past = past.note_grant(object, privilege, holder, is_held, at)?;
+    Ok(past)
+}
+
+/// Notes who holds what on an object, direct and inherited, where it may have changed; nothing was
+/// noted later. Out of memory the past is given up.
+fn note_object(
+    alloc: Global,
+    past: Past,
+    facts: &Facts,
+    object: Object,
+    changed: &Option<(Privilege, Holder)>,
+    at: Moment,
+) -> Result<Past, AllocError>
+    requires { NotedBy at past }
+    ensures noted { IfOk result (λ new. (o : Object) (p : Privilege) (h : Holder) (t : ℕ)
+        → was_granted new o p h t
+        ≡ (if (same_object o object && may_change changed.now (p, h)) && nat_le at t
+        then has_grant (grants object facts.now) p h else was_granted past o p h t)) }
+    ensures members { IfOk result (λ new. KeepsMembers past new) }
+    ensures wheel { IfOk result (λ new. KeepsWheel past new) }
+    ensures assigns { IfOk result (λ new. KeepsAssigns past new) }
+    ensures last { IfOk result (λ new. NotedBy at new) }
+{
+    match changed {
+        Some((privilege, holder)) => note_grant(past, facts, object, *privilege, *holder, at),
+        None => note_holders(alloc, past, facts, object, at),
+    }
+}
+
+/// Notes who holds what on some objects, direct and inherited: one privilege of one holder, where
+/// that alone may have changed, and else all; nothing was noted later. Out of memory the past is
+/// given up.
+pub(crate) fn note_touched(
+    alloc: Global,
+    past: Past,
+    facts: &Facts,
+    touched: &[Object],
+    changed: &Option<(Privilege, Holder)>,
+    at: Moment,
+) -> Result<Past, AllocError>
+    requires { NotedBy at past }
+    ensures noted { IfOk result (λ new. (o : Object) (p : Privilege) (h : Holder) (t : ℕ)
+        → was_granted new o p h t
+        ≡ (if (is_listed o touched.now && may_change changed.now (p, h)) && nat_le at t
+        then has_grant (grants o facts.now) p h else was_granted past o p h t)) }
     ensures members { IfOk result (λ new. KeepsMembers past new) }
     ensures wheel { IfOk result (λ new. KeepsWheel past new) }
     ensures assigns { IfOk result (λ new. KeepsAssigns past new) }
@@ -61,7 +117,7 @@ pub(crate) fn note_touched(
 {
     let mut past = past;
     for object in touched {
-        past = note_holders(alloc, past, facts, *object, at)?;
+        past = note_object(alloc, past, facts, *object, changed, at)?;
     }
     Ok(past)
 }

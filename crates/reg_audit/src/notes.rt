@@ -11,9 +11,10 @@ ghost use Rattle.reg_audit.specs.Objects.{object_made, object_gone, is_deletion,
 use crate::assigning::assign_changes;
 use crate::consumers::consumer_notes;
 use crate::definitions::attributes_made;
+use crate::grant_change::changed_by;
 use crate::lines::{action_line, line_of};
 use crate::{ConsumerNote, Gone};
-use reg_base::{AttrDefId, AttrId, Moment, Text};
+use reg_base::{AttrDefId, AttrId, Moment, Privilege, Text};
 use reg_facts::Facts;
 use reg_log::{EntryKind, Line};
 use reg_names::name_of;
@@ -25,8 +26,9 @@ use std::marker::Model;
 
 /// What a step changes itself, taken before it is carried out: its moment, the entries of what it
 /// changes directly, what it makes, what goes with its names, the attributes that it makes with
-/// their definitions, and what it does to assignments and to consumers. What rules do after it is
-/// put to the entries once they acted.
+/// their definitions, what it does to assignments and to consumers, and the one privilege and
+/// holder whose grants it changes, where it is known. What rules do after it is put to the entries
+/// once they acted.
 #[derive(Drop)]
 pub struct Notes {
     pub(crate) at: Moment,
@@ -36,6 +38,7 @@ pub struct Notes {
     pub(crate) attributes: Vec<(AttrId, AttrDefId)>,
     pub(crate) assigns: Vec<AssignChange>,
     pub(crate) consumers: Vec<ConsumerNote>,
+    pub(crate) changed: Option<(Privilege, Holder)>,
 }
 
 impl Model for Notes {
@@ -51,6 +54,7 @@ impl Model for Notes {
       attributes = n.attributes.items;
       assigns = n.assigns.items;
       consumers = n.consumers.items;
+      changed = n.changed;
     } };
 }
 
@@ -255,5 +259,6 @@ pub fn notes_of(
         attributes: attributes_made(alloc, events)?,
         assigns: assign_changes(alloc, events)?,
         consumers: consumer_notes(alloc, events)?,
+        changed: changed_by(events),
     })
 }

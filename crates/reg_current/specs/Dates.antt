@@ -1,8 +1,8 @@
 -- Dates of memberships: the moments at which they begin and end, as they come one after another.
 use Rattle.std.specs.List.{list_any}
 use Rattle.std.specs.Prelude.{◌≡◌, ◌<◌, ◌≤◌, ℕ, zero, suc, ◌+◌, ◌*◌, ◌==◌, ◌&&◌, ◌||◌, List, []}
-use Rattle.std.specs.Prelude.{◌∷◌, ◌++◌, Bool, true, false, not, Option, Some, None, min, filter, length}
-use Rattle.std.specs.Prelude.{nat_lt, nat_le, if◌then◌else◌}
+use Rattle.std.specs.Prelude.{◌∷◌, ◌++◌, Bool, true, false, not, Option, Some, None, min, filter}
+use Rattle.std.specs.Prelude.{length, nat_lt, nat_le, if◌then◌else◌}
 use Rattle.reg_terms.specs.declared.event.Event.{Event}
 use Rattle.reg_terms.specs.declared.event.Event.TheVariants.{RowRemoved}
 use Rattle.reg_terms.specs.declared.kinds.Member.{Member}

@@ -22,7 +22,7 @@ use Rattle.reg_json.specs.Ops.{all_forms, all_stand, asked_in, fields_in, form_a
 use Rattle.reg_json.specs.Reading.{known_kind, request_in}
 use Rattle.reg_json.specs.declared.fields.Carrier.TheVariants.{Line}
 use Rattle.reg_export.specs.Fields.{entity_text, field_data, moment_data}
-use Rattle.reg_export.specs.Lines.{Keyed, front, has_id, has_key, id_data, line_members, request_members, with_data, with_fields}
+use Rattle.reg_export.specs.Lines.{Keyed, count_data, front, has_id, has_key, id_data, line_members, request_members, with_data, with_fields}
 use Rattle.reg_export.specs.Telling.{IsTold, request_part, without, without_id}
 use Rattle.reg_export.proofs.Again.{form_again, stand_again}
 use Rattle.reg_export.proofs.Filling.{AllAbsent, AllThere, absent_kept, all_absent, all_there, kept_data, kept_fields, known_fields}
@@ -184,22 +184,33 @@ number_absent by c =
     let row = (command_row (kind_of c)).op in
     new_key (codes "number") by row.word (fields_of c) row.fields (keys_fit (kind_of c)).no_number refl
 
+place_absent : (by : List ℕ) (c : Command) → get_member (codes "place") (request_members by c) ≡ None
+unfolding request_members
+place_absent by c =
+    let row = (command_row (kind_of c)).op in
+    new_key (codes "place") by row.word (fields_of c) row.fields (keys_fit (kind_of c)).no_place refl
+
 -- a line without what it has beside
-pub request_left : (place : ℕ) (made : Option ℕ) (s : Stamped) → (made ≡ None) ⊎ (has_id s.command ≡ false) → request_part made (line_members place made s) ≡ request_members (entity_text s.by) s.command
+pub request_left : (nth place : ℕ) (made : Option ℕ) (s : Stamped) → (made ≡ None) ⊎ (has_id s.command ≡ false) → request_part made (line_members nth place made s) ≡ request_members (entity_text s.by) s.command
 unfolding line_members request_part
-request_left place made s one =
+request_left nth place made s one =
     let c = s.command in
     let asks = request_members (entity_text s.by) c in
     let more = with_data (codes "id") (id_data made) asks in
-    let whole = number (unsigned place) in
-    let numbered = put (codes "number") whole more in
+    let numbered = put (codes "number") (count_data nth) more in
+    let placed = put (codes "place") (count_data place) numbered in
     let none_number : get_member (codes "number") more ≡ None = kept_data (codes "number") (codes "id") (id_data made) asks (differ (codes "number") (codes "id") refl) ∙ number_absent (entity_text s.by) c in
-    let none_at : get_member (codes "at") numbered ≡ None =
-    get_member-put_other (codes "at") (codes "number") whole more (differ (codes "at") (codes "number") refl)
-    ∙ (kept_data (codes "at") (codes "id") (id_data made) asks (differ (codes "at") (codes "id") refl) ∙ at_absent (entity_text s.by) c) in
-    let no_at : without (codes "at") (put (codes "at") (moment_data s.at) numbered) ≡ numbered = without_put (codes "at") (moment_data s.at) numbered none_at in
-    let no_number : without (codes "number") numbered ≡ more = without_put (codes "number") whole more none_number in
-    ap (λ (ms : Members). without_id made (without (codes "number") ms)) no_at ∙ (ap (without_id made) no_number ∙ id_away made (entity_text s.by) c one)
+    let none_place : get_member (codes "place") numbered ≡ None =
+    get_member-put_other (codes "place") (codes "number") (count_data nth) more (differ (codes "place") (codes "number") refl)
+    ∙ (kept_data (codes "place") (codes "id") (id_data made) asks (differ (codes "place") (codes "id") refl) ∙ place_absent (entity_text s.by) c) in
+    let none_at : get_member (codes "at") placed ≡ None =
+    get_member-put_other (codes "at") (codes "place") (count_data place) numbered (differ (codes "at") (codes "place") refl)
+    ∙ (get_member-put_other (codes "at") (codes "number") (count_data nth) more (differ (codes "at") (codes "number") refl)
+    ∙ (kept_data (codes "at") (codes "id") (id_data made) asks (differ (codes "at") (codes "id") refl) ∙ at_absent (entity_text s.by) c)) in
+    let no_at : without (codes "at") (put (codes "at") (moment_data s.at) placed) ≡ placed = without_put (codes "at") (moment_data s.at) placed none_at in
+    let no_place : without (codes "place") placed ≡ numbered = without_put (codes "place") (count_data place) numbered none_place in
+    let no_number : without (codes "number") numbered ≡ more = without_put (codes "number") (count_data nth) more none_number in
+    ap (λ (ms : Members). without_id made (without (codes "number") (without (codes "place") ms))) no_at ∙ (ap (λ (ms : Members). without_id made (without (codes "number") ms)) no_place ∙ (ap (without_id made) no_number ∙ id_away made (entity_text s.by) c one))
 
-pub part_again : TableTakes → (place : ℕ) (made : Option ℕ) (s : Stamped) → IsTold made s → (kind_of s.command ≡ command.Load → ⊥) → request_in (object (request_part made (line_members place made s))) ≡ Ok (record { by = entity_text s.by; op = asked.Command s.command })
-part_again table place made s told no_load = ap (λ (ms : Members). request_in (object ms)) (request_left place made s told.one_id) ∙ request_again table (entity_text s.by) s.command told.form no_load
+pub part_again : TableTakes → (nth place : ℕ) (made : Option ℕ) (s : Stamped) → IsTold made s → (kind_of s.command ≡ command.Load → ⊥) → request_in (object (request_part made (line_members nth place made s))) ≡ Ok (record { by = entity_text s.by; op = asked.Command s.command })
+part_again table nth place made s told no_load = ap (λ (ms : Members). request_in (object ms)) (request_left nth place made s told.one_id) ∙ request_again table (entity_text s.by) s.command told.form no_load

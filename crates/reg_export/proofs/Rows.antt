@@ -20,12 +20,13 @@ pub record KeysFit (keyed : List Keyed) : Type 0 where
   pub no_op : has_key (codes "op") keyed ≡ false
   pub no_at : has_key (codes "at") keyed ≡ false
   pub no_number : has_key (codes "number") keyed ≡ false
+  pub no_place : has_key (codes "place") keyed ≡ false
   pub each_known : all_known (known_keys Line keyed) keyed ≡ true
 
 pub keys_fit : (k : CommandKind) → KeysFit (command_row k).op.fields
 unfolding known_keys
-keys_fit command.Load = record { one_each = refl; no_by = refl; no_op = refl; no_at = refl; no_number = refl; each_known = refl }
-keys_fit _ = record { one_each = refl; no_by = refl; no_op = refl; no_at = refl; no_number = refl; each_known = refl }
+keys_fit command.Load = record { one_each = refl; no_by = refl; no_op = refl; no_at = refl; no_number = refl; no_place = refl; each_known = refl }
+keys_fit _ = record { one_each = refl; no_by = refl; no_op = refl; no_at = refl; no_number = refl; no_place = refl; each_known = refl }
 
 -- kinds of field that a request has
 abbrev pub is_asked : FieldKind → Bool

@@ -1,8 +1,8 @@
--- A line tells its place, its moment, its caller and its command.
+-- A line tells its number, its place, its moment, its caller and its command.
 use Rattle.std.proofs.Common.{◌≡◌, ◌<◌, ◌≤◌, ◌^◌, ℕ, true, false, List, [], ◌∷◌, map, codes, Option, Some, None, Ok, refl, sym, subst, ◌∙◌, ◌⊎◌, arith}
 use Rattle.std.specs.List.{list_all}
 use Rattle.std.proofs.lemmas.Bool.{and_from, and_parts, le-leb, leb-true}
-use Rattle.serde_json.specs.Data.{Data, Members, number, object, put, string, unsigned}
+use Rattle.serde_json.specs.Data.{Data, Members, object, put, string}
 use Rattle.serde_json.specs.Find.{get, get_member}
 use Rattle.serde_json.proofs.Views.{get_member-put, get_member-put_other}
 use Rattle.reg_base.specs.MomentText.{text_of}
@@ -18,7 +18,7 @@ use Rattle.reg_ops.specs.declared.field.FieldKind.{FieldKind}
 use Rattle.reg_ops.specs.declared.table.CommandKind.{CommandKind}
 use Rattle.reg_json.specs.Fields.{entity_from, is_within, number_at, text_at}
 use Rattle.reg_export.specs.Fields.{entity_text, field_data, moment_data}
-use Rattle.reg_export.specs.Lines.{Keyed, front, has_id, id_data, line_members, request_members, with_data, with_fields}
+use Rattle.reg_export.specs.Lines.{Keyed, count_data, front, has_id, id_data, line_members, request_members, with_data, with_fields}
 use Rattle.reg_export.specs.Telling.{IsTold, all_told, caller_at, command_worded, line_in, moment_at, told_at}
 use Rattle.reg_export.proofs.Again.{told_again}
 use Rattle.reg_export.proofs.Callers.{entity_again}
@@ -42,17 +42,17 @@ tell_all (f ∷ fs) (k ∷ keyed) ms e fit tells there =
     let each = and_parts (is_told k.1) (list_all is_told (kinds_of keyed)) tells in
     rw (told k.1 f k.0 (object ms) kinds.0 fits.0 each.0 there.0, tell_all fs keyed ms kinds.1 fits.1 each.1 there.1) refl
 
--- ---- the place, the moment and the caller
+-- ---- the number, the place, the moment and the caller
 
-place_within : (place : ℕ) → place < 2 ^ 64 → is_within 0 18446744073709551615 place ≡ true
-place_within place small =
-    let low : 0 ≤ place = omega arith in
-    let high : place ≤ 18446744073709551615 = omega (arith, small) in
-    and_from _ _ (le-leb 0 place low) (le-leb place 18446744073709551615 high)
+count_within : (n : ℕ) → n < 2 ^ 64 → is_within 0 18446744073709551615 n ≡ true
+count_within n small =
+    let low : 0 ≤ n = omega arith in
+    let high : n ≤ 18446744073709551615 = omega (arith, small) in
+    and_from _ _ (le-leb 0 n low) (le-leb n 18446744073709551615 high)
 
-place_told : (place : ℕ) (ms : Members) → place < 2 ^ 64 → get_member (codes "number") ms ≡ Some (number (unsigned place)) → number_at 0 18446744073709551615 (codes "number") (object ms) ≡ Ok place
+count_told : (key : List ℕ) (n : ℕ) (ms : Members) → n < 2 ^ 64 → get_member key ms ≡ Some (count_data n) → number_at 0 18446744073709551615 key (object ms) ≡ Ok n
 unfolding number_at
-place_told place ms small there = rw (there, place_within place small) refl
+count_told key n ms small there = rw (there, count_within n small) refl
 
 moment_told : (moment : ℕ) (ms : Members) → is_moment moment ≡ true → get_member (codes "at") ms ≡ Some (moment_data moment) → moment_at (object ms) ≡ Ok moment
 unfolding moment_at
@@ -62,79 +62,88 @@ caller_told : (by : Entity) (ms : Members) → is_entity by ≡ true → get_mem
 unfolding caller_at entity_from
 caller_told by ms fits there = rw (text_there (codes "by") (entity_text by) ms there, entity_again by fits) refl
 
-line_so : (d : Data) (s : Stamped) (place : ℕ) (word : List ℕ) (k : CommandKind) (fs : List Field) → number_at 0 18446744073709551615 (codes "number") d ≡ Ok place → moment_at d ≡ Ok s.at → caller_at d ≡ Ok s.by → text_at (codes "op") d ≡ Ok word → command_worded word ≡ Some k → all_told (command_row k).op.fields d ≡ Ok fs → made_command k fs ≡ Some s.command → line_in d ≡ Ok (place, s)
+line_so : (d : Data) (s : Stamped) (nth place : ℕ) (word : List ℕ) (k : CommandKind) (fs : List Field) → number_at 0 18446744073709551615 (codes "number") d ≡ Ok nth → number_at 0 18446744073709551615 (codes "place") d ≡ Ok place → moment_at d ≡ Ok s.at → caller_at d ≡ Ok s.by → text_at (codes "op") d ≡ Ok word → command_worded word ≡ Some k → all_told (command_row k).op.fields d ≡ Ok fs → made_command k fs ≡ Some s.command → line_in d ≡ Ok (nth, place, s)
 unfolding line_in
-line_so d s place word k fs at_place at_moment at_by at_op named tells makes = rw (at_place, at_moment, at_by, at_op, named, tells, makes) refl
+line_so d s nth place word k fs at_number at_place at_moment at_by at_op named tells makes = rw (at_number, at_place, at_moment, at_by, at_op, named, tells, makes) refl
 
 -- ---- the line
 
 -- what the request has stands in the line
-line_keeps : (q : List ℕ) (place : ℕ) (made : Option ℕ) (s : Stamped) → (q ≡ codes "at" → ⊥) → (q ≡ codes "number" → ⊥) → (q ≡ codes "id" → ⊥) → get_member q (line_members place made s) ≡ get_member q (request_members (entity_text s.by) s.command)
+line_keeps : (q : List ℕ) (nth place : ℕ) (made : Option ℕ) (s : Stamped) → (q ≡ codes "at" → ⊥) → (q ≡ codes "place" → ⊥) → (q ≡ codes "number" → ⊥) → (q ≡ codes "id" → ⊥) → get_member q (line_members nth place made s) ≡ get_member q (request_members (entity_text s.by) s.command)
 unfolding line_members
-line_keeps q place made s no_at no_number no_id =
+line_keeps q nth place made s no_at no_place no_number no_id =
     let asks = request_members (entity_text s.by) s.command in
     let more = with_data (codes "id") (id_data made) asks in
-    let whole = number (unsigned place) in
-    get_member-put_other q (codes "at") (moment_data s.at) (put (codes "number") whole more) no_at ∙ (get_member-put_other q (codes "number") whole more no_number ∙ kept_data q (codes "id") (id_data made) asks no_id)
+    let numbered = put (codes "number") (count_data nth) more in
+    get_member-put_other q (codes "at") (moment_data s.at) (put (codes "place") (count_data place) numbered) no_at ∙ (get_member-put_other q (codes "place") (count_data place) numbered no_place ∙ (get_member-put_other q (codes "number") (count_data nth) more no_number ∙ kept_data q (codes "id") (id_data made) asks no_id))
 
-place_there : (place : ℕ) (made : Option ℕ) (s : Stamped) → get_member (codes "number") (line_members place made s) ≡ Some (number (unsigned place))
+number_there : (nth place : ℕ) (made : Option ℕ) (s : Stamped) → get_member (codes "number") (line_members nth place made s) ≡ Some (count_data nth)
 unfolding line_members
-place_there place made s =
+number_there nth place made s =
     let more = with_data (codes "id") (id_data made) (request_members (entity_text s.by) s.command) in
-    let whole = number (unsigned place) in
-    get_member-put_other (codes "number") (codes "at") (moment_data s.at) (put (codes "number") whole more) (differ (codes "number") (codes "at") refl) ∙ get_member-put (codes "number") whole more
+    let numbered = put (codes "number") (count_data nth) more in
+    get_member-put_other (codes "number") (codes "at") (moment_data s.at) (put (codes "place") (count_data place) numbered) (differ (codes "number") (codes "at") refl) ∙ (get_member-put_other (codes "number") (codes "place") (count_data place) numbered (differ (codes "number") (codes "place") refl) ∙ get_member-put (codes "number") (count_data nth) more)
 
-moment_there : (place : ℕ) (made : Option ℕ) (s : Stamped) → get_member (codes "at") (line_members place made s) ≡ Some (moment_data s.at)
+place_there : (nth place : ℕ) (made : Option ℕ) (s : Stamped) → get_member (codes "place") (line_members nth place made s) ≡ Some (count_data place)
 unfolding line_members
-moment_there place made s =
+place_there nth place made s =
     let more = with_data (codes "id") (id_data made) (request_members (entity_text s.by) s.command) in
-    get_member-put (codes "at") (moment_data s.at) (put (codes "number") (number (unsigned place)) more)
+    let numbered = put (codes "number") (count_data nth) more in
+    get_member-put_other (codes "place") (codes "at") (moment_data s.at) (put (codes "place") (count_data place) numbered) (differ (codes "place") (codes "at") refl) ∙ get_member-put (codes "place") (count_data place) numbered
+
+moment_there : (nth place : ℕ) (made : Option ℕ) (s : Stamped) → get_member (codes "at") (line_members nth place made s) ≡ Some (moment_data s.at)
+unfolding line_members
+moment_there nth place made s =
+    let more = with_data (codes "id") (id_data made) (request_members (entity_text s.by) s.command) in
+    get_member-put (codes "at") (moment_data s.at) (put (codes "place") (count_data place) (put (codes "number") (count_data nth) more))
 
 -- the id that was made hides no field
 id_there : (made : Option ℕ) (c : Command) (ms : Members) → (made ≡ None) ⊎ (has_id c ≡ false) → AllThere (fields_of c) (command_row (kind_of c)).op.fields ms → AllThere (fields_of c) (command_row (kind_of c)).op.fields (with_data (codes "id") (id_data made) ms)
 id_there None c ms one there = there
-id_there (Some id) c ms one there = there_kept (fields_of c) (command_row (kind_of c)).op.fields (codes "id") (Some (number (unsigned id))) ms (no_id (Some id) c one id refl) there
+id_there (Some id) c ms one there = there_kept (fields_of c) (command_row (kind_of c)).op.fields (codes "id") (Some (count_data id)) ms (no_id (Some id) c one id refl) there
 
-fields_in_line : (place : ℕ) (made : Option ℕ) (s : Stamped) → (made ≡ None) ⊎ (has_id s.command ≡ false) → AllThere (fields_of s.command) (command_row (kind_of s.command)).op.fields (line_members place made s)
+fields_in_line : (nth place : ℕ) (made : Option ℕ) (s : Stamped) → (made ≡ None) ⊎ (has_id s.command ≡ false) → AllThere (fields_of s.command) (command_row (kind_of s.command)).op.fields (line_members nth place made s)
 unfolding line_members request_members
-fields_in_line place made s one =
+fields_in_line nth place made s one =
     let c = s.command in
     let row = (command_row (kind_of c)).op in
     let fs = fields_of c in
     let keys = keys_fit (kind_of c) in
     let ms = with_fields fs row.fields (front (entity_text s.by) row.word) in
     let more = with_data (codes "id") (id_data made) ms in
-    let whole = number (unsigned place) in
+    let numbered = put (codes "number") (count_data nth) more in
     let first = id_there made c ms one (fields_there fs row.fields (entity_text s.by) row.word keys) in
-    let second = there_kept fs row.fields (codes "number") (Some whole) more keys.no_number first in
-    there_kept fs row.fields (codes "at") (Some (moment_data s.at)) (put (codes "number") whole more) keys.no_at second
+    let second = there_kept fs row.fields (codes "number") (Some (count_data nth)) more keys.no_number first in
+    let third = there_kept fs row.fields (codes "place") (Some (count_data place)) numbered keys.no_place second in
+    there_kept fs row.fields (codes "at") (Some (moment_data s.at)) (put (codes "place") (count_data place) numbered) keys.no_at third
 
-op_in_line : (place : ℕ) (made : Option ℕ) (s : Stamped) → get_member (codes "op") (line_members place made s) ≡ Some (string (command_row (kind_of s.command)).op.word)
+op_in_line : (nth place : ℕ) (made : Option ℕ) (s : Stamped) → get_member (codes "op") (line_members nth place made s) ≡ Some (string (command_row (kind_of s.command)).op.word)
 unfolding request_members
-op_in_line place made s =
+op_in_line nth place made s =
     let row = (command_row (kind_of s.command)).op in
-    line_keeps (codes "op") place made s (differ (codes "op") (codes "at") refl) (differ (codes "op") (codes "number") refl) (differ (codes "op") (codes "id") refl)
+    line_keeps (codes "op") nth place made s (differ (codes "op") (codes "at") refl) (differ (codes "op") (codes "place") refl) (differ (codes "op") (codes "number") refl) (differ (codes "op") (codes "id") refl)
     ∙ op_there (fields_of s.command) row.fields (entity_text s.by) row.word (keys_fit (kind_of s.command))
 
-by_in_line : (place : ℕ) (made : Option ℕ) (s : Stamped) → get_member (codes "by") (line_members place made s) ≡ Some (string (entity_text s.by))
+by_in_line : (nth place : ℕ) (made : Option ℕ) (s : Stamped) → get_member (codes "by") (line_members nth place made s) ≡ Some (string (entity_text s.by))
 unfolding request_members
-by_in_line place made s =
+by_in_line nth place made s =
     let row = (command_row (kind_of s.command)).op in
-    line_keeps (codes "by") place made s (differ (codes "by") (codes "at") refl) (differ (codes "by") (codes "number") refl) (differ (codes "by") (codes "id") refl)
+    line_keeps (codes "by") nth place made s (differ (codes "by") (codes "at") refl) (differ (codes "by") (codes "place") refl) (differ (codes "by") (codes "number") refl) (differ (codes "by") (codes "id") refl)
     ∙ by_there (fields_of s.command) row.fields (entity_text s.by) row.word (keys_fit (kind_of s.command))
 
-pub line_again : TableTakes → (place : ℕ) (made : Option ℕ) (s : Stamped) → place < 2 ^ 64 → IsTold made s → line_in (object (line_members place made s)) ≡ Ok (place, s)
-line_again table place made s small tells =
+pub line_again : TableTakes → (nth place : ℕ) (made : Option ℕ) (s : Stamped) → nth < 2 ^ 64 → place < 2 ^ 64 → IsTold made s → line_in (object (line_members nth place made s)) ≡ Ok (nth, place, s)
+line_again table nth place made s few small tells =
     let c = s.command in
     let row = (command_row (kind_of c)).op in
-    let ms = line_members place made s in
+    let ms = line_members nth place made s in
     let apart = table c in
     let words = told_row (kind_of c) in
-    line_so (object ms) s place row.word (kind_of c) (fields_of c)
-    (place_told place ms small (place_there place made s))
-    (moment_told s.at ms tells.moment (moment_there place made s))
-    (caller_told s.by ms tells.caller (by_in_line place made s))
-    (text_there (codes "op") row.word ms (op_in_line place made s))
+    line_so (object ms) s nth place row.word (kind_of c) (fields_of c)
+    (count_told (codes "number") nth ms few (number_there nth place made s))
+    (count_told (codes "place") place ms small (place_there nth place made s))
+    (moment_told s.at ms tells.moment (moment_there nth place made s))
+    (caller_told s.by ms tells.caller (by_in_line nth place made s))
+    (text_there (codes "op") row.word ms (op_in_line nth place made s))
     words.named
-    (tell_all (fields_of c) row.fields ms apart.kinds (all_fit c tells.form) words.kinds (fields_in_line place made s tells.one_id))
+    (tell_all (fields_of c) row.fields ms apart.kinds (all_fit c tells.form) words.kinds (fields_in_line nth place made s tells.one_id))
     apart.again

@@ -2,7 +2,7 @@
 use Rattle.std.proofs.Common.{◌≡◌, ℕ, ◌≤◌, ℤ, pos, negsuc, false, List, [], ◌∷◌, codes, map, Option, Some, None, Ok, IfSome, refl, ap, ◌∙◌, arith, lit≤}
 use Rattle.std.specs.Str.{IsUtf8}
 use Rattle.std.proofs.lemmas.Str.{is_utf8-from_IsUtf8}
-use Rattle.serde_json.specs.Data.{Data, Members, array, depth, members_depth, number, object, put, string, unsigned}
+use Rattle.serde_json.specs.Data.{Data, Members, array, depth, members_depth, object, put, string}
 use Rattle.serde_json.specs.Find.{is_float, of_integer}
 use Rattle.serde_json.specs.Read.{max_depth, read}
 use Rattle.serde_json.specs.View.{items_of}
@@ -18,7 +18,7 @@ use Rattle.reg_json.specs.Reading.{json_of}
 use Rattle.reg_json.specs.Replies.{strings}
 use Rattle.reg_json.proofs.Plain.{all_flat}
 use Rattle.reg_export.specs.Fields.{entity_text, field_data, moment_data, owner_words, row_data, row_items, value_data}
-use Rattle.reg_export.specs.Lines.{Keyed, command_text, front, id_data, line_members, request_members, with_data, with_fields}
+use Rattle.reg_export.specs.Lines.{Keyed, command_text, count_data, front, id_data, line_members, request_members, with_data, with_fields}
 use Rattle.reg_export.proofs.Putting.{depth_put, floats_put}
 
 -- ---- data
@@ -85,24 +85,26 @@ flat_id : (made : Option ℕ) → IfSome (id_data made) IsFlat
 flat_id None = tt
 flat_id (Some id) = (refl, lit≤ tt)
 
-line_flat : (place : ℕ) (made : Option ℕ) (s : Stamped) → AreFlat (line_members place made s)
+line_flat : (nth place : ℕ) (made : Option ℕ) (s : Stamped) → AreFlat (line_members nth place made s)
 unfolding line_members request_members
-line_flat place made s =
+line_flat nth place made s =
     let c = s.command in
     let row = (command_row (kind_of c)).op in
     let ms = with_fields (fields_of c) row.fields (front (entity_text s.by) row.word) in
     let fields : AreFlat ms = flat_fields (fields_of c) row.fields (front (entity_text s.by) row.word) (refl, lit≤ tt) in
     let more = with_data (codes "id") (id_data made) ms in
     let with_id : AreFlat more = flat_data (codes "id") (id_data made) ms (flat_id made) fields in
-    let whole = number (unsigned place) in
-    flat_put (codes "at") (moment_data s.at) (put (codes "number") whole more) (refl, lit≤ tt) (flat_put (codes "number") whole more (refl, lit≤ tt) with_id)
+    let numbered = put (codes "number") (count_data nth) more in
+    let with_number : AreFlat numbered = flat_put (codes "number") (count_data nth) more (refl, lit≤ tt) with_id in
+    let with_place : AreFlat (put (codes "place") (count_data place) numbered) = flat_put (codes "place") (count_data place) numbered (refl, lit≤ tt) with_number in
+    flat_put (codes "at") (moment_data s.at) (put (codes "place") (count_data place) numbered) (refl, lit≤ tt) with_place
 
 -- ---- the line
 
-pub text_is : (place : ℕ) (made : Option ℕ) (s : Stamped) (d : Data) (bytes : List ℕ) → d ≡ object (line_members place made s) → (has_float d ≡ false → bytes ≡ compact_text d) → bytes ≡ command_text place made s
+pub text_is : (nth place : ℕ) (made : Option ℕ) (s : Stamped) (d : Data) (bytes : List ℕ) → d ≡ object (line_members nth place made s) → (has_float d ≡ false → bytes ≡ compact_text d) → bytes ≡ command_text nth place made s
 unfolding command_text
-text_is place made s d bytes is written =
-    let whole : has_float d ≡ false = ap has_float is ∙ (line_flat place made s).0 in
+text_is nth place made s d bytes is written =
+    let whole : has_float d ≡ false = ap has_float is ∙ (line_flat nth place made s).0 in
     written whole ∙ ap compact_text is
 
 -- bytes that read as an object are that object
@@ -112,8 +114,8 @@ object_is bytes ms utf8 is = rw (is_utf8-from_IsUtf8 bytes utf8, is) refl
 low_enough : (ms : Members) → members_depth ms ≤ 2 → depth (object ms) ≤ max_depth
 low_enough ms h = omega (arith, h)
 
-pub reads_as : (place : ℕ) (made : Option ℕ) (s : Stamped) (d : Data) (bytes : List ℕ) → d ≡ object (line_members place made s) → IsUtf8 bytes → (depth d ≤ max_depth → read bytes ≡ Some d) → json_of bytes ≡ Ok (object (line_members place made s))
-reads_as place made s d bytes is utf8 back =
-    let ms = line_members place made s in
-    let low : depth d ≤ max_depth = rw is (low_enough ms (line_flat place made s).1) in
+pub reads_as : (nth place : ℕ) (made : Option ℕ) (s : Stamped) (d : Data) (bytes : List ℕ) → d ≡ object (line_members nth place made s) → IsUtf8 bytes → (depth d ≤ max_depth → read bytes ≡ Some d) → json_of bytes ≡ Ok (object (line_members nth place made s))
+reads_as nth place made s d bytes is utf8 back =
+    let ms = line_members nth place made s in
+    let low : depth d ≤ max_depth = rw is (low_enough ms (line_flat nth place made s).1) in
     object_is bytes ms utf8 (back low ∙ ap (λ (e : Data). Some e) is)

@@ -1,11 +1,13 @@
 -- The text of an accepted command: compact JSON whose keys ascend by bytes. It has the members of
--- the request that asks for the command, which tell its op, its caller and its fields; its place in
--- the history, its moment, and the id of what it made, where that has one.
+-- the request that asks for the command, which tell its op, its caller and its fields; its number
+-- in the history, its place in the journal, its moment, and the id of what it made, where that has
+-- one.
 use Rattle.std.specs.Prelude.{ℕ, List, [], ◌∷◌, Bool, true, false, Option, None, Some, codes}
 use Rattle.std.specs.Prelude.{option_map}
 use Rattle.std.specs.List.{list_any}
 use Rattle.std.specs.Str.{bytes_eq}
-use Rattle.serde_json.specs.Data.{Data, Members, no_members, number, object, put, string, unsigned}
+use Rattle.serde_json.specs.Data.{Data, Members, no_members, number as a_number, object, put}
+use Rattle.serde_json.specs.Data.{string, unsigned}
 use Rattle.serde_json.specs.Written.{compact_text}
 use Rattle.reg_terms.specs.declared.command.Command.{Command}
 use Rattle.reg_terms.specs.declared.command.Stamped.{Stamped}
@@ -41,20 +43,26 @@ request_members by c =
     with_fields (fields_of c) (command_row (kind_of c)).op.fields
     (front by (command_row (kind_of c)).op.word)
 
+-- a whole number
+abbrev pub count_data : ℕ → Data
+count_data n = a_number (unsigned n)
+
 -- an id, where there is one
 abbrev pub id_data : Option ℕ → Option Data
-id_data made = option_map (λ (id : ℕ). number (unsigned id)) made
+id_data made = option_map count_data made
 
--- the members of the line of a command, by its place in the history and the id of what it made
-unfoldable pub line_members : ℕ → Option ℕ → Stamped → Members
-line_members place made s =
+-- the members of the line of a command, by its number in the history, its place in the journal and
+-- the id of what it made
+unfoldable pub line_members : (number place : ℕ) → Option ℕ → Stamped → Members
+line_members number place made s =
     put (codes "at") (moment_data s.at)
-    (put (codes "number") (number (unsigned place))
-    (with_data (codes "id") (id_data made) (request_members (entity_text s.by) s.command)))
+    (put (codes "place") (count_data place)
+    (put (codes "number") (count_data number)
+    (with_data (codes "id") (id_data made) (request_members (entity_text s.by) s.command))))
 
 -- the text of the line, without its LF
-unfoldable pub command_text : ℕ → Option ℕ → Stamped → List ℕ
-command_text place made s = compact_text (object (line_members place made s))
+unfoldable pub command_text : (number place : ℕ) → Option ℕ → Stamped → List ℕ
+command_text number place made s = compact_text (object (line_members number place made s))
 
 -- ---- ids
 

@@ -1,5 +1,5 @@
--- The lines of a history's commands: each its text and LF, in order, with its place from 1 on and
--- the id of what it made.
+-- The lines of a history's commands: each its text and LF, in order, with its number from 1 on, its
+-- place in the journal and the id of what it made.
 use Rattle.std.specs.Prelude.{◌≤◌, ℕ, ◌+◌, List, [], ◌∷◌, ◌++◌, Option, Some, None}
 use Rattle.std.specs.Prelude.{if◌then◌else◌, ◌&&◌, Bool, nat_le}
 use Rattle.reg_terms.specs.declared.command.Command.{Command}
@@ -33,49 +33,65 @@ made_after n (RuleVeto owner condition) = record n { rules = n.rules + 1 }
 made_after n (RuleOnCreate folder scope privilege holder) = record n { rules = n.rules + 1 }
 made_after n _ = n
 
--- whether a place is one from the first on and no later than the last
-abbrev pub is_asked : (from to place : ℕ) → Bool
-is_asked from to place = nat_le from place && nat_le place to
+-- whether a number is one from the first on and no later than the last
+abbrev pub is_asked : (from to number : ℕ) → Bool
+is_asked from to number = nat_le from number && nat_le number to
 
--- the line of the command at a place, after commands that made so many, where the place is asked for
-abbrev pub line_at : (from to place : ℕ) → Counts → Stamped → List ℕ
-line_at from to place n s =
-    if is_asked from to place then command_text place (made_by n s.command) s ++ 10 ∷ [] else []
+-- A command as a list has it: the place at which its frame begins in the journal, the id of what it
+-- made, where that has one and no name, and the command with its moment and its caller.
+pub record Row : Type 0 where
+  pub place : ℕ
+  pub made : Option ℕ
+  pub stamped : Stamped
 
--- the lines of these commands, of which the first has this place, after commands that made so many
-abbrev pub listed : (from to place : ℕ) → Counts → List Stamped → List ℕ
-listed from to place n [] = []
-listed from to place n (s ∷ ss) =
-    line_at from to place n s ++ listed from to (place + 1) (made_after n s.command) ss
+-- the line of the command of a number, where that is asked for
+abbrev pub line_at : (from to number : ℕ) → Row → List ℕ
+line_at from to number row =
+    if is_asked from to number then command_text number row.place row.made row.stamped ++ 10 ∷ []
+    else []
 
--- the lines of a history's commands from the first of these places to the last
-abbrev pub listing : (from to : ℕ) → List Stamped → List ℕ
-listing from to history = listed from to 1 nothing_made history
+-- the lines of these commands, of which the first has this number
+abbrev pub listed : (from to number : ℕ) → List Row → List ℕ
+listed from to number [] = []
+listed from to number (row ∷ rows) = line_at from to number row ++ listed from to (number + 1) rows
+
+-- the lines of a history's commands from the first of these numbers to the last
+abbrev pub listing : (from to : ℕ) → List Row → List ℕ
+listing from to rows = listed from to 1 rows
+
+-- commands at their places, each with the id of what it made after commands that made so many
+abbrev pub counted : Counts → List (ℕ × Stamped) → List Row
+counted n [] = []
+counted n (c ∷ cs) =
+    record { place = c.0; made = made_by n c.1.command; stamped = c.1 }
+    ∷ counted (made_after n c.1.command) cs
 
 -- ---- for private clauses
 
--- Where a listing stands: from which place to which it goes, how many commands it went over, how
+-- Where a listing stands: from which number to which it goes, how many commands it went over, how
 -- many of what has an id these made, and the lines that weren't taken from it.
 pub record Progress : Type 0 where
   pub from : ℕ
   pub to : ℕ
-  pub place : ℕ
+  pub number : ℕ
   pub counts : Counts
   pub lines : List ℕ
 
 -- it went over nothing
 abbrev pub beginning : (from to : ℕ) → Progress
 beginning from to =
-    record { from = from; to = to; place = 0; counts = nothing_made; lines = [] }
+    record { from = from; to = to; number = 0; counts = nothing_made; lines = [] }
 
--- it went over one command more
-abbrev pub with_command : Progress → Stamped → Progress
-with_command p s = record {
+-- it went over one command more, which stands at this place
+abbrev pub with_command : Progress → ℕ → Stamped → Progress
+with_command p place s = record {
   from = p.from;
   to = p.to;
-  place = p.place + 1;
+  number = p.number + 1;
   counts = made_after p.counts s.command;
-  lines = p.lines ++ line_at p.from p.to (p.place + 1) p.counts s;
+  lines = p.lines
+      ++ line_at p.from p.to (p.number + 1)
+      (record { place = place; made = made_by p.counts s.command; stamped = s });
 }
 
 -- its lines were taken away
@@ -83,6 +99,6 @@ abbrev pub cleared : Progress → Progress
 cleared p = record p { lines = [] }
 
 -- so many commands made no more than one thing each
-pub record IsCounted (place : ℕ) (n : Counts) : Type 0 where
-  pub assigns : n.assigns ≤ place
-  pub rules : n.rules ≤ place
+pub record IsCounted (number : ℕ) (n : Counts) : Type 0 where
+  pub assigns : n.assigns ≤ number
+  pub rules : n.rules ≤ number

@@ -1,5 +1,6 @@
 -- What the object of a line tells: the request that asked for the command, once the members that no
--- request has are taken away; and the command with its place, its moment and its caller.
+-- request has are taken away; and the command with its number, its place, its moment and its
+-- caller.
 use Rattle.std.specs.Prelude.{◌≡◌, ◌⊎◌, ℕ, List, [], ◌∷◌, true, false, Option, None, Some, Result}
 use Rattle.std.specs.Prelude.{Ok, Err, codes, if◌then◌else◌, ok_or, option_and_then, option_map}
 use Rattle.std.specs.Str.{bytes_eq}
@@ -36,9 +37,11 @@ abbrev pub without_id : Option ℕ → Members → Members
 without_id None ms = ms
 without_id (Some id) ms = without (codes "id") ms
 
--- the members of a line that a request has: all but its place, its moment and the id that was made
+-- the members of a line that a request has: all but its number, its place, its moment and the id
+-- that was made
 unfoldable pub request_part : Option ℕ → Members → Members
-request_part made ms = without_id made (without (codes "number") (without (codes "at") ms))
+request_part made ms =
+    without_id made (without (codes "number") (without (codes "place") (without (codes "at") ms)))
 
 -- ---- the command
 
@@ -98,17 +101,18 @@ caller_at d = do
   text ← text_at (codes "by") d
   entity_from (codes "by") text
 
--- the place in the history, and the command with its moment and its caller
-unfoldable pub line_in : Data → Result (ℕ × Stamped) Refusal
+-- the number in the history, the place in the journal, and the command with its moment and caller
+unfoldable pub line_in : Data → Result (ℕ × ℕ × Stamped) Refusal
 line_in d = do
-  place ← number_at 0 18446744073709551615 (codes "number") d
+  number ← number_at 0 18446744073709551615 (codes "number") d
+  place ← number_at 0 18446744073709551615 (codes "place") d
   moment ← moment_at d
   by ← caller_at d
   word ← text_at (codes "op") d
   known ← ok_or (command_worded word) (BadRequest (codes "op"))
   fields ← all_told (command_row known).op.fields d
   command ← ok_or (made_command known fields) (BadRequest [])
-  Ok (place, record { at = moment; by = by; command = command })
+  Ok (number, place, record { at = moment; by = by; command = command })
 
 -- ---- which lines are read back
 

@@ -15,22 +15,24 @@ ghost use Rattle.reg_export.specs.declared.counts.Counts.{Counts};
 
 use reg_ops::law_commands;
 
-/// What is left of a line without its place, its moment and the id that was made is read as a
-/// request, which asks for the same command for the same caller. No request asks for the rows of a
-/// load.
+/// What is left of a line without its number, its place, its moment and the id that was made is
+/// read as a request, which asks for the same command for the same caller. No request asks for the
+/// rows of a load.
 pub fn law_request_reads_back()
-    ensures { (place : ℕ) (made : Option ℕ) (s : Stamped) → IsTold made s
+    ensures { (number place : ℕ) (made : Option ℕ) (s : Stamped) → IsTold made s
         → (kind_of s.command ≡ command.Load → ⊥)
-        → request_in (object (request_part made (line_members place made s)))
+        → request_in (object (request_part made (line_members number place made s)))
         ≡ Ok (record { by = entity_text s.by; op = asked.Command s.command }) }
 {
     law_commands();
 }
 
-/// A line tells the place, the moment, the caller and the command, of a load with its rows.
+/// A line tells the number, the place, the moment, the caller and the command, of a load with its
+/// rows.
 pub fn law_line_reads_back()
-    ensures { (place : ℕ) (made : Option ℕ) (s : Stamped) → place < 2 ^ 64 → IsTold made s
-        → line_in (object (line_members place made s)) ≡ Ok (place, s) }
+    ensures { (number place : ℕ) (made : Option ℕ) (s : Stamped) → number < 2 ^ 64
+        → place < 2 ^ 64 → IsTold made s
+        → line_in (object (line_members number place made s)) ≡ Ok (number, place, s) }
 {
     law_commands();
 }

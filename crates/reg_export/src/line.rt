@@ -44,15 +44,18 @@ fn request_members(
 #[tactic(auto, unfolding(crate::specs::Lines::line_members))]
 fn line_members(
     alloc: Global,
+    number: u64,
     place: u64,
     made: Option<u64>,
     stamped: &Stamped,
 ) -> Result<Map<String, Value>, AllocError>
-    ensures { IfOk result (λ ms. members_view ms.entries ≡ line_members place made stamped.now) }
+    ensures { IfOk result (λ ms. members_view ms.entries
+        ≡ line_members number place made stamped.now) }
 {
     let mut members = request_members(alloc, &stamped.by, &stamped.command)?;
     put_id(alloc, &mut members, made)?;
-    put(&mut members, alloc, "number", Value::from(place))?;
+    put(&mut members, alloc, "number", Value::from(number))?;
+    put(&mut members, alloc, "place", Value::from(place))?;
     let at = moment_value(alloc, stamped.at)?;
     put(&mut members, alloc, "at", at)?;
     Ok(members)
@@ -60,31 +63,33 @@ fn line_members(
 
 fn line_value(
     alloc: Global,
+    number: u64,
     place: u64,
     made: Option<u64>,
     stamped: &Stamped,
 ) -> Result<Value, AllocError>
-    ensures { IfOk result (λ v. view v ≡ object (line_members place made stamped.now)) }
+    ensures { IfOk result (λ v. view v ≡ object (line_members number place made stamped.now)) }
 {
-    let members = line_members(alloc, place, made, stamped)?;
+    let members = line_members(alloc, number, place, made, stamped)?;
     Ok(Value::from(members))
 }
 
-/// The text of an accepted command, by its place in the history and the id of what it made, where
-/// that has one and no name: compact JSON whose keys ascend, without an ending LF. The only error
-/// is out of memory.
+/// The text of an accepted command, by its number in the history, its place in the journal and the
+/// id of what it made, where that has one and no name: compact JSON whose keys ascend, without an
+/// ending LF. The only error is out of memory.
 pub fn command_text(
     alloc: Global,
+    number: u64,
     place: u64,
     made: Option<u64>,
     stamped: &Stamped,
 ) -> Result<Vec<u8>, AllocError>
-    ensures text { IfOk result (λ bytes. bytes.items ≡ command_text place made stamped.now) }
+    ensures text { IfOk result (λ bytes. bytes.items ≡ command_text number place made stamped.now) }
     // A reader of JSON finds the members of the line.
     ensures object { IfOk result (λ bytes. json_of bytes.items
-        ≡ Ok (object (line_members place made stamped.now))) }
+        ≡ Ok (object (line_members number place made stamped.now))) }
 {
-    let line = line_value(alloc, place, made, stamped)?;
+    let line = line_value(alloc, number, place, made, stamped)?;
     let bytes = line.to_vec(alloc)?;
     Ok(bytes)
 }

@@ -19,8 +19,11 @@ use std::alloc::{AllocError, Global};
 /// The most bytes of a head.
 const HEAD_LIMIT: usize = 16_384;
 
+/// How many fields most heads have at most.
+const USUAL_ROOM: usize = 16;
+
 /// The most fields of a head that is taken.
-pub(crate) const FIELD_LIMIT: usize = 64;
+const FIELD_LIMIT: usize = 64;
 
 /// The most fields that the bytes of a head can have: each takes three bytes or more.
 const FIELD_ROOM: usize = 5_462;
@@ -182,8 +185,24 @@ fn read_into(
     }
 }
 
-/// What stands at the front of the bytes. Where there are too few places for the fields, all are
-/// made that a head can need.
+/// The same with so many places at least. Those that are there are used again.
+fn read_with(
+    alloc: Global,
+    bytes: &[u8],
+    places: &mut Vec<HeaderSpan>,
+    room: usize,
+) -> Result<Option<Front>, AllocError>
+    ensures front { IfOk result (λ front. IfSome front (IsFront bytes.now)) }
+    ensures room { 5462 ≤ room → IfOk result (λ front. IsSome front) }
+{
+    if places.len() < room {
+        *places = vec![in alloc; EMPTY_HEADER_SPAN; room]?;
+    }
+    read_into(alloc, bytes, places.as_mut_slice())
+}
+
+/// What stands at the front of the bytes. Places for the fields are made as a head needs them: for
+/// a usual one, for the largest that is taken, or for all that its bytes can have.
 pub(crate) fn read_front(
     alloc: Global,
     bytes: &[u8],
@@ -191,11 +210,13 @@ pub(crate) fn read_front(
 ) -> Result<Front, AllocError>
     ensures { IfOk result (IsFront bytes.now) }
 {
-    if let Some(front) = read_into(alloc, bytes, places.as_mut_slice())? {
+    if let Some(front) = read_with(alloc, bytes, places, USUAL_ROOM)? {
         return Ok(front);
     }
-    *places = vec![in alloc; EMPTY_HEADER_SPAN; FIELD_ROOM]?;
-    match read_into(alloc, bytes, places.as_mut_slice())? {
+    if let Some(front) = read_with(alloc, bytes, places, FIELD_LIMIT)? {
+        return Ok(front);
+    }
+    match read_with(alloc, bytes, places, FIELD_ROOM)? {
         Some(front) => Ok(front),
         None => unreachable!(),
     }

@@ -13,6 +13,9 @@ use reg_base::Bytes;
 use std::alloc::{AllocError, Global};
 use std::marker::Model;
 
+/// How many bytes a buffer may have had that is used again.
+const KEPT_ROOM: usize = 16_384;
+
 /// The bytes that were fed and aren't given, and the head at their front once it was found.
 #[derive(Drop)]
 pub(crate) struct Held {
@@ -82,7 +85,7 @@ fn call_of(head: Head, body: Bytes) -> Call
 }
 
 /// Lets the bytes go that were given, so many in front, where they are more than the others. It
-/// says where the others begin then.
+/// says where the others begin then. Where there are no others, a small buffer is used again.
 fn let_go(alloc: Global, bytes: &mut Vec<u8>, given: usize) -> Result<usize, AllocError>
     requires { given ≤ length bytes.old.items }
     ensures rest { IfOk result (λ start. drop start bytes.new.items ≡ drop given bytes.old.items) }
@@ -91,6 +94,10 @@ fn let_go(alloc: Global, bytes: &mut Vec<u8>, given: usize) -> Result<usize, All
 {
     if given <= bytes.len() - given {
         return Ok(given);
+    }
+    if given == bytes.len() && given <= KEPT_ROOM {
+        bytes.clear();
+        return Ok(0);
     }
     *bytes = bytes[given..].to_vec(alloc)?;
     Ok(0)

@@ -5,9 +5,8 @@ ghost use Rattle.reg_http.specs.Holding.{HoldsFew};
 ghost use Rattle.reg_http.specs.Turns.{start, fed, GivesTurn};
 
 use crate::call::{HeadFault, Turn};
-use crate::head::FIELD_LIMIT;
 use crate::held::{Held, Look};
-use httparse::spans::{EMPTY_HEADER_SPAN, HeaderSpan};
+use httparse::spans::HeaderSpan;
 use std::alloc::{AllocError, Global};
 use std::marker::Model;
 
@@ -18,7 +17,7 @@ pub struct HttpReader {
     alloc: Global,
     held: Held,
     fault: Option<HeadFault>,
-    /// Places for the fields of a head.
+    /// Places for the fields of a head. They are made with the first one, and used again.
     places: Vec<HeaderSpan>,
 }
 
@@ -42,7 +41,7 @@ impl HttpReader {
             alloc,
             held: Held::new(alloc),
             fault: None,
-            places: vec![in alloc; EMPTY_HEADER_SPAN; FIELD_LIMIT]?,
+            places: Vec::new(alloc),
         })
     }
 
@@ -75,6 +74,8 @@ impl HttpReader {
             Look::NeedMore => Ok(Turn::NeedMore),
             Look::Bad(fault) => {
                 self.fault = Some(fault);
+                // a head that had more fields than are taken may have needed many
+                self.places = Vec::new(self.alloc);
                 Ok(Turn::Bad(fault))
             }
         }

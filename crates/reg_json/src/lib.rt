@@ -25,6 +25,7 @@ mod taken_loaded;
 mod taken_refusal;
 mod taken_shown;
 mod taking;
+mod words;
 
 pub use laws::{law_any_order_of_keys, law_long_is_refused, law_read_is_formed};
 pub use read_back::read_reply;

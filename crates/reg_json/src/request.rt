@@ -9,8 +9,9 @@ ghost use Rattle.reg_json.specs.Reading.{body_reading_of};
 use crate::fault::{ReadFault, bad};
 use crate::fields::{Carrier, text_at};
 use crate::ops::asked_in;
+use crate::words::op_named;
 use reg_base::Bytes;
-use reg_ops::{OpKind, kind_named, law_ops};
+use reg_ops::{OpKind, law_ops};
 use reg_terms::{MAX_LINE, Refusal, Request};
 use serde_json::Value;
 use std::alloc::{AllocError, Global};
@@ -45,7 +46,7 @@ fn data_of(alloc: Global, line: &[u8]) -> Result<Value, ReadFault>
 fn known_kind(alloc: Global, word: &str) -> Result<OpKind, ReadFault>
     ensures { Gives (λ k. k) result (known_kind word.now) }
 {
-    match kind_named(word) {
+    match op_named(word) {
         Some(kind) => Ok(kind),
         None => Err(bad(alloc, "op")),
     }

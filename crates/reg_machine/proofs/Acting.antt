@@ -25,8 +25,11 @@ grants_stay [] o f = refl
 grants_stay (Removed rule g s ∷ actions) o f = grants_stay actions o (done (Removed rule g s) f) ∙ stays o f (done (Removed rule g s) f) refl refl refl refl refl refl
 grants_stay (Ended rule g s until ∷ actions) o f = grants_stay actions o (done (Ended rule g s until) f) ∙ stays o f (done (Ended rule g s until) f) refl refl refl refl refl refl
 
+pub settled_grants : (pairs : List (ℕ × ℕ)) (at : ℕ) (f : Lists) (o : Object) → grants o (settle pairs at f) ≡ grants o f
+settled_grants pairs at f o = grants_stay (settling pairs at f) o f
+
 pub settled_touches : (before f : Lists) (pairs : List (ℕ × ℕ)) (at : ℕ) (touched : List Object) → KnowsTouched before f touched → KnowsTouched before (settle pairs at f) touched
-settled_touches before f pairs at touched h o none = grants_stay (settling pairs at f) o f ∙ h o none
+settled_touches before f pairs at touched h o none = settled_grants pairs at f o ∙ h o none
 
 -- ---- what stands after what follows, and the steps of that, by what stood before the step and what stands after its own changes
 abbrev pub settled_now : Live → current.Now → current.Now

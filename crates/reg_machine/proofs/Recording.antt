@@ -6,6 +6,7 @@ use Rattle.reg_terms.specs.declared.command.Command.{Command}
 use Rattle.reg_terms.specs.declared.event.Event.{Event}
 use Rattle.reg_terms.specs.declared.event.Event.TheVariants.{AssignMade}
 use Rattle.reg_terms.specs.declared.kinds.Member.{Member}
+use Rattle.reg_terms.specs.declared.kinds.Object.{Object}
 use Rattle.reg_facts.specs.Events.{all_happened, events_of, happened}
 use Rattle.reg_facts.specs.Lists as the_facts
 use Rattle.reg_facts.specs.Lists.{Lists}
@@ -14,6 +15,8 @@ use Rattle.reg_facts.specs.Suiting.{AllSuit, Suits}
 use Rattle.reg_facts.proofs.Sounding.{start_sound}
 use Rattle.reg_effect.specs.declared.live.Live.{Live}
 use Rattle.reg_effect.specs.Member.{member}
+use Rattle.reg_priv.specs.Grants.{grants}
+use Rattle.reg_priv.proofs.Untouched.{stays}
 use Rattle.reg_audit.specs.Assigning.{AllMakeNew, MakesNew}
 use Rattle.reg_audit.specs.Audit.{IsAudit}
 use Rattle.reg_audit.specs.Steps.{Step, FollowsOn, left_by}
@@ -29,6 +32,7 @@ use Rattle.reg_machine.specs.Past.{AreKnown, AreLived, command_step, date_step, 
 use Rattle.reg_machine.specs.Recording.{IsRecorded, Recording, Records, carried_step, settled_after}
 use Rattle.reg_machine.specs.Refusals.{refusal}
 use Rattle.reg_machine.specs.Standing.{AreStood}
+use Rattle.reg_machine.proofs.Acting.{settled_grants}
 use Rattle.reg_machine.proofs.Defined.{defined_later, defined_next, defined_push, defined_start}
 use Rattle.reg_current.proofs.Due.{due_some}
 use Rattle.reg_machine.proofs.Formed.{carried_formed, date_formed, start_formed}
@@ -67,6 +71,14 @@ rows_count : (rows : List (ℕ × Member)) (f : Lists) → (all_happened (map pa
 rows_count [] f = refl
 rows_count (row ∷ rows) f = rows_count rows (happened (pair_gone row) f)
 
+-- nor the grants on an object
+rows_grant : (rows : List (ℕ × Member)) (f : Lists) (o : Object) → grants o (all_happened (map pair_gone rows) f) ≡ grants o f
+rows_grant [] f o = refl
+rows_grant (row ∷ rows) f o = rows_grant rows (happened (pair_gone row) f) o ∙ stays o f (happened (pair_gone row) f) refl refl refl refl refl refl
+
+date_grants : (a d : ℕ) (f : Lists) (o : Object) → grants o (date_passed a d f) ≡ grants o f
+date_grants a d f o = settled_grants (ended (live a f) (live d (without_ended d f))) d (without_ended d f) o ∙ stays o f (without_ended d f) refl refl refl refl refl refl
+
 settle_count : (pairs : List (ℕ × ℕ)) (at : ℕ) (f : Lists) → (settle pairs at f).made.assigns ≡ f.made.assigns
 settle_count pairs at f = ap (λ (x : Lists). x.made.assigns) (settle_is pairs at f)
 
@@ -88,8 +100,9 @@ rows_make_none (row ∷ rows) f = (tt, rows_make_none rows (happened (pair_gone 
 
 -- a step from the live data at the clock on comes after those of the history
 follows : (history : List Stamped) (clock : ℕ) (step : Step) → AreLived history clock → clock ≤ step.at → step.live ≡ live clock (facts history clock) → step.before ≡ facts history clock → step.after.consumers ≡ (all_happened step.events step.before).consumers
-    → step.after.assigns ≡ (all_happened step.events step.before).assigns → step.after.made.assigns ≡ (all_happened step.events step.before).made.assigns → AllMakeNew step.events step.before → FollowsOn (steps history clock) step
-follows history clock step h later is from after assigned made new =
+    → step.after.assigns ≡ (all_happened step.events step.before).assigns → step.after.made.assigns ≡ (all_happened step.events step.before).made.assigns → AllMakeNew step.events step.before
+    → ((o : Object) → grants o step.after ≡ grants o (all_happened step.events step.before)) → FollowsOn (steps history clock) step
+follows history clock step h later is from after assigned made new granted =
     let moment = last_moment_by clock (steps history clock) h.by in
     record {
       later = omega (arith, moment, later);
@@ -99,6 +112,7 @@ follows history clock step h later is from after assigned made new =
       assigns_after = assigned;
       made_after = made;
       new_assigns = new;
+      grants_after = granted;
     }
 
 -- the next date comes after the steps so far, and so does what events make at the clock
@@ -107,11 +121,13 @@ next_follows history d r h first =
     let later = (due_some r.now.clock d d r.now.facts.rows first).later in
     follows history r.now.clock (date_step r.now.clock d r.now.facts) h.lived (omega (arith, later)) (ap (λ (f : Lists). live r.now.clock f) h.in_step.facts) h.in_step.facts (date_consumers r.now.clock d r.now.facts ∙ sym (rows_keep (ending d r.now.facts.rows) r.now.facts)) (date_assigns r.now.clock d r.now.facts ∙ sym (rows_leave (ending d r.now.facts.rows) r.now.facts))
     (date_count r.now.clock d r.now.facts ∙ sym (rows_count (ending d r.now.facts.rows) r.now.facts)) (rows_make_none (ending d r.now.facts.rows) r.now.facts)
+    (λ o. date_grants r.now.clock d r.now.facts o ∙ sym (rows_grant (ending d r.now.facts.rows) r.now.facts o))
 
 pub carried_follows : (history : List Stamped) (r : Recording) (es : List Event) → IsRecorded history r → AllHold r.now.clock es r.now.facts → FollowsOn (steps history r.now.clock) (carried_step r.now es)
 carried_follows history r es h hold = follows history r.now.clock (carried_step r.now es) h.lived (omega arith) (ap (λ (f : Lists). live r.now.clock f) h.in_step.facts) h.in_step.facts (settle_consumers (ended (live r.now.clock r.now.facts) (live r.now.clock (all_happened es r.now.facts))) r.now.clock (all_happened es r.now.facts))
     (settle_assigns (ended (live r.now.clock r.now.facts) (live r.now.clock (all_happened es r.now.facts))) r.now.clock (all_happened es r.now.facts))
     (settle_count (ended (live r.now.clock r.now.facts) (live r.now.clock (all_happened es r.now.facts))) r.now.clock (all_happened es r.now.facts)) (all_make_new es r.now.facts (all_suit r.now.clock es r.now.facts hold))
+    (settled_grants (ended (live r.now.clock r.now.facts) (live r.now.clock (all_happened es r.now.facts))) r.now.clock (all_happened es r.now.facts))
 
 known_then : (history : List Stamped) (d : ℕ) (r new : Recording) → IsRecorded history r → new.now ≡ record { clock = d; facts = date_passed r.now.clock d r.now.facts } → due r.now.clock d (facts history r.now.clock).rows ≡ Some d → IsInStep history new.now → IsSound new.now.facts → AreKnown history new.now.clock
 known_then history d r new h is there stands sound =

@@ -1,5 +1,5 @@
 -- Privileges on objects as keys.
-use Rattle.std.proofs.Common.{◌≡◌, ◌<◌, ◌≤◌, ◌^◌, ◌+◌, ◌&&◌, ◌||◌, ℕ, List, Bool, true, false, length, take, get_or, if◌then◌else◌, nat_le, arith, refl, sym, ◌∙◌, inl, inr}
+use Rattle.std.proofs.Common.{◌≡◌, ◌<◌, ◌≤◌, ◌^◌, ◌+◌, ◌&&◌, ◌||◌, ℕ, List, Bool, true, false, length, take, get_or, if◌then◌else◌, nat_le, arith, refl, sym, ap, ◌∙◌, inl, inr}
 use Rattle.std.proofs.lemmas.Bool.{cases_Bool}
 use Rattle.std.proofs.lemmas.Bool.Decides.{nat_tests}
 use Rattle.std.proofs.lemmas.Grind.{common_steps}
@@ -15,7 +15,7 @@ use Rattle.reg_terms.specs.declared.kinds.Holder.{Holder}
 use Rattle.reg_terms.specs.declared.kinds.Holder.TheVariants as holder
 use Rattle.reg_pit.specs.Spans.{covers}
 use Rattle.reg_pit.specs.Runs.{spans_of, is_between}
-use Rattle.reg_pit.specs.Grants.{object_cmp, privilege_cmp, holder_cmp, grant_cmp, is_granted, has_grant, Fits, AreHeld}
+use Rattle.reg_pit.specs.Grants.{object_cmp, privilege_cmp, holder_cmp, grant_cmp, is_granted, has_grant, same_held, Fits, AreHeld}
 use Rattle.reg_pit.proofs.Objects.{object_tells, object_turned, object_tied}
 
 -- ---- the keys of one object
@@ -90,6 +90,10 @@ all_equal Equal Equal c = refl
 pub same_grant : (a o : Object) (p q : Privilege) (h j : Holder) → eq_by_cmp grant_cmp (a, p, h) (o, q, j) ≡ (same_object o a && (is_eq (privilege_cmp p q) && is_eq (holder_cmp h j)))
 same_grant a o p q h j = all_equal (object_cmp a o) (privilege_cmp p q) (holder_cmp h j) ∙ rw (object_tells a o) refl
 
+-- what is set of one key is said of its object, privilege and holder
+pub one_set : (a o : Object) (p q : Privilege) (h j : Holder) (on : Bool) (at t : ℕ) (new old : Bool) → new ≡ (if eq_by_cmp grant_cmp (a, p, h) (o, q, j) && nat_le at t then on else old) → new ≡ (if (same_object o a && same_held (p, h) (q, j)) && nat_le at t then on else old)
+one_set a o p q h j on at t new old e = e ∙ ap (λ b. if b && nat_le at t then on else old) (same_grant a o p q h j)
+
 one_more : (s this seen le new mid old : Bool) → new ≡ (if (s && this) && le then true else mid) → mid ≡ (if (s && seen) && le then true else old) → new ≡ (if (s && (seen || this)) && le then true else old)
 one_more false this seen le new mid old p q = p ∙ q
 one_more true true true true new mid old p q = p
@@ -125,9 +129,9 @@ never_true true true = refl
 never_true true false = refl
 never_true false b = refl
 
-pub held_more : (a : Object) (p : Privilege) (h : Holder) (at : ℕ) (old new : List (((Object × Privilege × Holder) × ℕ) × ℕ)) → Fits h → AreHeld old
-    → ((k : Object × Privilege × Holder) (t : ℕ) → covers (spans_of grant_cmp new k) t ≡ (if eq_by_cmp grant_cmp (a, p, h) k && nat_le at t then true else covers (spans_of grant_cmp old k) t)) → AreHeld new
-held_more a p h at old new f was set o q g t w =
+pub held_more : (a : Object) (p : Privilege) (h : Holder) (on : Bool) (at : ℕ) (old new : List (((Object × Privilege × Holder) × ℕ) × ℕ)) → Fits h → AreHeld old
+    → ((k : Object × Privilege × Holder) (t : ℕ) → covers (spans_of grant_cmp new k) t ≡ (if eq_by_cmp grant_cmp (a, p, h) k && nat_le at t then on else covers (spans_of grant_cmp old k) t)) → AreHeld new
+held_more a p h on at old new f was set o q g t w =
     set (o, q, holder.Group g) t ∙ rw (same_grant a o p q h (holder.Group g), other_holder h g f w, never_true (same_object o a) (is_eq (privilege_cmp p q))) (was o q g t w)
 
 either_false : (b old : Bool) → old ≡ false → (if b then false else old) ≡ false

@@ -37,6 +37,10 @@ abbrev pub is_granted : List (((Object × Privilege × Holder) × ℕ) × ℕ) �
     → ℕ → Bool
 is_granted grants o p h t = covers (spans_of grant_cmp grants (o, p, h)) t
 
+-- the two are one privilege of one holder
+abbrev pub same_held : Privilege × Holder → Privilege × Holder → Bool
+same_held a b = is_eq (privilege_cmp a.0 b.0) && is_eq (holder_cmp a.1 b.1)
+
 -- whether a privilege of a holder is among some
 abbrev pub has_grant : List (Privilege × Holder) → Privilege → Holder → Bool
 has_grant grants p h =

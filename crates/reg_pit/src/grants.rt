@@ -9,7 +9,8 @@ ghost use Rattle.reg_terms.specs.declared.kinds.Object.{Object};
 ghost use Rattle.reg_terms.specs.declared.kinds.Holder.{Holder};
 ghost use Rattle.reg_pit.specs.Spans.{AreSpans, NoLater, looked_at};
 ghost use Rattle.reg_pit.specs.Runs.{spans_of};
-ghost use Rattle.reg_pit.specs.Grants.{grant_cmp, is_granted, has_grant, held_cmp, Fits};
+ghost use Rattle.reg_pit.specs.Grants.{grant_cmp, is_granted, has_grant, held_cmp, same_held};
+ghost use Rattle.reg_pit.specs.Grants.{Fits};
 
 use crate::Intervals;
 use reg_base::{GroupId, Moment, Privilege, Steps};
@@ -113,6 +114,29 @@ impl Grants {
             law_fits(holder);
             granted.set(key_of(&object, privilege, holder), true, at)?;
         }
+        Ok(Grants { alloc, granted })
+    }
+
+    /// From a moment on a holder has a privilege on an object, or hasn't; nothing was noted later.
+    pub(crate) fn set(
+        self,
+        object: Object,
+        privilege: Privilege,
+        holder: Holder,
+        on: bool,
+        at: Moment,
+    ) -> Result<Grants, AllocError>
+        requires { (k : Object × Privilege × Holder) → NoLater at (spans_of grant_cmp self k) }
+        ensures noted { IfOk result (λ after. (o : Object) (p : Privilege) (h : Holder) (t : ℕ)
+            → is_granted after o p h t
+            ≡ (if (same_object o object && same_held (privilege, holder) (p, h)) && nat_le at t
+            then on else is_granted self o p h t)) }
+        ensures last { IfOk result (λ after. (k : Object × Privilege × Holder)
+            → NoLater at (spans_of grant_cmp after k)) }
+    {
+        law_fits(&holder);
+        let Grants { alloc, mut granted } = self;
+        granted.set(key_of(&object, &privilege, &holder), on, at)?;
         Ok(Grants { alloc, granted })
     }
 

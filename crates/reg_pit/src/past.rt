@@ -12,7 +12,7 @@ ghost use Rattle.reg_terms.specs.declared.kinds.Holder.{Holder};
 ghost use Rattle.reg_terms.specs.declared.rows.AssignRow.{AssignRow};
 ghost use Rattle.reg_pit.specs.Spans.{AreSpansOf, looked_at, spans_until};
 ghost use Rattle.reg_pit.specs.Members.{Lists};
-ghost use Rattle.reg_pit.specs.Grants.{has_grant, held_cmp};
+ghost use Rattle.reg_pit.specs.Grants.{has_grant, held_cmp, same_held};
 ghost use Rattle.reg_pit.specs.Assigns.{changed, last_after};
 ghost use Rattle.reg_pit.specs.Owned.{rows_at};
 
@@ -123,6 +123,42 @@ impl Past {
         Ok(Past {
             memberships,
             grants: granted,
+            wheel,
+            assigns,
+        })
+    }
+
+    /// From a moment on a holder has a privilege on an object, or hasn't; nothing was noted later.
+    /// What was so before the moment stays so, and all other privileges on the object stay as they
+    /// were. Out of memory the past is given up. Costs two looks, whatever else was ever noted.
+    pub fn note_grant(
+        self,
+        object: Object,
+        privilege: Privilege,
+        holder: Holder,
+        on: bool,
+        at: Moment,
+    ) -> Result<Past, AllocError>
+        requires { NotedBy at self }
+        ensures noted { IfOk result (λ past. (o : Object) (p : Privilege) (h : Holder) (t : ℕ)
+            → was_granted past o p h t
+            ≡ (if (same_object o object && same_held (privilege, holder) (p, h)) && nat_le at t
+            then on else was_granted self o p h t)) }
+        ensures members { IfOk result (λ past. KeepsMembers self past) }
+        ensures wheel { IfOk result (λ past. KeepsWheel self past) }
+        ensures assigns { IfOk result (λ past. KeepsAssigns self past) }
+        ensures last { IfOk result (λ past. NotedBy at past) }
+    {
+        let Past {
+            memberships,
+            grants,
+            wheel,
+            assigns,
+        } = self;
+        let grants = grants.set(object, privilege, holder, on, at)?;
+        Ok(Past {
+            memberships,
+            grants,
             wheel,
             assigns,
         })

@@ -21,7 +21,8 @@ log_moments history clock = moments_of (log history clock)
 
 -- what is wanted at a boundary of the log
 abbrev pub wish_of : List Stamped → ℕ → ℕ → ℕ → ℕ → ℕ → Bool
-wish_of history clock provisioner = wanted_at (wants history provisioner) (log_moments history clock)
+wish_of history clock provisioner =
+    wanted_at (wants history provisioner) (log_moments history clock)
 
 -- the operations from a place in the log on, and where they end
 abbrev pub IsBatch : List Stamped → ℕ → ℕ → ℕ → ℕ → List TargetOp → ℕ → Type 0

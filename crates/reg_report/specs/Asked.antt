@@ -73,7 +73,8 @@ resource_in attribute f =
 -- the moment asked of, which is the clock's where none is given, and isn't later than the clock
 abbrev pub in_time : ℕ → Option ℕ → Result ℕ Refusal
 in_time clock None = Ok clock
-in_time clock (Some asked) = if nat_lt clock asked then Err (refusal.Future asked clock) else Ok asked
+in_time clock (Some asked) =
+    if nat_lt clock asked then Err (refusal.Future asked clock) else Ok asked
 
 -- ---- reports
 

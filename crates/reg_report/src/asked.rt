@@ -32,7 +32,8 @@ impl From<AllocError> for Unreported {
 }
 
 ghost use Rattle.reg_report.specs.Asked.{check_action, attestation_asked, attested_asked};
-ghost use Rattle.reg_report.specs.Asked.{attribute_found, group_found, in_time, moment_in, check_name};
+ghost use Rattle.reg_report.specs.Asked.{attribute_found, check_name, group_found, in_time};
+ghost use Rattle.reg_report.specs.Asked.{moment_in};
 ghost use Rattle.reg_report.specs.Asked.{permit_asked, permitted_asked, person_found, person_in};
 ghost use Rattle.reg_report.specs.Asked.{resource_in, subject_in};
 ghost use Rattle.reg_report.specs.Gives.{Gives, IsRefusal};

@@ -28,7 +28,7 @@ use Rattle.reg_run.specs.Due.{Due, Told, ToldOnce, AnswersTo, due_of, end_of_due
 use Rattle.reg_run.specs.Ends.{ApplyEnds, DidApply, AskEnds, TooMuchExactly, begins_at, end_of_stop}
 use Rattle.reg_run.specs.Once.{Printed, end_of_reply}
 use Rattle.reg_run.specs.KeepsUp.{DiskKeepsUp}
-use Rattle.reg_run.specs.World.{World, Out, IsFlushed, SameNet, marked_output, output}
+use Rattle.reg_run.specs.World.{World, Out, IsFlushed, SameFaults, SameNet, marked_output, output}
 use Rattle.reg_run.specs.declared.status.End.{End}
 use Rattle.reg_run.specs.declared.status.End.TheVariants as the_end
 
@@ -84,19 +84,19 @@ replied_front IsDue (Some ms) m due w w2 first is front = (due, subst (λ (k : �
 
 -- what was due was printed whole
 due_ends : (IsDue : ℕ → Due → Type 0) (end : End) (before after : World) (m : ℕ) (due : Due) → IfSome before.moments (λ ms. m ≡ first_moment ms) → IsDue m due → end ≡ end_of_due due
-    → after.written ≡ append_known before.written due.bytes → IsFlushed after → AskEnds IsDue end before after
-due_ends IsDue end before after m due first is of wrote flushed = by_refused due.refused refl
+    → after.written ≡ append_known before.written due.bytes → IsFlushed after → after.writes ≡ before.writes → AskEnds IsDue end before after
+due_ends IsDue end before after m due first is of wrote flushed still = by_refused due.refused refl
   where
     by_refused : (b : Bool) → due.refused ≡ b → AskEnds IsDue end before after
     by_refused true refused =
         let ends : end ≡ the_end.Refused = of ∙ ap (λ (b : Bool). if b then the_end.Refused else the_end.Done) refused in
-        rw ends (replied IsDue before.moments m due true before.written after.written first is refused wrote, flushed)
+        rw ends (replied IsDue before.moments m due true before.written after.written first is refused wrote, flushed, still)
     by_refused false refused =
         let ends : end ≡ the_end.Done = of ∙ ap (λ (b : Bool). if b then the_end.Refused else the_end.Done) refused in
-        rw ends (replied IsDue before.moments m due false before.written after.written first is refused wrote, flushed)
+        rw ends (replied IsDue before.moments m due false before.written after.written first is refused wrote, flushed, still)
 
 ask_ends : (IsDue : ℕ → Due → Type 0) (end : End) (before after : World) (m : ℕ) → IfSome before.moments (λ ms. m ≡ first_moment ms) → Told (IsDue m) end (output before) (output after) → AskEnds IsDue end before after
-ask_ends IsDue end before after m first (inl (due, is, inl (inl p))) = due_ends IsDue end before after m due first is p.0 p.1 p.2
+ask_ends IsDue end before after m first (inl (due, is, inl (inl p))) = due_ends IsDue end before after m due first is p.0 p.1 p.2 p.3
 ask_ends IsDue end before after m first (inl (due, is, inl (inr p))) = rw p.0 (p.1, inl (replied_front IsDue before.moments m due before.written after.written first is p.2), p.3)
 ask_ends IsDue end before after m first (inl (due, is, inr p)) = rw p.0 (inr (ap (λ (o : Out). o.written) p.1, ap (λ (o : Out). o.flushed) p.1, ap (λ (o : Out). o.writes) p.1))
 ask_ends IsDue end before after m first (inr (inl (inl p))) = rw p.0 (inl (p.1, p.2))
@@ -147,50 +147,58 @@ any_given : {Q : List ℕ → Type 0} (left : Option (List ℕ)) → ((bytes : L
 any_given None each = tt
 any_given (Some bytes) each = each bytes
 
+-- a run ends for too much input only where its session does
+pub stop_too_much : (s : Stop) → end_of_stop s ≡ the_end.TooMuch → s ≡ stop.TooMuch
+stop_too_much stop.Memory is = absurd (cc)
+stop_too_much stop.Disk is = absurd (cc)
+stop_too_much stop.Input is = absurd (cc)
+stop_too_much stop.Output is = absurd (cc)
+stop_too_much stop.TooMuch is = refl
+
 -- where too much was taken
-too_much_of : (end : End) (from : State) (taken : List ℕ) (before after : World) (accepted answered : List Stamped) → Takes before.left taken after.left → ApplyEnds end from taken before after accepted answered
-    → TooMuchExactly end taken before after
-too_much_of the_end.Done from taken before after accepted answered input e = record {
+too_much_of : (end : End) (from : State) (taken : List ℕ) (before after : World) (accepted answered : List Stamped) → Takes before.left taken after.left → (end ≡ the_end.TooMuch → SameFaults before after)
+    → ApplyEnds end from taken before after accepted answered → TooMuchExactly end taken before after
+too_much_of the_end.Done from taken before after accepted answered input same e = record {
   only = λ is. absurd (cc);
   where_taken = λ none is. absurd (omega (arith, e.few, is));
   where_given = λ none. all_given _ before.left after.left taken input e.ended e.few;
 }
-too_much_of the_end.Usage from taken before after accepted answered input e = elim e [ ]
-too_much_of the_end.Memory from taken before after accepted answered input e = record {
+too_much_of the_end.Usage from taken before after accepted answered input same e = elim e [ ]
+too_much_of the_end.Memory from taken before after accepted answered input same e = record {
   only = λ is. absurd (cc);
   where_taken = λ none is. inr refl;
   where_given = λ none. any_given before.left (λ bytes many. inr refl);
 }
-too_much_of the_end.Disk from taken before after accepted answered input e = record {
+too_much_of the_end.Disk from taken before after accepted answered input same e = record {
   only = λ is. absurd (cc);
   where_taken = λ none is. absurd (none.disk e.0);
   where_given = λ none. absurd (none.disk e.0);
 }
-too_much_of the_end.Input from taken before after accepted answered input e = record {
+too_much_of the_end.Input from taken before after accepted answered input same e = record {
   only = λ is. absurd (cc);
   where_taken = λ none is. absurd (none.input e.0);
   where_given = λ none. absurd (none.input e.0);
 }
-too_much_of the_end.Output from taken before after accepted answered input e = record {
+too_much_of the_end.Output from taken before after accepted answered input same e = record {
   only = λ is. absurd (cc);
   where_taken = λ none is. absurd (none.output e.0);
   where_given = λ none. absurd (none.output e.0);
 }
-too_much_of (the_end.Damaged at) from taken before after accepted answered input e = elim e [ ]
-too_much_of the_end.Listener from taken before after accepted answered input e = elim e [ ]
-too_much_of the_end.TooMuch from taken before after accepted answered input e = record {
-  only = λ is. e.2;
+too_much_of (the_end.Damaged at) from taken before after accepted answered input same e = elim e [ ]
+too_much_of the_end.Listener from taken before after accepted answered input same e = elim e [ ]
+too_much_of the_end.TooMuch from taken before after accepted answered input same e = record {
+  only = λ is. (e.2, same is);
   where_taken = λ none is. inl refl;
   where_given = λ none. any_given before.left (λ bytes many. inl refl);
 }
-too_much_of the_end.Exists from taken before after accepted answered input e = elim e [ ]
-too_much_of the_end.Refused from taken before after accepted answered input e = elim e [ ]
+too_much_of the_end.Exists from taken before after accepted answered input same e = elim e [ ]
+too_much_of the_end.Refused from taken before after accepted answered input same e = elim e [ ]
 
 -- what `apply` did, from how it ended and what it left
 pub did_apply : (d : Seen) (end : End) (before after : World) (from : State) (taken : List ℕ) → Takes before.left taken after.left → length taken ≤ 2 ^ 32 → IsCutAtLineFeeds (lines taken) taken
-    → (accepted : List Stamped) (answered : ℕ) → SameNet before after → ApplyEnds end from taken before after accepted (from.history ++ take answered accepted) → DiskSurvives d from.history accepted answered (status_of end)
+    → (accepted : List Stamped) (answered : ℕ) → SameNet before after → (end ≡ the_end.TooMuch → SameFaults before after) → ApplyEnds end from taken before after accepted (from.history ++ take answered accepted) → DiskSurvives d from.history accepted answered (status_of end)
     → DiskKeepsUp d (from.history ++ accepted) IsLine (marked_output before) (marked_output after) → DidApply d end before after from
-did_apply d end before after from taken input few cut accepted answered net ends disk keeps_up = record {
+did_apply d end before after from taken input few cut accepted answered net same ends disk keeps_up = record {
   taken = taken;
   input = input;
   few = few;
@@ -198,7 +206,7 @@ did_apply d end before after from taken input few cut accepted answered net ends
   accepted = accepted;
   answered = answered;
   ends = ends;
-  too_much = too_much_of end from taken before after accepted (from.history ++ take answered accepted) input ends;
+  too_much = too_much_of end from taken before after accepted (from.history ++ take answered accepted) input same ends;
   net = net;
   disk = disk;
   keeps_up = keeps_up;

@@ -1,3 +1,4 @@
+pub mod AskedThen
 pub mod Asking
 pub mod Crashing
 pub mod Ending

@@ -31,17 +31,17 @@ judged_file (Some file) records r e j = judged_of (opened file) (Ok records) e �
 
 -- a journal that doesn't open
 pub open_caused : (f : OpenFault) (held : Option (List ℕ)) (before after : ℕ) → ((at : ℕ) → f ≡ fault.Damaged at → IfSome held (λ file. opened file ≡ Err at)) → (f ≡ fault.Fault → Rose before after)
-    → OpenCaused (end_of_open f) held before after
-open_caused (fault.Damaged at) held before after damaged rose = damaged_file held at (damaged at refl)
-open_caused fault.Fault held before after damaged rose = rose refl
-open_caused fault.NoMemory held before after damaged rose = tt
+    → ((at : ℕ) → f ≡ fault.Damaged at → after ≡ before) → (f ≡ fault.NoMemory → after ≡ before) → OpenCaused (end_of_open f) held before after
+open_caused (fault.Damaged at) held before after damaged rose still none = (damaged_file held at (damaged at refl), still at refl)
+open_caused fault.Fault held before after damaged rose still none = rose refl
+open_caused fault.NoMemory held before after damaged rose still none = none refl
 
 -- and one whose records aren't a history
 pub start_caused : (f : OpenFault) (held : Option (List ℕ)) (records : Records) (before after : ℕ) → IfSome held (λ file. opened file ≡ Ok records)
-    → ((at : ℕ) → f ≡ fault.Damaged at → judged start records ≡ Err at) → (f ≡ fault.Fault → ⊥) → OpenCaused (end_of_open f) held before after
-start_caused (fault.Damaged at) held records before after opens damaged never = judged_file held records (Err at) opens (damaged at refl)
-start_caused fault.Fault held records before after opens damaged never = absurd (never refl)
-start_caused fault.NoMemory held records before after opens damaged never = tt
+    → ((at : ℕ) → f ≡ fault.Damaged at → judged start records ≡ Err at) → (f ≡ fault.Fault → ⊥) → after ≡ before → OpenCaused (end_of_open f) held before after
+start_caused (fault.Damaged at) held records before after opens damaged never still = (judged_file held records (Err at) opens (damaged at refl), still)
+start_caused fault.Fault held records before after opens damaged never still = absurd (never refl)
+start_caused fault.NoMemory held records before after opens damaged never still = still
 
 -- a file with the payloads of what opens again
 pub opens_by : (c : List ℕ) (h : List Stamped) (r : Result Records ℕ) → opened c ≡ r → only_payloads r ≡ Ok (payloads_of h)

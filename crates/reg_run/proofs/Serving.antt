@@ -1,6 +1,6 @@
 -- How serving ends, from how its parts did.
 use Rattle.std.proofs.Common.{◌≡◌, ◌++◌, [], append-nil, length, List, ℕ, Option, Some, None, Result, Ok, Err, refl, ap, sym, subst, ◌∙◌, arith, take, inl, take_all, option_map}
-use Rattle.std.specs.Prelude.{All, IfErr, IfSome}
+use Rattle.std.specs.Prelude.{All, IfErr, IfSome, OnOk}
 use Rattle.std.proofs.lemmas.List.Elements.{All-nil}
 use Rattle.reg_outside.specs.Connections.{Connections}
 use Rattle.reg_outside.specs.Faults.{Rose}
@@ -57,6 +57,11 @@ nothing_ceased {K = K} g limit s old keeper moments before after same told kept 
   refl,
   All-nil _,
 )
+
+-- a count that stayed once and then stayed again
+pub still_then : {A E : Type 0} (r : Result A E) (a b c : ℕ) → b ≡ a → OnOk r (c ≡ b) → OnOk r (c ≡ a)
+still_then (Ok x) a b c first second = second ∙ first
+still_then (Err e) a b c first second = tt
 
 -- what is true of an error, from what is
 pub if_err_so : {A E : Type 0} {P Q : E → Type 0} (r : Result A E) → ((e : E) → P e → Q e) → IfErr r P → IfErr r Q

@@ -1,5 +1,5 @@
 -- Where the words ask for nothing.
-use Rattle.std.proofs.Common.{◌≡◌, ◌∙◌, ◌⊎◌, List, ℕ, Option, Some, None, refl, ap, sym, subst, inl, inr, arith}
+use Rattle.std.proofs.Common.{◌≡◌, ◌∙◌, ◌⊎◌, List, ℕ, Option, Some, None, Result, Ok, Err, refl, ap, sym, subst, inl, inr, arith}
 use Rattle.reg_outside.specs.declared.disk.Disk.{Ghosts}
 use Rattle.reg_machine.specs.History.{State}
 use Rattle.reg_terms.specs.declared.command.Stamped.{Stamped}
@@ -9,8 +9,11 @@ use Rattle.reg_words.specs.declared.task.Task.TheVariants as task
 use Rattle.reg_run.specs.declared.status.End.{End}
 use Rattle.reg_run.specs.declared.status.End.TheVariants as the_end
 use Rattle.reg_run.specs.Crash.{Seen, seen}
+use Rattle.reg_terms.specs.declared.refusal.Refusal.{Refusal}
 use Rattle.reg_terms.specs.declared.reply.Reply.{Reply}
 use Rattle.reg_terms.specs.declared.reply.Reply.TheVariants as reply
+use Rattle.reg_run.specs.AsOf.{AsOfEnds, In, asked_moment, input}
+use Rattle.reg_run.specs.Due.{Told, due_of, end_of_due}
 use Rattle.reg_run.specs.Ends.{Did, IsIdle, IsUsage, LoadAsked, LoadBroke, RunDid}
 use Rattle.reg_run.specs.Listing.{PrintsLines, due_lines}
 use Rattle.reg_run.specs.Once.{Printed, end_of_reply}
@@ -63,6 +66,15 @@ lines_are_use : (due : Option (List ℕ)) (faults later : ℕ) (old new : Out) �
 lines_are_use due faults later old new (inl printed) = printed
 lines_are_use due faults later old new (inr p) = let is : the_end.Usage ≡ the_end.Disk = p.0 in absurd (cc)
 
+refused_is_use : (r : Refusal) (old new : Out) → Told (λ due. due ≡ due_of (reply.Refused r)) the_end.Usage old new → ⊥
+refused_is_use r old new (inl (due, is, printed)) = told_is_use (reply.Refused r) due.bytes old new (subst (λ (e : End). Printed e due.bytes the_end.Usage old new) (ap end_of_due is) printed)
+refused_is_use r old new (inr printed) = told_is_use reply.NoMemory _ old new printed
+
+as_of_is_use : (r : Result ℕ Refusal) (last : State) (held : Option (List ℕ)) (faults later : ℕ) (i i2 : In) (old new : Out) → AsOfEnds r last held faults later the_end.Usage i i2 old new → ⊥
+as_of_is_use (Ok at) last held faults later i i2 old new (inl answers) = answers.2
+as_of_is_use (Ok at) last held faults later i i2 old new (inr p) = let is : the_end.Usage ≡ the_end.Disk = p.0 in absurd (cc)
+as_of_is_use (Err r) last held faults later i i2 old new refused = refused_is_use r old new refused.1
+
 -- no task ends so
 task_is_use : (d : Seen) (t : Task) (before after : World) → Did d t the_end.Usage before after → ⊥
 task_is_use d task.Init before after did = did.ends
@@ -80,6 +92,8 @@ task_is_use d (task.Load job) before after (inl not) = not.cause
 task_is_use d (task.Load job) before after (inr p) = load_is_use p.0 job p.2.taken before after _ _ p.2.ends
 task_is_use d (task.Commands places) before after (inl not) = not.cause
 task_is_use d (task.Commands places) before after (inr p) = lines_are_use (due_lines places before.held p.0.history) before.faults after.faults (output before) (output after) p.2.printed
+task_is_use d (task.AsOf at) before after (inl not) = not.cause
+task_is_use d (task.AsOf at) before after (inr p) = as_of_is_use _ p.0 before.held before.faults after.faults (input before) (input after) (output before) (output after) p.2.ends
 task_is_use d (task.Provision asked) before after (inl not) = not.cause
 task_is_use d (task.Provision asked) before after (inr p) = provision_is_use asked _ p.2.at _ _ _ _ p.2.ends
 task_is_use d (task.Sample seed size) before after did = print_is_use _ _ _ did.printed

@@ -28,12 +28,13 @@ use Rattle.reg_run.specs.Crash.{Seen, seen, OpensTo, IsUntouched, DiskSurvives, 
 use Rattle.reg_run.specs.KeepsUp.{DiskKeepsUp}
 use Rattle.reg_run.specs.Status.{check_line, status_of}
 use Rattle.reg_run.specs.Serving.{DidServe}
-use Rattle.reg_run.specs.World.{World, Out, IsFlushed, LookedOnce, SameClock, SameInput, SameNet}
-use Rattle.reg_run.specs.World.{SameOutput, marked_output, output}
+use Rattle.reg_run.specs.World.{World, Out, IsFlushed, LookedOnce, SameClock, SameFaults}
+use Rattle.reg_run.specs.World.{SameInput, SameNet, SameOutput, marked_output, output}
 use Rattle.reg_sample.specs.Played.{summary, summary_text}
 use Rattle.reg_run.specs.Once.{AsksOnce, IsTakenWhole, Printed, load_of}
 use Rattle.reg_run.specs.Due.{Due, Replied, RepliedFront, AnswersTo, ReportsAt}
 use Rattle.reg_run.specs.Providing.{DidProvision}
+use Rattle.reg_run.specs.AsOf.{DidAsOf}
 use Rattle.reg_run.specs.Listing.{DidCommands}
 use Rattle.reg_run.specs.Questions.{asked_by}
 use Rattle.reg_words.specs.declared.task.Task.{Task}
@@ -41,15 +42,17 @@ use Rattle.reg_words.specs.declared.task.Task.TheVariants as task
 use Rattle.reg_run.specs.declared.status.End.{End}
 use Rattle.reg_run.specs.declared.status.End.TheVariants as the_end
 
--- why the journal wasn't opened: there was no memory, the disk failed, or the file is damaged
+-- why the journal wasn't opened: there was no memory, the disk failed, or the file is damaged; the
+-- disk's count of faults changes only where it failed
 abbrev pub OpenCaused : End → Option (List ℕ) → ℕ → ℕ → Type 0
 OpenCaused the_end.Done held before after = ⊥
 OpenCaused the_end.Usage held before after = ⊥
-OpenCaused the_end.Memory held before after = Unit {0}
+OpenCaused the_end.Memory held before after = after ≡ before
 OpenCaused the_end.Disk held before after = Rose before after
 OpenCaused the_end.Input held before after = ⊥
 OpenCaused the_end.Output held before after = ⊥
-OpenCaused (the_end.Damaged at) held before after = OpensTo held (Err at)
+OpenCaused (the_end.Damaged at) held before after =
+    OpensTo held (Err at) × (after ≡ before)
 OpenCaused the_end.Listener held before after = ⊥
 OpenCaused the_end.TooMuch held before after = ⊥
 OpenCaused the_end.Exists held before after = ⊥
@@ -71,10 +74,11 @@ OverJournal d Did end before after =
     NotOpened d end before after ⊎ ((from : State) × OpensTo before.held (Ok from) × Did from)
 
 -- how beginning a journal ends: it was begun over a file that isn't taken; or the file is taken; or
--- the disk failed
+-- the disk failed, and there alone its count of faults changes
 abbrev pub InitEnds : End → Option (List ℕ) → ℕ → Option (List ℕ) → ℕ → Type 0
 InitEnds the_end.Done held before new after =
     (new ≡ option_map (λ file. journal_bytes []) held) × IfSome held (λ file. is_taken file ≡ false)
+    × (after ≡ before)
 InitEnds the_end.Usage held before new after = ⊥
 InitEnds the_end.Memory held before new after = ⊥
 InitEnds the_end.Disk held before new after = Rose before after
@@ -83,7 +87,8 @@ InitEnds the_end.Output held before new after = ⊥
 InitEnds (the_end.Damaged at) held before new after = ⊥
 InitEnds the_end.Listener held before new after = ⊥
 InitEnds the_end.TooMuch held before new after = ⊥
-InitEnds the_end.Exists held before new after = IfSome held (λ file. is_taken file ≡ true)
+InitEnds the_end.Exists held before new after =
+    IfSome held (λ file. is_taken file ≡ true) × (after ≡ before)
 InitEnds the_end.Refused held before new after = ⊥
 
 -- `init`: a journal was begun or not; beside the disk all is as it was
@@ -100,7 +105,7 @@ abbrev pub begins_at : World → State → Point
 begins_at before from = record { written = before.written; moments = before.moments; state = from }
 
 -- All lines of the bytes that were taken were answered, and the replies flushed; the input has
--- ended, and the file opens to the last history.
+-- ended, the file opens to the last history, and no call failed.
 pub record AppliedAll (from : State) (taken : List ℕ) (before after : World)
     (accepted : List Stamped) : Type 0 where
   pub to : Point
@@ -111,6 +116,7 @@ pub record AppliedAll (from : State) (taken : List ℕ) (before after : World)
   pub ended : IsAtEnd after.left
   pub few : length taken < 2 ^ 32
   pub opens : OpensTo after.held (Ok (at_last to.state.history))
+  pub still : SameFaults before after
 
 -- How `apply` ends, over the bytes that it took: with its cause, and what was answered and kept.
 abbrev pub ApplyEnds : End → State → List ℕ → World → World → (accepted : List Stamped)
@@ -148,10 +154,10 @@ pub record NoFault (before after : World) : Type 0 where
   pub disk : Rose before.faults after.faults → ⊥
 
 -- Status 9, exactly: where as many bytes were taken as a run takes at the most, and so before the
--- end of the input was found. Without a fault and want of memory it comes wherever so many were
--- taken, and so wherever the input has so many.
+-- end of the input was found, and where no call failed. Without a fault and want of memory it comes
+-- wherever so many were taken, and so wherever the input has so many.
 pub record TooMuchExactly (end : End) (taken : List ℕ) (before after : World) : Type 0 where
-  pub only : end ≡ the_end.TooMuch → length taken ≡ 2 ^ 32
+  pub only : end ≡ the_end.TooMuch → (length taken ≡ 2 ^ 32) × SameFaults before after
   pub where_taken : NoFault before after → length taken ≡ 2 ^ 32
       → (end ≡ the_end.TooMuch) ⊎ (end ≡ the_end.Memory)
   pub where_given : NoFault before after
@@ -201,9 +207,11 @@ end_of_stop stop.TooMuch = the_end.TooMuch
 
 -- How a question ends: what is due at the clock's next moment was printed, with status 0 where it
 -- doesn't refuse; or that there was no memory, or nothing, since there was none; or the output
--- failed, and a front of it stands there. The disk doesn't fail once the journal is open.
+-- failed, and a front of it stands there. The disk doesn't fail once the journal is open, nor the
+-- output where what is due was printed.
 abbrev pub AskEnds : (ℕ → Due → Type 0) → End → World → World → Type 0
-AskEnds IsDue the_end.Done before after = Replied IsDue false before after × IsFlushed after
+AskEnds IsDue the_end.Done before after =
+    Replied IsDue false before after × IsFlushed after × (after.writes ≡ before.writes)
 AskEnds IsDue the_end.Usage before after = ⊥
 AskEnds IsDue the_end.Memory before after =
     ((after.written ≡ append_known before.written (line_of reply.NoMemory)) × IsFlushed after)
@@ -217,7 +225,8 @@ AskEnds IsDue (the_end.Damaged at) before after = ⊥
 AskEnds IsDue the_end.Listener before after = ⊥
 AskEnds IsDue the_end.TooMuch before after = ⊥
 AskEnds IsDue the_end.Exists before after = ⊥
-AskEnds IsDue the_end.Refused before after = Replied IsDue true before after × IsFlushed after
+AskEnds IsDue the_end.Refused before after =
+    Replied IsDue true before after × IsFlushed after × (after.writes ≡ before.writes)
 
 -- what is due was asked from the state that the file opened to; the clock was looked at once, and
 -- the disk only read
@@ -291,6 +300,8 @@ Did d (task.Load job) end before after =
     OverJournal d (DidLoad d job end before after) end before after
 Did d (task.Commands places) end before after =
     OverJournal d (DidCommands d places end before after) end before after
+Did d (task.AsOf at) end before after =
+    OverJournal d (DidAsOf d at end before after) end before after
 Did d (task.Provision asked) end before after =
     OverJournal d (DidProvision d asked end before after) end before after
 Did d (task.Sample seed size) end before after = DidSample d seed size end before after

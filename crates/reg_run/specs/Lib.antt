@@ -1,3 +1,4 @@
+pub mod AsOf
 pub mod Crash
 pub mod Due
 pub mod Ends

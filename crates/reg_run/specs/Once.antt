@@ -25,12 +25,12 @@ use Rattle.reg_run.specs.World.{Out}
 use Rattle.reg_run.specs.declared.status.End.{End}
 use Rattle.reg_run.specs.declared.status.End.TheVariants as the_end
 
--- How writing these bytes ends: they were written and flushed, and the end is this one; or the
--- output failed, a front of them stands there and isn't flushed.
+-- How writing these bytes ends: they were written and flushed, no call failed, and the end is this
+-- one; or the output failed, a front of them stands there and isn't flushed.
 abbrev pub Put : End → List ℕ → End → Out → Out → Type 0
 Put good bytes end old new =
     ((end ≡ good) × (new.written ≡ append_known old.written bytes)
-    × (new.flushed ≡ option_map length new.written))
+    × (new.flushed ≡ option_map length new.written) × (new.writes ≡ old.writes))
     ⊎ ((end ≡ the_end.Output) × Rose old.writes new.writes
     × WritesFront old.written new.written bytes × (new.flushed ≡ old.flushed))
 

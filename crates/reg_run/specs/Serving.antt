@@ -18,7 +18,7 @@ use Rattle.reg_run.specs.declared.status.End.{End}
 use Rattle.reg_run.specs.declared.status.End.TheVariants as the_end
 
 -- Connections of this port were served, as many as were asked for or all that were to come, and
--- these commands accepted; the file opens to the last history.
+-- these commands accepted; the file opens to the last history, and no call of the listener failed.
 pub record ServedAll (from : State) (port limit : ℕ) (before after : World)
     (accepted : List Stamped) : Type 0 where
   pub last : State
@@ -27,6 +27,7 @@ pub record ServedAll (from : State) (port limit : ℕ) (before after : World)
       last after.moments
   pub grown : last.history ≡ from.history ++ accepted
   pub opens : OpensTo after.held (Ok (at_last last.history))
+  pub still : after.net.net_faults ≡ before.net.net_faults
 
 -- Serving ceased for this cause, before the first connection or after some of this port: up to the
 -- first history all was answered, and what may be kept is the second.

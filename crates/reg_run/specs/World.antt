@@ -113,6 +113,11 @@ SameOutput before after =
     (after.written ≡ before.written) × (after.flushed ≡ before.flushed)
     × (after.writes ≡ before.writes)
 
+-- no count of faults of the input, of the output and of the disk changed
+abbrev pub SameFaults : World → World → Type 0
+SameFaults before after =
+    (after.reads ≡ before.reads) × (after.writes ≡ before.writes) × (after.faults ≡ before.faults)
+
 -- the clock was looked at once
 abbrev pub LookedOnce : World → World → Type 0
 LookedOnce before after = after.moments ≡ option_map later_moments before.moments

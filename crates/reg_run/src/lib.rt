@@ -2,6 +2,7 @@
 //! output, a clock and a listener, and the exit status and the note that say how it ended.
 #![tactic(auto)]
 
+mod as_of;
 mod listing;
 mod load;
 mod perform;

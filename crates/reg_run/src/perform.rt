@@ -17,6 +17,7 @@ ghost use Rattle.reg_run.specs.Status.{check_line};
 ghost use Rattle.reg_run.specs.World.{Net, World, world, holding, printing, at_clock, net_of};
 ghost use Rattle.reg_run.specs.World.{out_of};
 
+use crate::as_of::as_of_over;
 use crate::listing::commands_over;
 use crate::load::load_over;
 use crate::provision::provision_over;
@@ -46,7 +47,7 @@ pub(crate) fn end_of_open(fault: OpenFault) -> End
     }
 }
 
-fn end_of_stop(stop: Stop) -> End
+pub(crate) fn end_of_stop(stop: Stop) -> End
     ensures { result ≡ end_of_stop stop }
 {
     match stop {
@@ -66,6 +67,7 @@ pub(crate) fn open<D: Disk>(alloc: Global, disk: D) -> Result<Service<Journal<D>
         (λ s. Changes D.moment D.may_leave D.left_since Same disk (disk_of s.keeper)) }
     ensures object { IfOk result (λ s. D.name (disk_of s.keeper) ≡ D.name disk) }
     ensures later { IfOk result (λ s. D.faults disk ≤ D.faults (disk_of s.keeper)) }
+    ensures still { IfOk result (λ s. D.faults (disk_of s.keeper) ≡ D.faults disk) }
     ensures cause { IfErr result
         (λ e. OpenCaused e.0 (D.contents disk) (D.faults disk) (D.faults e.1)) }
     ensures same_err { IfErr result (λ e. D.contents e.1 ≡ D.contents disk) }
@@ -324,6 +326,7 @@ pub fn perform<S: Source, K: Sink, D: Disk, C: Clock, L: Listener>(
         Task::Report(asked) => report_over(alloc, asked, out, disk, clock),
         Task::Load { job } => load_over(alloc, job, input, out, disk, clock),
         Task::Commands(places) => commands_over(alloc, places, out, disk),
+        Task::AsOf { at } => as_of_over(alloc, at, input, out, disk, clock),
         Task::Provision(asked) => provision_over(alloc, asked, out, disk, clock),
         Task::Sample { seed, size } => (print_sample(alloc, *seed, *size, out), disk),
     }

@@ -1,6 +1,6 @@
 // The top call.
-ghost use Rattle.std.specs.Prelude.{◌≡◌, ◌≤◌, map, string_bytes};
-ghost use Rattle.reg_words.specs.Words.{task_of};
+ghost use Rattle.std.specs.Prelude.{◌≡◌, ◌≤◌, false, map, string_bytes};
+ghost use Rattle.reg_words.specs.Words.{name_command, task_of};
 ghost use Rattle.reg_run.specs.declared.status.End.{End};
 ghost use Rattle.reg_run.specs.Ends.{IsUsage, RunDid};
 ghost use Rattle.reg_run.specs.Status.{status_of, IsStatus, NotesOnce};
@@ -27,6 +27,7 @@ fn follow<S: Source, K: Sink, D: Disk, C: Clock, L: Listener>(
         clock.old (net_of ⟦<L as Listener>⟧ net.old))
         (world ⟦<S as Source>⟧ ⟦<K as Sink>⟧ ⟦<D as Disk>⟧ ⟦<C as Clock>⟧ input.new out.new disk.new
         clock.new (net_of ⟦<L as Listener>⟧ net.new)) disk.old disk.new }
+    ensures unknown { name_command (map string_bytes words.now) ≡ false → result ≡ End.Usage }
     ensures later { D.faults disk.old ≤ D.faults disk.new }
 {
     match task_of(alloc, words) {
@@ -43,9 +44,10 @@ fn follow<S: Source, K: Sink, D: Disk, C: Clock, L: Listener>(
 /// (`docs/REQUESTS.md`, "The program"): `init` begins a journal, `apply` answers each line of the
 /// input with a line of output, `serve PORT [--connections N]` answers the messages of so many
 /// connections, one after another, `check` opens the journal, `commands [--from N] [--to M]`
-/// prints its commands, `members NAME [--at T]` and `history NAME` ask it, and
-/// `provision CONSUMER SUBJECT MAX` prints operations for an outside list and acknowledges them. A
-/// status other than 0 has a note on `notes`; that it can't be written changes nothing.
+/// prints its commands, `members NAME [--at T]` and `history NAME` ask it, `as-of T` answers each
+/// line of the input by the registry as it was at a moment, and `provision CONSUMER SUBJECT MAX`
+/// prints operations for an outside list and acknowledges them. A status other than 0 has a note on
+/// `notes`; that it can't be written changes nothing.
 pub fn run<S: Source, K: Sink, N: Sink, D: Disk, C: Clock, L: Listener>(
     alloc: Global,
     words: &[String],
@@ -68,6 +70,10 @@ pub fn run<S: Source, K: Sink, N: Sink, D: Disk, C: Clock, L: Listener>(
         (N.write_faults notes.new) }
     ensures statuses { IsStatus result }
     ensures usage { IsUsage (task_of (map string_bytes words.now)) result }
+
+    // Whatever memory there is: words that name no command take none.
+    ensures unknown { name_command (map string_bytes words.now) ≡ false → result ≡ 2 }
+
     ensures later { D.faults disk.old ≤ D.faults disk.new }
 {
     let end = follow(alloc, words, input, out, &mut *disk, clock, net);

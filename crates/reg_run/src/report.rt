@@ -19,7 +19,7 @@ use reg_words::{Report, Task};
 use std::alloc::{AllocError, Global};
 
 /// Prints a refusal.
-fn print_refusal<K: Sink>(alloc: Global, refusal: Refusal, out: &mut K) -> End
+pub(crate) fn print_refusal<K: Sink>(alloc: Global, refusal: Refusal, out: &mut K) -> End
     ensures { Told (λ due. due ≡ due_of (Reply.Refused refusal)) result
         (out_of ⟦<K as Sink>⟧ out.old) (out_of ⟦<K as Sink>⟧ out.new) }
 {

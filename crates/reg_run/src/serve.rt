@@ -67,6 +67,7 @@ fn serve_port<J: Keeper, C: Clock, L: Listener>(
         clock.old) (L.connections net.old) (L.connections net.new) (C.moments clock.new) e.0 e.1)
         × ((c.visits ≡ []) ⊎ (L.listens net.new ≡ Some port))
         × VisitsKeepUp ⟦<J as Keeper>⟧ service.keeper c.halted.after e.1 c.visits) }
+    ensures still { OnOk result (L.listener_faults net.new ≡ L.listener_faults net.old) }
     ensures listener { IfErr result (λ e. e.0 ≡ Ceased.Listener
         → Rose (L.listener_faults net.old) (L.listener_faults net.new)) }
     ensures disk { IfErr result (λ e. e.0 ≡ Ceased.Disk

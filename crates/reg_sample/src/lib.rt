@@ -1,5 +1,5 @@
-//! A registry from a number: the lines that a seed and a size give, which ask for one; and what they
-//! lead to in numbers, put one after another to a registry that keeps nothing.
+//! A registry from a number: the lines that a seed and a size give, which ask for one; and what
+//! they lead to in numbers, put one after another to a registry that keeps nothing.
 #![tactic(auto)]
 
 mod lines;

@@ -121,8 +121,8 @@ pub record Breaks (before : Point) (call : Call) (written moments : Option (List
 abbrev pub last_response : Asked → Cause → List ℕ
 last_response a why = response_to a true (last_reply why)
 
--- The service stopped at a message, and a front of the last response was written. The keeper has the
--- history from before, or after a fault perhaps that to which the message leads.
+-- The service stopped at a message, and a front of the last response was written. The keeper has
+-- the history from before, or after a fault perhaps that to which the message leads.
 pub record StopsAt (before : Point) (call : Call) (written moments : Option (List ℕ)) (why : Cause)
     (after : List Stamped) : Type 0 where
   pub at : List ℕ

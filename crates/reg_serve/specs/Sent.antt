@@ -38,8 +38,8 @@ abbrev pub SentFront : Asked → Bool → Reply → (old new : Option (List ℕ)
 SentFront a close due old new =
     (shown : Reply) × IsShown due shown × WritesFront old new (response_to a close shown)
 
--- after a response the service goes on, or the connection closes; or the response wasn't sent whole;
--- or it was an accepted command's, found no memory, and nothing of it was sent
+-- after a response the service goes on, or the connection closes; or the response wasn't sent
+-- whole; or it was an accepted command's, found no memory, and nothing of it was sent
 abbrev pub Finishes : {K : Type 0} → Asked → Call → Reply → (old new : Option (List ℕ)) → Served K
     → Result (Served K) (Ended × Next K) → Type 0
 Finishes a call due old new s (Ok after) =

@@ -1,6 +1,6 @@
 // Connections, one after another.
 ghost use Rattle.std.specs.Prelude.{◌≡◌, ◌≤◌, [], Option, is_some, true, false, if◌then◌else◌};
-ghost use Rattle.std.specs.Prelude.{IfOk, IfErr, IfSome};
+ghost use Rattle.std.specs.Prelude.{IfOk, IfErr, IfSome, OnOk};
 ghost use Rattle.reg_outside.specs.Connections.{HasOpen, seen};
 ghost use Rattle.reg_outside.specs.Faults.{HasCause, Rose};
 ghost use Rattle.reg_service.specs.Kept.{KeptOn};
@@ -86,6 +86,7 @@ fn serve_next<K: Keeper, L: Listener, T: Clock>(
         → Rose (K.keep_faults service.keeper) (K.keep_faults e.1)) }
     ensures port { L.listens net.new ≡ L.listens net.old }
     ensures count { L.listener_faults net.old ≤ L.listener_faults net.new }
+    ensures still { OnOk result (L.listener_faults net.new ≡ L.listener_faults net.old) }
 {
     service.stays();
     let accepted = match net.accept() {
@@ -139,6 +140,7 @@ fn serve_all<K: Keeper, L: Listener, T: Clock>(
         → Rose (K.keep_faults service.keeper) (K.keep_faults e.1)) }
     ensures port { L.listens net.new ≡ L.listens net.old }
     ensures count { L.listener_faults net.old ≤ L.listener_faults net.new }
+    ensures still { OnOk result (L.listener_faults net.new ≡ L.listener_faults net.old) }
 {
     service.stays();
     let mut service = service;
@@ -160,7 +162,8 @@ fn serve_all<K: Keeper, L: Listener, T: Clock>(
 
 /// Serves connections one after another, at most so many, until none is to come, and gives each
 /// back however it ended. A connection that fails doesn't end it: that does a call of the listener
-/// that failed, and a service that stopped. Then the keeper is given back.
+/// that failed, and a service that stopped. Then the keeper is given back. `Ok` leaves the
+/// listener's count of faults as it was.
 pub fn serve_connections<K: Keeper, L: Listener, T: Clock>(
     alloc: Global,
     service: Service<K>,
@@ -192,6 +195,7 @@ pub fn serve_connections<K: Keeper, L: Listener, T: Clock>(
         → Rose (K.keep_faults service.keeper) (K.keep_faults e.1)) }
     ensures port { L.listens net.new ≡ L.listens net.old }
     ensures count { L.listener_faults net.old ≤ L.listener_faults net.new }
+    ensures still { OnOk result (L.listener_faults net.new ≡ L.listener_faults net.old) }
 {
     service.stays();
     match Routes::new(alloc) {

@@ -155,8 +155,8 @@ fn stop_call<C: Connection>(conn: &mut C, cause: Cause) -> Ended
     }
 }
 
-/// Answers a message. Where the service goes on, a mark is set before the response: no other response
-/// acknowledges a command.
+/// Answers a message. Where the service goes on, a mark is set before the response: no other
+/// response acknowledges a command.
 pub(crate) fn serve_call<K: Keeper, C: Connection, T: Clock>(
     alloc: Global,
     routes: &Routes,

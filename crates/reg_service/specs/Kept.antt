@@ -81,6 +81,12 @@ abbrev pub LeavesKeeper : {K : Type 0} → K → Next K → Type 0
 LeavesKeeper old (next.Go s) = s.keeper ≡ old
 LeavesKeeper old (next.Stop why keeper) = (keeper ≡ old) × (why ≡ cause.Memory)
 
+-- The keeper's count of faults is as it was, unless the service stopped since the keeper failed.
+abbrev pub LeavesFaults : {K : Type 0} → Ghosts K → K → Next K → Type 0
+LeavesFaults g old (next.Go s) = g.keep_faults s.keeper ≡ g.keep_faults old
+LeavesFaults g old (next.Stop cause.Memory keeper) = g.keep_faults keeper ≡ g.keep_faults old
+LeavesFaults g old (next.Stop cause.Disk keeper) = Unit {0}
+
 -- The service goes on with a history that has one command more, at this place, and this is the id
 -- of what it made; the keeper's payloads are this history's, where they are told, and each stop
 -- leaves it.

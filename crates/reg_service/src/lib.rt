@@ -7,4 +7,6 @@ mod opening;
 mod service;
 mod uncounted;
 
+pub use opening::replay;
 pub use service::{Cause, Next, Service};
+pub use uncounted::advance;

@@ -15,7 +15,7 @@ ghost use Rattle.reg_ops.specs.Forms.{is_entity, has_form};
 ghost use Rattle.reg_wire.specs.Payload.{IsWritable};
 ghost use Rattle.reg_service.specs.Opening.{payloads_of, judged, FrontsReopen, IsServed};
 ghost use Rattle.reg_service.specs.Kept.{KeepsNext, KeptOn, IsAcknowledged, IsLoaded, LeavesKeeper};
-ghost use Rattle.reg_service.specs.Kept.{keeper_of};
+ghost use Rattle.reg_service.specs.Kept.{LeavesFaults, keeper_of};
 ghost use Rattle.reg_service.specs.Loads.{IsRefusedForRoom, LoadsIfRoom};
 ghost use Rattle.reg_service.specs.Marks.{LeavesSince};
 ghost use Rattle.reg_service.specs.Turn.{turn, requested, HasForm, IsQuery, Carries, Follows};
@@ -120,6 +120,7 @@ fn asked<K: Keeper>(
     ensures turn { Carries machine (requested machine by (Op.Query query)) result }
     ensures kept { (expected : List Stamped)
         → KeepsNext ⟦<K as Keeper>⟧ machine.history expected keeper result.1 }
+    ensures still { LeavesFaults ⟦<K as Keeper>⟧ keeper result.1 }
     ensures same { LeavesKeeper keeper result.1 }
     ensures unnumbered { (n : ℕ) (id : Option ℕ) → result.0 ≡ Reply.Number n id → ⊥ }
 {
@@ -149,6 +150,7 @@ fn keep<K: Keeper>(
     ensures turn { Carries machine (ordered machine (Some stamped.by) stamped.command) result }
     ensures kept { KeepsNext ⟦<K as Keeper>⟧ machine.history
         (ordered machine (Some stamped.by) stamped.command).1.history keeper result.1 }
+    ensures still { LeavesFaults ⟦<K as Keeper>⟧ keeper result.1 }
     ensures acknowledged { (n : ℕ) (id : Option ℕ) → result.0 ≡ Reply.Number n id
         → IsAcknowledged ⟦<K as Keeper>⟧ machine.history n id result.1 }
 {
@@ -192,6 +194,7 @@ fn carried_out<K: Keeper>(
     ensures turn { Carries machine (ordered machine (Some by) command) result }
     ensures kept { KeepsNext ⟦<K as Keeper>⟧ machine.history
         (ordered machine (Some by) command).1.history keeper result.1 }
+    ensures still { LeavesFaults ⟦<K as Keeper>⟧ keeper result.1 }
     ensures acknowledged { (n : ℕ) (id : Option ℕ) → result.0 ≡ Reply.Number n id
         → IsAcknowledged ⟦<K as Keeper>⟧ machine.history n id result.1 }
 {
@@ -226,6 +229,7 @@ fn commanded<K: Keeper>(
     ensures turn { Carries machine (requested machine by (Op.Command command)) result }
     ensures kept { KeepsNext ⟦<K as Keeper>⟧ machine.history
         (requested machine by (Op.Command command)).1.history keeper result.1 }
+    ensures still { LeavesFaults ⟦<K as Keeper>⟧ keeper result.1 }
     ensures acknowledged { (n : ℕ) (id : Option ℕ) → result.0 ≡ Reply.Number n id
         → IsAcknowledged ⟦<K as Keeper>⟧ machine.history n id result.1 }
 {
@@ -276,6 +280,7 @@ fn keep_load<K: Keeper>(
         (loaded machine stamped.by (Ok (stamped.command, counts))) result }
     ensures kept { KeepsNext ⟦<K as Keeper>⟧ machine.history
         (loaded machine stamped.by (Ok (stamped.command, counts))).1.history keeper result.1 }
+    ensures still { LeavesFaults ⟦<K as Keeper>⟧ keeper result.1 }
     ensures unnumbered { (n : ℕ) (id : Option ℕ) → result.0 ≡ Reply.Number n id → ⊥ }
     ensures loaded { (n : ℕ) (counts : LoadCounts) → result.0 ≡ Reply.Loaded n counts
         → IsLoaded ⟦<K as Keeper>⟧ machine.history n result.1 }
@@ -299,6 +304,7 @@ fn load<K: Keeper>(
     ensures turn { Carries machine (load_ordered machine (Some by) job.now table.now) result }
     ensures kept { KeepsNext ⟦<K as Keeper>⟧ machine.history
         (load_ordered machine (Some by) job.now table.now).1.history keeper result.1 }
+    ensures still { LeavesFaults ⟦<K as Keeper>⟧ keeper result.1 }
     ensures unnumbered { (n : ℕ) (id : Option ℕ) → result.0 ≡ Reply.Number n id → ⊥ }
     ensures loaded { (n : ℕ) (counts : LoadCounts) → result.0 ≡ Reply.Loaded n counts
         → IsLoaded ⟦<K as Keeper>⟧ machine.history n result.1 }
@@ -331,6 +337,7 @@ fn load_by<K: Keeper>(
     ensures turn { Carries machine (requested machine by (Op.Load job table)) result }
     ensures kept { KeepsNext ⟦<K as Keeper>⟧ machine.history
         (requested machine by (Op.Load job table)).1.history keeper result.1 }
+    ensures still { LeavesFaults ⟦<K as Keeper>⟧ keeper result.1 }
     ensures unnumbered { (n : ℕ) (id : Option ℕ) → result.0 ≡ Reply.Number n id → ⊥ }
     ensures loaded { (n : ℕ) (counts : LoadCounts) → result.0 ≡ Reply.Loaded n counts
         → IsLoaded ⟦<K as Keeper>⟧ machine.history n result.1 }
@@ -414,13 +421,14 @@ impl<K: Keeper> Service<K> {
     /// Takes one request at the later of this moment and the clock (`docs/REQUESTS.md`). An
     /// accepted command is kept before it is answered; a query leaves the keeper as it was. It
     /// stops where moving the clock or applying the command found no memory, and where keeping the
-    /// command failed.
+    /// command failed. Where the keeper didn't fail, its count of faults is as it was.
     pub fn request(self, alloc: Global, at: Moment, request: Request) -> (Reply, Next<K>)
         requires { HasForm request }
         ensures turn { Follows self.state at (Ok request) result }
         ensures history { GoesOn self.state at result }
         ensures kept { KeepsNext ⟦<K as Keeper>⟧ self.state.history
             (turn self.state at (Ok request)).1.history self.keeper result.1 }
+        ensures still { LeavesFaults ⟦<K as Keeper>⟧ self.keeper result.1 }
 
         // After a command is answered with its number, and the id of what it made, each stop leaves
         // the history with it at its end.
@@ -459,6 +467,7 @@ impl<K: Keeper> Service<K> {
         ensures moved { MovesTo self.state at result }
         ensures kept { KeepsNext ⟦<K as Keeper>⟧ self.state.history self.state.history self.keeper
             result }
+        ensures still { LeavesFaults ⟦<K as Keeper>⟧ self.keeper result }
         ensures same { LeavesKeeper self.keeper result }
     {
         let Service { machine, keeper } = self;
@@ -476,6 +485,7 @@ impl<K: Keeper> Service<K> {
         ensures history { GoesOn self.state at result }
         ensures kept { KeepsNext ⟦<K as Keeper>⟧ self.state.history self.state.history self.keeper
             result.1 }
+        ensures still { LeavesFaults ⟦<K as Keeper>⟧ self.keeper result.1 }
         ensures same { LeavesKeeper self.keeper result.1 }
     {
         match self.at(alloc, at) {

@@ -127,3 +127,18 @@ early_output why stopped w f f0 f1 k (inr failed) never le is = omega (arith, fa
 pub early_disk : (why stopped : Stop) (w : Option (List ℕ)) (f : Option ℕ) (f0 f1 : ℕ) → FlushesFor why stopped w f f0 f1 → (why ≡ stop.Disk → ⊥) → stopped ≡ stop.Disk → ⊥
 early_disk why stopped w f f0 f1 (inl all) never is = never (sym all.0 ∙ is)
 early_disk why stopped w f f0 f1 (inr failed) never is = let other = failed.0 in absurd (cc)
+
+pub early_never_much : (why stopped : Stop) (w : Option (List ℕ)) (f : Option ℕ) (f0 f1 : ℕ) → FlushesFor why stopped w f f0 f1 → (why ≡ stop.TooMuch → ⊥) → stopped ≡ stop.TooMuch → ⊥
+early_never_much why stopped w f f0 f1 (inl all) never is = never (sym all.0 ∙ is)
+early_never_much why stopped w f f0 f1 (inr failed) never is = let other = failed.0 in absurd (cc)
+
+-- where a session stops for too much input, the flush went well
+pub early_much : (why stopped : Stop) (w : Option (List ℕ)) (f : Option ℕ) (f0 f1 : ℕ) → FlushesFor why stopped w f f0 f1 → stopped ≡ stop.TooMuch → f1 ≡ f0
+early_much why stopped w f f0 f1 (inl all) is = all.2
+early_much why stopped w f f0 f1 (inr failed) is = let other = failed.0 in absurd (cc)
+
+-- no line stops a session for that
+pub line_not_much : (why : Stop) → IsAtLine why → why ≡ stop.TooMuch → ⊥
+line_not_much why (inl e) is = absurd (cc)
+line_not_much why (inr (inl e)) is = absurd (cc)
+line_not_much why (inr (inr e)) is = absurd (cc)

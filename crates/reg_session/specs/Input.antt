@@ -58,12 +58,13 @@ StopsLastKeepingUp g before old line from to failed why keeper =
 abbrev pub IsAllFlushed : Option (List ℕ) → Option ℕ → Type 0
 IsAllFlushed written flushed = flushed ≡ option_map length written
 
--- a session that stops for this flushed, and so it did; or the flush failed, and it stopped for
--- that
+-- a session that stops for this flushed, and so it did, with the output's count of faults as it
+-- was; or the flush failed, and it stopped for that
 abbrev pub FlushesFor : (why stopped : Stop) → Option (List ℕ) → Option ℕ → (before after : ℕ)
     → Type 0
 FlushesFor why stopped written flushed before after =
-    ((stopped ≡ why) × IsAllFlushed written flushed) ⊎ ((stopped ≡ stop.Output) × Rose before after)
+    ((stopped ≡ why) × IsAllFlushed written flushed × (after ≡ before))
+    ⊎ ((stopped ≡ stop.Output) × Rose before after)
 
 -- Why the session over these bytes stopped, whose output failed or not. Where the input failed, or
 -- there was too much of it, the lines that an LF ends were answered, and the replies flushed. Where

@@ -22,13 +22,13 @@ use reg_service::Service;
 use std::alloc::Global;
 
 /// How many bytes of input a session takes at most.
-const LIMIT: u64 = 1 << 32;
+pub const LIMIT: u64 = 1 << 32;
 
 /// How many bytes are read at a time.
-const PIECE: usize = 4096;
+pub const PIECE: usize = 4096;
 
 /// Reads a piece of input, once so many bytes are taken: as many more as a session takes, at most.
-fn read_some<S: Source>(input: &mut S, buf: &mut [u8], taken: u64) -> Result<usize, Stop>
+pub fn read_some<S: Source>(input: &mut S, buf: &mut [u8], taken: u64) -> Result<usize, Stop>
     requires fits { PIECE ≤ length buf.old }
     requires some { taken < LIMIT }
     ensures within { IfOk result (λ n. taken + n ≤ LIMIT) }
@@ -37,6 +37,7 @@ fn read_some<S: Source>(input: &mut S, buf: &mut [u8], taken: u64) -> Result<usi
         ≡ prepend_known (take n buf.new) (S.left input.new)) }
     ensures end { IfOk result (λ n. n ≡ 0 → IsAtEnd (S.left input.new)) }
     ensures count { S.read_faults input.old ≤ S.read_faults input.new }
+    ensures still { OnOk result (S.read_faults input.new ≡ S.read_faults input.old) }
     ensures input { IfErr result (λ e. (e ≡ Stop.Input)
         × Rose (S.read_faults input.old) (S.read_faults input.new)) }
     ensures same { IfErr result (λ e. S.left input.new ≡ S.left input.old) }
@@ -48,10 +49,13 @@ fn read_some<S: Source>(input: &mut S, buf: &mut [u8], taken: u64) -> Result<usi
     }
 }
 
-fn flush<K: Sink>(out: &mut K) -> Result<(), Stop>
+/// Hands on what was written so far. `Stop::Output` comes only where the output failed; else its
+/// count of faults stays.
+pub fn flush<K: Sink>(out: &mut K) -> Result<(), Stop>
     ensures same { K.written out.new ≡ K.written out.old }
     ensures flushed { OnOk result (K.flushed out.new ≡ option_map length (K.written out.new)) }
     ensures count { K.write_faults out.old ≤ K.write_faults out.new }
+    ensures still { OnOk result (K.write_faults out.new ≡ K.write_faults out.old) }
     ensures output { IfErr result (λ e. (e ≡ Stop.Output)
         × Rose (K.write_faults out.old) (K.write_faults out.new)) }
     ensures marks { K.marks out.new ≡ K.marks out.old }
@@ -64,7 +68,7 @@ fn flush<K: Sink>(out: &mut K) -> Result<(), Stop>
 
 /// Flushes where the input stops a session, and says why it stopped: for that, or since the flush
 /// failed.
-fn stop_flushed<K: Sink>(out: &mut K, why: Stop) -> Stop
+pub fn stop_flushed<K: Sink>(out: &mut K, why: Stop) -> Stop
     ensures same { K.written out.new ≡ K.written out.old }
     ensures why { FlushesFor why result (K.written out.new) (K.flushed out.new)
         (K.write_faults out.old) (K.write_faults out.new) }
@@ -113,6 +117,9 @@ fn finish<J: Keeper, K: Sink, C: Clock>(
         (point ⟦<K as Sink>⟧ ⟦<C as Clock>⟧ out.old clock.old service.state) service.keeper bytes
         (K.written out.new) (Rose (K.write_faults out.old) (K.write_faults out.new)) e.0 e.1) }
     ensures count { K.write_faults out.old ≤ K.write_faults out.new }
+    ensures still { IfOk result
+        (λ after. (J.keep_faults after.keeper ≡ J.keep_faults service.keeper)
+        × (K.write_faults out.new ≡ K.write_faults out.old)) }
     ensures output { IfErr result (λ e. e.0 ≡ Stop.Output
         → Rose (K.write_faults out.old) (K.write_faults out.new)) }
     ensures disk { IfErr result (λ e. e.0 ≡ Stop.Disk
@@ -163,6 +170,17 @@ pub fn answer_input<S: Source, J: Keeper, K: Sink, C: Clock>(
         → Rose (K.write_faults out.old) (K.write_faults out.new)) }
     ensures disk { IfErr result (λ e. e.0 ≡ Stop.Disk
         → Rose (J.keep_faults service.keeper) (J.keep_faults e.1)) }
+
+    // Each count of faults is as it was where all lines were answered, and where there was too much
+    // of the input.
+    ensures still { IfOk result
+        (λ to. (J.keep_faults to.keeper ≡ J.keep_faults service.keeper)
+        × (K.write_faults out.new ≡ K.write_faults out.old)
+        × (S.read_faults input.new ≡ S.read_faults input.old)) }
+    ensures still_too_much { IfErr result (λ e. e.0 ≡ Stop.TooMuch
+        → (J.keep_faults e.1 ≡ J.keep_faults service.keeper)
+        × (K.write_faults out.new ≡ K.write_faults out.old)
+        × (S.read_faults input.new ≡ S.read_faults input.old)) }
 
     // Before each reply that acknowledges a command stands a mark, since which each stop leaves the
     // command.

@@ -7,7 +7,7 @@ mod pending;
 mod session;
 mod stop;
 
-pub use input::answer_input;
+pub use input::{LIMIT, PIECE, answer_input, flush, read_some, stop_flushed};
 pub use pending::{LineReading, PendingLine};
-pub use session::{reply_line, turn};
+pub use session::{line_end, reply_line, turn, write_line};
 pub use stop::{Stop, stop_of};

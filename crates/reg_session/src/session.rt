@@ -6,7 +6,7 @@ ghost use Rattle.reg_outside.specs.Faults.{Rose};
 ghost use Rattle.reg_outside.specs.Streams.{WritesFront};
 ghost use Rattle.reg_terms.specs.declared.request.Request.{Request};
 ghost use Rattle.reg_terms.specs.declared.refusal.Refusal.{Refusal};
-ghost use Rattle.reg_service.specs.Kept.{KeptOn, KeepsNext, LeavesKeeper};
+ghost use Rattle.reg_service.specs.Kept.{KeptOn, KeepsNext, LeavesFaults, LeavesKeeper};
 ghost use Rattle.reg_service.specs.Marks.{KeepsUp, IsNumbered, output_of};
 ghost use Rattle.reg_service.specs.Turn.{AsksNoChange, Follows, turn};
 ghost use Rattle.reg_session.specs.Answered.{Answered, Feeds, point};
@@ -25,7 +25,8 @@ use reg_service::{Next, Service};
 use reg_terms::Reply;
 use std::alloc::{AllocError, Global};
 
-const LINE_FEED: u8 = 10;
+/// The byte that ends a line.
+pub const LINE_FEED: u8 = 10;
 
 /// The text of a reply, and LF.
 pub fn reply_line(alloc: Global, reply: &Reply) -> Result<Vec<u8>, AllocError>
@@ -37,6 +38,7 @@ pub fn reply_line(alloc: Global, reply: &Reply) -> Result<Vec<u8>, AllocError>
 fn write_bytes<K: Sink>(out: &mut K, bytes: &[u8]) -> Result<(), Stop>
     ensures written { OnOk result (K.written out.new ≡ append_known (K.written out.old) bytes.now) }
     ensures count { K.write_faults out.old ≤ K.write_faults out.new }
+    ensures still { OnOk result (K.write_faults out.new ≡ K.write_faults out.old) }
     ensures output { IfErr result (λ e. (e ≡ Stop.Output)
         × Rose (K.write_faults out.old) (K.write_faults out.new)) }
     ensures front { WritesFront (K.written out.old) (K.written out.new) bytes.now }
@@ -54,6 +56,7 @@ fn write_bytes<K: Sink>(out: &mut K, bytes: &[u8]) -> Result<(), Stop>
 fn write_unprinted<K: Sink>(reply: &Reply, out: &mut K) -> Result<(), Stop>
     ensures written { WritesReply reply.now (K.written out.old) (K.written out.new) result }
     ensures count { K.write_faults out.old ≤ K.write_faults out.new }
+    ensures still { OnOk result (K.write_faults out.new ≡ K.write_faults out.old) }
     ensures output { IfErr result (λ e. e ≡ Stop.Output
         → Rose (K.write_faults out.old) (K.write_faults out.new)) }
     ensures others { IfErr result (λ e. (e ≡ Stop.Memory) ⊎ (e ≡ Stop.Output)) }
@@ -68,10 +71,13 @@ fn write_unprinted<K: Sink>(reply: &Reply, out: &mut K) -> Result<(), Stop>
     }
 }
 
-/// Writes a reply, or what stands for it where there is no memory to print it.
-fn write_line<K: Sink>(alloc: Global, reply: &Reply, out: &mut K) -> Result<(), Stop>
+/// Writes a reply, or what stands for it where there is no memory to print it. `Stop::Memory` comes
+/// only for an accepted command's reply, and `Stop::Output` only where the output failed. `Ok`
+/// leaves its count of faults as it was.
+pub fn write_line<K: Sink>(alloc: Global, reply: &Reply, out: &mut K) -> Result<(), Stop>
     ensures written { WritesReply reply.now (K.written out.old) (K.written out.new) result }
     ensures count { K.write_faults out.old ≤ K.write_faults out.new }
+    ensures still { OnOk result (K.write_faults out.new ≡ K.write_faults out.old) }
     ensures output { IfErr result (λ e. e ≡ Stop.Output
         → Rose (K.write_faults out.old) (K.write_faults out.new)) }
     ensures others { IfErr result (λ e. (e ≡ Stop.Memory) ⊎ (e ≡ Stop.Output)) }
@@ -98,6 +104,7 @@ pub fn turn<J: Keeper>(
         (turn service.state at told).1.history service.keeper result.1 }
     ensures same { (told : Result Request Refusal) → ReadsAs reading told → AsksNoChange told
         → LeavesKeeper service.keeper result.1 }
+    ensures still { LeavesFaults ⟦<J as Keeper>⟧ service.keeper result.1 }
     ensures numbered { IsNumbered result.0 result.1 }
 {
     match reading {
@@ -129,6 +136,9 @@ pub fn answer_line<J: Keeper, K: Sink, C: Clock>(
         service.keeper (bytes ∷ []) (K.written out.new)
         (Rose (K.write_faults out.old) (K.write_faults out.new)) e.0 e.1) }
     ensures count { K.write_faults out.old ≤ K.write_faults out.new }
+    ensures still { IfOk result
+        (λ after. (J.keep_faults after.keeper ≡ J.keep_faults service.keeper)
+        × (K.write_faults out.new ≡ K.write_faults out.old)) }
     ensures output { IfErr result (λ e. e.0 ≡ Stop.Output
         → Rose (K.write_faults out.old) (K.write_faults out.new)) }
     ensures disk { IfErr result (λ e. e.0 ≡ Stop.Disk
@@ -167,7 +177,7 @@ pub fn answer_line<J: Keeper, K: Sink, C: Clock>(
 }
 
 /// How many bytes stand before the first LF.
-fn line_end(bytes: &[u8]) -> usize
+pub fn line_end(bytes: &[u8]) -> usize
     ensures within { result ≤ length bytes.now }
     ensures before { All (λ b. b ≢ LINE_FEED) (take result bytes.now) }
     ensures there { result < length bytes.now → slice_index bytes.now result ≡ LINE_FEED }
@@ -203,6 +213,9 @@ fn feed_line<J: Keeper, K: Sink, C: Clock>(
         service.keeper (lines_from before bytes.now) (K.written out.new)
         (Rose (K.write_faults out.old) (K.write_faults out.new)) e.0 e.1) }
     ensures count { K.write_faults out.old ≤ K.write_faults out.new }
+    ensures still { IfOk result
+        (λ after. (J.keep_faults after.0.keeper ≡ J.keep_faults service.keeper)
+        × (K.write_faults out.new ≡ K.write_faults out.old)) }
     ensures output { IfErr result (λ e. e.0 ≡ Stop.Output
         → Rose (K.write_faults out.old) (K.write_faults out.new)) }
     ensures disk { IfErr result (λ e. e.0 ≡ Stop.Disk
@@ -249,6 +262,9 @@ pub fn feed<J: Keeper, K: Sink, C: Clock>(
         service.keeper (lines_from before piece.now) (K.written out.new)
         (Rose (K.write_faults out.old) (K.write_faults out.new)) e.0 e.1) }
     ensures count { K.write_faults out.old ≤ K.write_faults out.new }
+    ensures still { IfOk result
+        (λ after. (J.keep_faults after.0.keeper ≡ J.keep_faults service.keeper)
+        × (K.write_faults out.new ≡ K.write_faults out.old)) }
     ensures output { IfErr result (λ e. e.0 ≡ Stop.Output
         → Rose (K.write_faults out.old) (K.write_faults out.new)) }
     ensures disk { IfErr result (λ e. e.0 ≡ Stop.Disk

@@ -23,3 +23,7 @@ into_all P order test found (r ∷ rs) a b = elim (cases_Bool (test r)) [
   | inl t ↦ rw t (into_all P order test (insert_key order found r) rs (put_all P order r found b.0 a) b.1)
   | inr t ↦ rw t (into_all P order test found rs a b.1)
 ]
+
+pub order_all : {R : Type 0} (P : R → Type 0) (order : R → R → Ordering) (found rows : List R) → AllByRecursion P found → AllByRecursion P rows → AllByRecursion P (put_into order found rows)
+order_all P order found [] a b = a
+order_all P order found (r ∷ rs) a b = order_all P order (insert_key order found r) rs (put_all P order r found b.0 a) b.1

@@ -26,4 +26,5 @@ pub mod NotSeen
 pub mod Yields
 pub mod Worked
 pub mod Tellings
+pub mod Knowing
 pub mod Moved

@@ -10,12 +10,14 @@ use Rattle.reg_effect.specs.Member.{member}
 use Rattle.reg_machine.specs.History.{facts}
 use Rattle.reg_current.specs.Live.{live}
 use Rattle.reg_view.specs.AtClock.{asked_at, view}
+use Rattle.reg_view.specs.Knowing.{IsKnownTo}
 use Rattle.reg_view.specs.Missing.{MayYield}
 use Rattle.reg_view.specs.Past.{Past, past}
 use Rattle.reg_view.specs.Show.{show}
 use Rattle.reg_view.specs.Telling.{IfRefused, TellsOf, names_of}
 use Rattle.reg_view.specs.Unseen.{IsOfNoneGone, IsUnseen, IsUnseenObject}
 use Rattle.reg_view.specs.View.{View, view_of}
+use Rattle.reg_view.proofs.Knowing.{show_known}
 use Rattle.reg_view.proofs.Tellings.{show_says}
 
 pub at_clock : (history : List Stamped) (now : ℕ) (by : List ℕ) (q : Query) (L : Live) (f : Lists) (r : Result Answer Refusal) → L ≡ live now (facts history now) → f ≡ facts history now
@@ -65,3 +67,11 @@ tells_at v q r is = subst (λ x. IfRefused (TellsOf v (names_of q)) x) (sym is) 
 pub if_ok : {A E : Type 0} (r : Result A E) (P Q : A → Type 0) → ((x : A) → P x → Q x) → IfOk r P → IfOk r Q
 if_ok (Ok x) P Q goes h = goes x h
 if_ok (Err e) P Q goes h = tt
+
+-- and what is told at the clock may be known
+pub known_at : (history : List Stamped) (now : ℕ) (by : List ℕ) (q : Query) (r : Result Answer Refusal) → r ≡ show (view history now (asked_at now q) by) q
+    → IfOk r (IsKnownTo (past history now) (live now (facts history now)) (facts history now) (asked_at now q) by)
+unfolding view
+known_at history now by q r is =
+    subst (λ x. IfOk x (IsKnownTo (past history now) (live now (facts history now)) (facts history now) (asked_at now q) by)) (sym is)
+    (show_known (past history now) (live now (facts history now)) (facts history now) now (asked_at now q) by q)

@@ -1,4 +1,4 @@
--- Worked examples computed: a group with VIEW alone, one without, a privilege that a complement holds, a move out of a scope, the past of a group that is gone, what root is told, grants of the past, and attributes.
+-- Worked examples computed: a group with VIEW alone, one without, a privilege that a complement holds, a move out of a scope, the past of a group that is gone, what root is told, grants of the past, attributes, and hidden members and holders.
 use Rattle.std.proofs.Common.{◌≡◌, ◌==◌, ◌&&◌, ℕ, Bool, true, false, Option, List, [], ◌∷◌, Result, Ok, Err, Some, None, codes, refl}
 use Rattle.std.specs.Prelude.{if◌then◌else◌, nat_le, nat_lt}
 use Rattle.reg_base.specs.Entities.{entity_of}
@@ -30,6 +30,7 @@ use Rattle.reg_facts.specs.Naming.{resolve, placed, lies_in, path, extensions, n
 use Rattle.reg_facts.specs.RowOrder.{rows_of}
 use Rattle.reg_effect.specs.Changes.{live_of}
 use Rattle.reg_effect.specs.Member.{member}
+use Rattle.reg_view.specs.Knowing.{IsKnownTo}
 use Rattle.reg_view.specs.Past.{Past, moment_of}
 use Rattle.reg_view.specs.Show.{show}
 use Rattle.reg_view.specs.View.{view_of}
@@ -268,3 +269,43 @@ definition_no_owner = refl
 pub folder_not_read : asks_of_risk told_level (codes "uni/ann") None (query.Attributes (codes ":") None) ≡ Err (Denied (codes ":") (codes "stemAttrRead"))
 unfolding at_risk told_level events_of entity_of object_of resolve placed lies_in path extensions name_of rows_of member extension_of folder_of
 folder_not_read = refl
+
+-- ann reads g and is the admin of k; the hidden h is a member of g, and the hidden j views k
+pub with_hidden : Lists
+with_hidden = after (
+    SubjectAdd (entity.Person (codes "uni/ann")) []
+    ∷ GroupAdd (codes "g") [] ∷ GroupAdd (codes "h") [] ∷ GroupAdd (codes "j") [] ∷ GroupAdd (codes "k") []
+    ∷ MemberAdd (codes "g") (entity.Group (codes "h")) None None
+    ∷ GrantAdd (codes "g") privilege.Read (entity.Person (codes "uni/ann"))
+    ∷ GrantAdd (codes "k") privilege.Admin (entity.Person (codes "uni/ann"))
+    ∷ GrantAdd (codes "k") privilege.View (entity.Group (codes "j")) ∷ []
+    ) start
+
+pub hidden_not_listed : asks with_hidden (codes "uni/ann") (query.FolderList (codes ":")) ≡ Ok (answer.FolderList [] [] [] (codes "g" ∷ codes "k" ∷ []))
+unfolding with_hidden events_of entity_of object_of resolve placed lies_in path extensions name_of rows_of member extension_of folder_of
+hidden_not_listed = refl
+
+pub hidden_member_shown : asks with_hidden (codes "uni/ann") (query.Rows (codes "g")) ≡ Ok (answer.Rows None ((record { from = 0; member = codes "g:gsa/h"; until = None }) ∷ []))
+unfolding with_hidden events_of entity_of object_of resolve placed lies_in path extensions name_of rows_of member extension_of folder_of
+hidden_member_shown = refl
+
+pub hidden_holder_shown : asks with_hidden (codes "uni/ann") (query.Grants (codes "k") None) ≡ Ok (answer.Grants ((record { holder = codes "uni/ann"; privilege = privilege.Admin }) ∷ (record { holder = codes "g:gsa/j"; privilege = privilege.View }) ∷ []))
+unfolding with_hidden events_of entity_of object_of resolve placed lies_in path extensions name_of rows_of member extension_of folder_of
+hidden_holder_shown = refl
+
+-- an answer that ann may know of
+abbrev ann_knows : Answer → Type 0
+ann_knows a = IsKnownTo (nothing_past with_hidden) (live_of 0 with_hidden.rows with_hidden.composites) with_hidden 0 (codes "uni/ann") a
+
+-- a hidden group isn't listed, a holder is no member, and a member no holder
+pub not_in_a_list : ann_knows (answer.FolderList [] [] [] (codes "h" ∷ [])) → ⊥
+unfolding with_hidden events_of entity_of object_of resolve placed lies_in path extensions name_of rows_of member extension_of folder_of
+not_in_a_list h = let is : false ≡ true = h.0 in cc
+
+pub holder_is_no_member : ann_knows (answer.Rows None ((record { from = 0; member = codes "g:gsa/j"; until = None }) ∷ [])) → ⊥
+unfolding with_hidden events_of entity_of object_of resolve placed lies_in path extensions name_of rows_of member extension_of folder_of
+holder_is_no_member h = let is : false ≡ true = h.1.0 in cc
+
+pub member_is_no_holder : ann_knows (answer.Grants ((record { holder = codes "g:gsa/h"; privilege = privilege.View }) ∷ [])) → ⊥
+unfolding with_hidden events_of entity_of object_of resolve placed lies_in path extensions name_of rows_of member extension_of folder_of
+member_is_no_holder h = let is : false ≡ true = h.0 in cc

@@ -25,13 +25,12 @@ use Rattle.reg_priv.specs.May.{is_root, may, visible, who_of}
 use Rattle.reg_view.specs.Answers as answers
 use Rattle.reg_view.specs.Answers.{answer_of, entity_found, entity_object, group_seen, name_found, object_found, past_group, gone_found, place_seen}
 use Rattle.reg_view.specs.declared.question.Called.{Called}
-use Rattle.reg_view.specs.Missing.{MayYield, called_of, entity_called, entity_in, finds_either, finds_entity, finds_first, finds_named, finds_object, finds_second, first_called, missing, object_called, second_called, seen_group, seen_object, seen_of}
+use Rattle.reg_view.specs.Missing.{MayYield, called_of, entity_called, entity_in, finds_either, finds_entity, finds_first, finds_named, finds_object, finds_second, missing, object_called, seen_group, seen_object, seen_of}
 use Rattle.reg_view.specs.Past.{Past, history_of}
 use Rattle.reg_view.specs.Show.{◌>>=◌, denied, found_or, in_time, is_caller, is_entity_text, root_denied}
 use Rattle.reg_view.specs.Telling.{IfRefused}
 use Rattle.reg_view.specs.Texts.{composite_shown, grant_shown, row_shown}
 use Rattle.reg_view.specs.View.{is_admin, is_readable}
-use Rattle.reg_view.proofs.Seen.{steps_join}
 
 -- ---- found and seen
 

@@ -9,4 +9,5 @@ pub mod Missing
 pub mod Asked
 pub mod Unseen
 pub mod Telling
+pub mod Knowing
 pub mod AtClock

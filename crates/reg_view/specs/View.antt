@@ -1,5 +1,6 @@
--- What a caller may see of the registry: all that an answer may tell. There are names in it and no
--- ids, so that it is the same whatever else stands in the registry.
+-- What a caller may see of the registry: all that an answer may tell. There are names in it, and of
+-- ids those of assignments alone, which count all that were made; root is told of more. A hidden
+-- group is named in it as a member, a factor or a holder, and nowhere else (`Knowing.antt`).
 use Rattle.std.specs.Prelude.{ℕ, ◌++◌, List, [], Bool, true, false, Option, Some, None, map, filter}
 use Rattle.reg_base.specs.Entities.{entity_of}
 use Rattle.reg_base.specs.declared.privilege.Privilege.{Privilege}

@@ -4,6 +4,7 @@ ghost use Rattle.reg_terms.specs.declared.command.Stamped.{Stamped};
 ghost use Rattle.reg_machine.specs.History.{facts};
 ghost use Rattle.reg_current.specs.Live.{live};
 ghost use Rattle.reg_view.specs.AtClock.{asked_at, view};
+ghost use Rattle.reg_view.specs.Knowing.{IsKnownTo};
 ghost use Rattle.reg_view.specs.Missing.{MayYield};
 ghost use Rattle.reg_view.specs.Past.{past_at};
 ghost use Rattle.reg_view.specs.Show.{show};
@@ -68,6 +69,13 @@ pub fn ask<K: Kept>(
         (view machine.now.history machine.now.clock
         (asked_at machine.now.clock question.query) question.by)
         (names_of question.query)) r) }
+
+    // An answer names no group but one that the caller sees, a member or a factor of one that it
+    // may read, or a holder on an object that it administers. Root alone is told of others.
+    ensures tells { IfOk result (λ r. IfOk r (IsKnownTo (past_at machine.now)
+        (live machine.now.clock (facts machine.now.history machine.now.clock))
+        (facts machine.now.history machine.now.clock)
+        (asked_at machine.now.clock question.query) question.by)) }
 {
     let Parts {
         by,

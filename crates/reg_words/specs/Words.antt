@@ -85,6 +85,10 @@ provision =
 abbrev pub commands : App
 commands = with_option (codes "to") (with_option (codes "from") (bare (codes "commands")))
 
+-- `as-of T`
+abbrev pub as_of : App
+as_of = with_word (codes "at") (bare (codes "as-of"))
+
 -- what `members` asks, by what it found
 abbrev pub members_in : List Row → Option Task
 members_in rows =
@@ -178,6 +182,10 @@ commands_of from to =
 abbrev pub commands_in : List Row → Option Task
 commands_in rows = commands_of (first_of (codes "from") rows) (first_of (codes "to") rows)
 
+-- what `as-of` asks
+abbrev pub as_of_in : List Row → Option Task
+as_of_in rows = option_map (λ at. task.AsOf at) (first_of (codes "at") rows)
+
 abbrev pub is_none : Kinds → Bool
 is_none [] = true
 is_none (k ∷ ks) = false
@@ -210,7 +218,8 @@ task_by word words =
     then read_bare (codes "reminders") (task.Report report.Reminders) words
     else (if bytes_eq word (codes "provision") then read_by provision provision_in words
     else (if bytes_eq word (codes "commands") then read_by commands commands_in words
-    else None))))))))))))))
+    else (if bytes_eq word (codes "as-of") then read_by as_of as_of_in words
+    else None)))))))))))))))
 
 -- this names a command
 abbrev pub is_command : Text → Bool
@@ -218,7 +227,8 @@ is_command word =
     list_any (λ name. bytes_eq word name)
     (codes "init" ∷ codes "apply" ∷ codes "serve" ∷ codes "check" ∷ codes "members"
     ∷ codes "history" ∷ codes "load" ∷ codes "sample" ∷ codes "permit" ∷ codes "permitted"
-    ∷ codes "attested" ∷ codes "attestation" ∷ codes "reminders" ∷ codes "provision" ∷ codes "commands" ∷ [])
+    ∷ codes "attested" ∷ codes "attestation" ∷ codes "reminders" ∷ codes "provision"
+    ∷ codes "commands" ∷ codes "as-of" ∷ [])
 
 -- the first of the words does
 abbrev pub name_command : List Text → Bool

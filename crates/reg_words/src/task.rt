@@ -123,6 +123,9 @@ pub enum Task {
     Load { job: Text },
     /// Print the accepted commands of these places.
     Commands(Places),
+    /// Answer the lines of the input as they were answered at an earlier moment. Whether the text
+    /// is a moment isn't asked yet.
+    AsOf { at: Text },
     /// Print a batch of operations and acknowledge where it ends.
     Provision(Provision),
     /// Put the requests of a seed and a size to a registry that keeps nothing.

@@ -1,6 +1,7 @@
 // From the words to what they ask for.
 ghost use Rattle.std.specs.Prelude.{◌≡◌, false, Ok, None, IfOk, map, string_bytes};
 ghost use Rattle.clap.specs.Words.{found_of, rows_of};
+ghost use Rattle.reg_words.specs.Words.{as_of, as_of_in};
 ghost use Rattle.reg_words.specs.Words.{attestation, attestation_in, attested, attested_in};
 ghost use Rattle.reg_words.specs.Words.{history, history_in, load, load_in, members, members_in};
 ghost use Rattle.reg_words.specs.Words.{permit, permit_in, permitted, permitted_in};
@@ -10,7 +11,7 @@ ghost use Rattle.reg_words.specs.Words.{read_bare, read_by, sample, sample_in, s
 ghost use Rattle.reg_words.specs.Words.{serve_in, serve_of, task_by, task_of};
 
 use crate::commands::{
-    attestation, attested, bare, commands, found, history, load, members, permit, permitted,
+    as_of, attestation, attested, bare, commands, found, history, load, members, permit, permitted,
     provision, sample, serve, value,
 };
 use crate::numbers::{connections_in, entries_in, place_in, port_in, seed_in, size_in};
@@ -342,6 +343,27 @@ fn read_commands(alloc: Global, words: &[String]) -> Result<Option<Task>, AllocE
     }
 }
 
+/// What `as-of` asks, by what it found.
+fn as_of_in(alloc: Global, matches: &ArgMatches) -> Result<Option<Task>, AllocError>
+    ensures { IfOk result (λ asked. asked ≡ as_of_in (rows_of (found_of matches.now))) }
+{
+    let Some(at) = value(alloc, matches, "at")? else {
+        return Ok(None);
+    };
+    Ok(Some(Task::AsOf { at }))
+}
+
+/// Reads the words of `as-of T`.
+fn read_as_of(alloc: Global, words: &[String]) -> Result<Option<Task>, AllocError>
+    ensures { IfOk result (λ asked. asked ≡ read_by as_of as_of_in (map string_bytes words.now)) }
+{
+    let command = as_of(alloc)?;
+    match found(command, words)? {
+        Some(matches) => as_of_in(alloc, &matches),
+        None => Ok(None),
+    }
+}
+
 /// Reads the words of the command of this name.
 fn task_by(alloc: Global, word: &str, words: &[String]) -> Result<Option<Task>, AllocError>
     ensures asked { IfOk result (λ asked. asked
@@ -364,6 +386,7 @@ fn task_by(alloc: Global, word: &str, words: &[String]) -> Result<Option<Task>, 
         "reminders" => read_bare(alloc, "reminders", Task::Report(Report::Reminders), words),
         "provision" => read_provision(alloc, words),
         "commands" => read_commands(alloc, words),
+        "as-of" => read_as_of(alloc, words),
         _ => Ok(None),
     }
 }

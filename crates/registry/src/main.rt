@@ -1,7 +1,7 @@
 //! The registry: reads requests, line by line or from connections, and answers each.
 #![tactic(auto)]
 
-use reg_outside::{Absent, FileDisk, StdSink, StdSource, SystemClock, TcpPort};
+use reg_outside::{Access, FileDisk, StdSink, StdSource, SystemClock, TcpPort};
 use reg_run::{End, run, status_of, write_note};
 use std::env;
 use std::fs::{File, OpenOptions};
@@ -16,12 +16,13 @@ fn null(rt: &HostRuntime) -> Option<File> {
     OpenOptions::new().read(true).open(rt, "/dev/null").ok()
 }
 
-/// What becomes of a file that is absent: only `init` makes one, so that a mistyped name leaves
-/// none behind.
-fn absent(words: &[String]) -> Absent {
+/// How the file is opened: only `init` makes one that is absent, so that a mistyped name leaves none
+/// behind, and `as-of` reads it alone, beside a program that serves it too.
+fn access(words: &[String]) -> Access {
     match words {
-        [first, ..] if first.as_str() == "init" => Absent::Make,
-        _ => Absent::Leave,
+        [first, ..] if first.as_str() == "init" => Access::Make,
+        [first, ..] if first.as_str() == "as-of" => Access::Read,
+        _ => Access::Write,
     }
 }
 
@@ -41,7 +42,7 @@ fn over(rt: &HostRuntime, path: &str, words: &[String]) -> u8 {
     let mut input = StdSource::new(rt.stdin());
     let mut out = StdSink::new(rt.stdout());
     let mut notes = StdSink::new(rt.stderr());
-    let mut disk = FileDisk::new(rt, path, absent(words));
+    let mut disk = FileDisk::new(rt, path, access(words));
     let mut clock = SystemClock::new(rt);
     let mut net = TcpPort::new(rt);
     let status = run(

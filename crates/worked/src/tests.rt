@@ -45,6 +45,11 @@ fn play_outside(rt: &HostRuntime) -> io::Result<()> {
     )?;
     tell(
         rt,
+        "A file is read while another disk writes it",
+        outside::play_beside(rt),
+    )?;
+    tell(
+        rt,
         "Behind a link a file is opened and not made",
         outside::play_link(rt),
     )?;

@@ -1,7 +1,7 @@
 // The objects over the system: no clause can say what a file, a stream or the system's clock gives.
 use super::otherwise::{Findings, Otherwise, expect, expect_number};
 use reg_outside::{
-    Absent, Clock, Disk, Failed, FileDisk, Sink, Source, StdSink, StdSource, SureSink, SystemClock,
+    Access, Clock, Disk, Failed, FileDisk, Sink, Source, StdSink, StdSource, SureSink, SystemClock,
     write_whole,
 };
 use std::alloc::Global;
@@ -18,6 +18,8 @@ const OWNED: &str = "file_disk_owned";
 
 const ABSENT: &str = "file_disk_absent";
 
+const READ: &str = "file_disk_read";
+
 const LINK: &str = "file_disk_link";
 
 const LINKED: &str = "file_disk_linked";
@@ -26,8 +28,8 @@ const LINKED: &str = "file_disk_linked";
 pub fn play_file(rt: &HostRuntime) -> Result<(), Otherwise> {
     let _ = remove_file(rt, FILE);
     let mut test = Findings::new();
-    let mut disk = FileDisk::new(rt, FILE, Absent::Make);
-    let mut other = FileDisk::new(rt, FILE, Absent::Make);
+    let mut disk = FileDisk::new(rt, FILE, Access::Make);
+    let mut other = FileDisk::new(rt, FILE, Access::Make);
     let mut buf = [0u8; 8];
     test.expect(
         disk.write_at(0, b"abc") == Ok(()),
@@ -64,6 +66,32 @@ pub fn play_file(rt: &HostRuntime) -> Result<(), Otherwise> {
     test.end()
 }
 
+/// A file that another disk has locked is read, beside what is written to it, and not written.
+pub fn play_beside(rt: &HostRuntime) -> Result<(), Otherwise> {
+    let _ = remove_file(rt, READ);
+    let mut test = Findings::new();
+    let mut reader = FileDisk::new(rt, READ, Access::Read);
+    test.expect(reader.len() == Ok(0), "an absent file has no length");
+    test.expect(matches!(exists(rt, READ), Ok(false)), "it isn't made");
+    let mut disk = FileDisk::new(rt, READ, Access::Make);
+    test.expect(disk.write_at(0, b"abc") == Ok(()), "another writes");
+    let mut buf = [0u8; 8];
+    test.expect(
+        matches!(reader.len(), Ok(length) if length > 3),
+        "its length leaves room for what is added",
+    );
+    test.expect(disk.write_at(3, b"de") == Ok(()), "the other adds");
+    test.expect(
+        reader.read_at(0, &mut buf) == Ok(5),
+        "what was added is read",
+    );
+    test.expect(buf.starts_with(b"abcde"), "it is what was written");
+    test.expect(reader.sync() == Ok(()), "it is synced");
+    test.expect(reader.write_at(0, b"x") == Err(Failed), "a write fails");
+    test.expect(remove_file(rt, READ).is_ok(), "the file can be removed");
+    test.end()
+}
+
 /// The mode of a file.
 fn mode_of(rt: &HostRuntime, path: &str) -> Option<u32> {
     let about = metadata(rt, path).ok()?;
@@ -74,7 +102,7 @@ fn mode_of(rt: &HostRuntime, path: &str) -> Option<u32> {
 pub fn play_owner(rt: &HostRuntime) -> Result<(), Otherwise> {
     let _ = remove_file(rt, OWNED);
     let mut test = Findings::new();
-    let mut disk = FileDisk::new(rt, OWNED, Absent::Make);
+    let mut disk = FileDisk::new(rt, OWNED, Access::Make);
     test.expect(disk.write_at(0, b"a") == Ok(()), "a byte is written");
     test.expect(
         mode_of(rt, OWNED) == Some(0o600),
@@ -87,7 +115,7 @@ pub fn play_owner(rt: &HostRuntime) -> Result<(), Otherwise> {
 /// In a folder that isn't there nothing is synced, nor anything written past all files.
 pub fn play_no_folder(rt: &HostRuntime) -> Result<(), Otherwise> {
     let mut test = Findings::new();
-    let mut absent = FileDisk::new(rt, "no_folder/file_disk_test", Absent::Make);
+    let mut absent = FileDisk::new(rt, "no_folder/file_disk_test", Access::Make);
     test.expect(absent.sync() == Err(Failed), "a sync fails in no folder");
     let is_written = absent.write_at((1 << 63) - 1, b"f");
     test.expect(is_written == Err(Failed), "a write past all files fails");
@@ -97,7 +125,7 @@ pub fn play_no_folder(rt: &HostRuntime) -> Result<(), Otherwise> {
 /// A file that is to stay absent counts as empty, and isn't made by a write.
 pub fn play_absent(rt: &HostRuntime) -> Result<(), Otherwise> {
     let mut test = Findings::new();
-    let mut disk = FileDisk::new(rt, ABSENT, Absent::Leave);
+    let mut disk = FileDisk::new(rt, ABSENT, Access::Write);
     test.expect(disk.reason().is_none(), "at first there is no reason");
     test.expect(disk.len() == Ok(0), "its length is 0");
     test.expect(disk.read_at(0, &mut [0u8; 8]) == Ok(0), "nothing is read");
@@ -115,7 +143,7 @@ pub fn play_link(rt: &HostRuntime) -> Result<(), Otherwise> {
     let _ = remove_file(rt, LINKED);
     let mut test = Findings::new();
     test.expect(symlink(rt, LINKED, LINK).is_ok(), "a link is made");
-    let mut behind = FileDisk::new(rt, LINK, Absent::Make);
+    let mut behind = FileDisk::new(rt, LINK, Access::Make);
     test.expect(
         behind.write_at(0, b"a") == Err(Failed),
         "a write through it fails",
@@ -124,7 +152,7 @@ pub fn play_link(rt: &HostRuntime) -> Result<(), Otherwise> {
         matches!(exists(rt, LINKED), Ok(false)),
         "no file is made behind it",
     );
-    let mut disk = FileDisk::new(rt, LINKED, Absent::Make);
+    let mut disk = FileDisk::new(rt, LINKED, Access::Make);
     test.expect(
         disk.write_at(0, b"ab") == Ok(()),
         "the file is made by its own name",

@@ -1,4 +1,4 @@
-use Rattle.std.proofs.Common.{refl, ap, inl, inr, arith, ◌-◌, length, option_map}
+use Rattle.std.proofs.Common.{◌∙◌, refl, ap, inl, inr, arith, ◌-◌, length, option_map}
 use Rattle.reg_keep.specs.JournalWords.{disk_of}
 use Rattle.reg_keep.specs.Keeping.{kept_in}
 use Rattle.reg_service.specs.Marked.{part_of_whole}
@@ -7,7 +7,7 @@ use Rattle.reg_run.proofs.Crashing.{untouched_same, survives_kept, stops_whole, 
 use Rattle.reg_run.specs.Ends.{end_of_stop}
 use Rattle.reg_run.specs.declared.status.End.TheVariants as the_end
 use Rattle.reg_run.proofs.KeepingUp.{disk_keeps_up, halted_fronts, sure_fronts}
-use Rattle.reg_run.proofs.Ending.{whole_stop, apply_stopped, did_apply}
+use Rattle.reg_run.proofs.Ending.{whole_stop, apply_stopped, did_apply, stop_too_much}
 use Rattle.reg_run.proofs.perform.apply_over.Goals as goal
 
 -- the journal didn't open, so the disk was only read
@@ -30,11 +30,12 @@ returns-in-Ok-answer_input-clause-did g c n =
     let new = disk_of c.in-Ok-answer_input.service.keeper in
     let k = c.in-Ok-answer_input.ensures.kept in
     let a = c.in-Ok-answer_input.ensures.answered in
+    let still = c.in-Ok-answer_input.ensures.still in
     inr (
       from,
       c.in-Ok.ensures.opens,
-      did_apply _ the_end.Done _ _ from a.taken a.input (omega (arith, a.few)) a.cut a.accepted (length to.history - length from.history) refl
-          (record { to = _; all = a.all; written = refl; moments = refl; flushed = c.in-Ok-answer_input.ensures.flushed; ended = a.ended; few = a.few; opens = c.close.ensures.opens })
+      did_apply _ the_end.Done _ _ from a.taken a.input (omega (arith, a.few)) a.cut a.accepted (length to.history - length from.history) refl (λ is. absurd (cc))
+          (record { to = _; all = a.all; written = refl; moments = refl; flushed = c.in-Ok-answer_input.ensures.flushed; ended = a.ended; few = a.few; opens = c.close.ensures.opens; still = (still.2, still.1, ap (λ (d : _). g.D.Disk.faults d) c.close.ensures.disk ∙ (still.0 ∙ c.in-Ok.ensures.still)) })
           (rw c.close.ensures.disk (survives_kept g.D.Disk from.history to.history to.history a.accepted 0 c.args.disk mid new c.in-Ok.ensures.crash (g.met.D.Disk.only_now c.args.disk) c.in-Ok.ensures.same (g.met.D.Disk.reads_now new)
           a.all.grown (no_shorter from.history to.history a.accepted a.all.grown) (inl refl) (λ is. refl)
           (stops_whole from.history to.history c.in-Ok.service.keeper c.in-Ok-answer_input.service.keeper k.crash c.close.ensures.again (rw c.close.ensures.disk at c.close.ensures.images))))
@@ -54,6 +55,7 @@ returns-in-Err-answer_input-clause-did g c n =
       from,
       c.in-Ok.ensures.opens,
       did_apply _ (end_of_stop c.in-Err-answer_input.stop) _ _ from s.taken s.input s.few s.cut h.kept.more (length h.answered - length from.history) refl
+          (λ is. let still = c.in-Err-answer_input.ensures.still_too_much (stop_too_much c.in-Err-answer_input.stop is) in (still.2, still.1, still.0 ∙ c.in-Ok.ensures.still))
           (apply_stopped c.in-Err-answer_input.stop from s.taken _ _ h.kept.more (length h.answered - length from.history) h.answered h.after c.in-Err-answer_input.ensures.input c.in-Err-answer_input.ensures.output
           (λ is. omega (arith, c.in-Err-answer_input.ensures.disk is, c.in-Ok.ensures.later)) (answered_front from.history h.answered h.after h.kept.more h.kept.grown h.first h.last) h.kept.grown s.ends)
           (survives_kept g.D.Disk from.history h.answered h.after h.kept.more _ c.args.disk mid new c.in-Ok.ensures.crash (g.met.D.Disk.only_now c.args.disk) c.in-Ok.ensures.same (g.met.D.Disk.reads_now new)

@@ -9,7 +9,7 @@ returns-in-Ok-clause-did g c w =
     let new = disk_of c.in-Ok.journal in
     let free = begun_free g.D.Disk c.args.disk new c.in-Ok.ensures.free in
     rw c.into_disk.ensures (record {
-      ends = (c.in-Ok.ensures.empty, c.in-Ok.ensures.free);
+      ends = (c.in-Ok.ensures.empty, c.in-Ok.ensures.free, c.in-Ok.ensures.still);
       disk = record {
         begins = begins g.D.Disk 0 c.args.disk new c.in-Ok.ensures.crash (g.met.D.Disk.only_now c.args.disk) (λ is. (c.in-Ok.ensures.empty, c.in-Ok.ensures.durable)) free;
         taken = taken_untouched g.D.Disk c.args.disk new (g.met.D.Disk.only_now c.args.disk) free;
@@ -27,7 +27,7 @@ returns-in-Err-Exists-default-clause-did g c w =
     let e = c.in-Err-Exists-default.ensures in
     let same = refused_same g.D.Disk c.args.disk new e.untouched e.same_err in
     record {
-      ends = e.exists c.in-Err-Exists-default.field-0-0-is;
+      ends = (e.exists c.in-Err-Exists-default.field-0-0-is, e.still_exists c.in-Err-Exists-default.field-0-0-is);
       disk = record {
         begins = begins g.D.Disk 10 c.args.disk new e.crash_err (g.met.D.Disk.only_now c.args.disk) (λ is. absurd (cc)) same;
         taken = taken_untouched g.D.Disk c.args.disk new (g.met.D.Disk.only_now c.args.disk) same;

@@ -15,6 +15,18 @@ returns-in-Ok-None-clause-did g c =
     let is : task_of (map string_bytes c.args.words.now) ≡ None = sym c.in-Ok-None.ensures.asked ∙ c.in-Ok-None.field-0-is in
     rw is (inl refl, (refl, refl))
 
+-- words that name no command ask for nothing
+pub returns-in-Ok-Some-clause-unknown : goal.returns-in-Ok-Some-clause-unknown
+returns-in-Ok-Some-clause-unknown g c unknown =
+    let none = c.in-Ok-Some.ensures.unknown unknown in
+    let some = c.in-Ok-Some.field-0-is in
+    absurd (cc)
+
+pub returns-in-Err-clause-unknown : goal.returns-in-Err-clause-unknown
+returns-in-Err-clause-unknown g c unknown =
+    let none = c.in-Err.ensures.unknown unknown in
+    absurd (cc)
+
 -- there was no memory to read them
 pub returns-in-Err-clause-did : goal.returns-in-Err-clause-did
 returns-in-Err-clause-did g c = idle_did g.D.Disk _ _ _

@@ -31,7 +31,7 @@ returns-in-Ok-serve_port-clause-did g c w =
       record {
         accepted = k.more;
         answered = length to.history - length from.history;
-        ends = record { last = to; listens = c.in-Ok-serve_port.ensures.port; served = c.in-Ok-serve_port.ensures.served.0; grown = k.grown; opens = c.close.ensures.opens };
+        ends = record { last = to; listens = c.in-Ok-serve_port.ensures.port; served = c.in-Ok-serve_port.ensures.served.0; grown = k.grown; opens = c.close.ensures.opens; still = c.in-Ok-serve_port.ensures.still };
         input = (refl, refl);
         output = (refl, refl, refl);
         disk = rw c.close.ensures.disk (survives_kept g.D.Disk from.history to.history to.history k.more 0 c.args.disk mid new c.in-Ok.ensures.crash (g.met.D.Disk.only_now c.args.disk) c.in-Ok.ensures.same (g.met.D.Disk.reads_now new)

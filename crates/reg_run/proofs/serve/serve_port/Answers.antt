@@ -1,5 +1,5 @@
 use Rattle.std.proofs.Common.{inl, inr, ◌∙◌}
-use Rattle.reg_run.proofs.Serving.{if_err_so, nothing_ceased}
+use Rattle.reg_run.proofs.Serving.{if_err_so, nothing_ceased, still_then}
 use Rattle.reg_run.proofs.serve.serve_port.Goals as goal
 
 -- the port wasn't listened on, so nothing was asked
@@ -12,6 +12,9 @@ returns-in-Err-clause-ceased g c =
 -- it was, and then the connections were served
 pub returns-in-Ok-clause-served : goal.returns-in-Ok-clause-served
 returns-in-Ok-clause-served g c = rw c.in-Ok.ensures.same at c.serve_connections.ensures.keeps_up
+
+pub returns-in-Ok-clause-still : goal.returns-in-Ok-clause-still
+returns-in-Ok-clause-still g c = still_then c.serve_connections.result _ _ _ c.in-Ok.ensures.cause.still c.serve_connections.ensures.still
 
 pub returns-in-Ok-clause-ceased : goal.returns-in-Ok-clause-ceased
 returns-in-Ok-clause-ceased g c =

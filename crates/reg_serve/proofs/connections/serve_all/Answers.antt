@@ -1,4 +1,4 @@
-use Rattle.std.proofs.Common.{refl, arith, rules, inl, inr}
+use Rattle.std.proofs.Common.{◌∙◌, refl, arith, rules, inl, inr}
 use Rattle.reg_session.proofs.Halting.{kept_then}
 use Rattle.reg_serve.proofs.Visiting.{ceases_then, same_told, served_none, served_then, serves_all}
 use Rattle.reg_serve.proofs.Upvisits.{ceases_then_up, served_none_up, served_then_up, serves_all_up}
@@ -12,6 +12,7 @@ loop-served-init g c = record {
   few = omega arith;
   kept = c.stays.ensures;
   port = refl;
+  still = refl;
   count = omega arith;
 }
 
@@ -26,7 +27,8 @@ loop-served-preserved g c =
       few = omega (arith, c.loop-served-test.true);
       kept = kept_then g.K.Keeper _ _ _ _ _ _ inv.kept one.kept;
       port = search rules;
-      count = search rules;
+      still = one.still ∙ inv.still;
+      count = omega (arith, inv.count, one.still);
     }
 
 -- none is to come
@@ -45,6 +47,9 @@ returns-then-not-another-clause-keeps_up g c =
     let one = c.in-Ok.ensures in
     serves_all_up g.K.Keeper _ _ _ _ _ _ _ _ _ _ (served_then_up g.K.Keeper _ _ _ _ _ _ _ _ _ _ _ _ _ _ inv.kept one.kept inv.up (rw c.if-not-another.true at one.keeps_up)) (omega (arith, inv.few)) (inr (one.none c.if-not-another.true))
 
+pub returns-then-not-another-clause-still : goal.returns-then-not-another-clause-still
+returns-then-not-another-clause-still g c = c.in-Ok.ensures.still ∙ c.loop-served.invariant.still
+
 -- no more are served
 pub returns-in-Err-clause-ceased : goal.returns-in-Err-clause-ceased
 returns-in-Err-clause-ceased g c = ceases_then g.K.Keeper _ _ _ _ _ _ _ _ _ _ _ _ _ _ c.loop-served.invariant.done c.loop-served.invariant.kept c.loop-served-test.true c.in-Err.ensures.ceased
@@ -59,6 +64,9 @@ pub returns-in-Err-clause-keeps_up_to : goal.returns-in-Err-clause-keeps_up_to
 returns-in-Err-clause-keeps_up_to g c = ceases_then_up g.K.Keeper _ _ _ _ _ _ _ _ _ _ _ _ _ _ c.loop-served.invariant.kept c.loop-served-test.true c.loop-served.invariant.up c.in-Err.ensures.keeps_up_to
 
 -- as many as were to be served
+pub returns-clause-still : goal.returns-clause-still
+returns-clause-still g c = c.loop-served.invariant.still
+
 pub returns-clause-served : goal.returns-clause-served
 returns-clause-served g c = serves_all _ _ _ _ _ _ _ _ c.loop-served.invariant.done c.loop-served.invariant.few (inl (omega (arith, c.loop-served.invariant.few, c.loop-served-test.false)))
 

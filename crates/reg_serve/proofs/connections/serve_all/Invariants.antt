@@ -15,6 +15,7 @@ invariant-loop-served g l =
       few : l.served ≤ l.limit;
       kept : KeptOn g.K.Keeper l.fn.service.state.history l.fn.service.keeper l.service.state.history l.service.keeper;
       port : g.L.Listener.listens l.net ≡ g.L.Listener.listens l.fn.net;
+      still : g.L.Listener.listener_faults l.net ≡ g.L.Listener.listener_faults l.fn.net;
       count : g.L.Listener.listener_faults l.fn.net ≤ g.L.Listener.listener_faults l.net;
     }
 

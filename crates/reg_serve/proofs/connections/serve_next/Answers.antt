@@ -27,6 +27,9 @@ returns-in-None-clause-none g c is = (none_told _ _ _ c.accept.result c.accept.e
 pub returns-in-None-clause-keeps_up : goal.returns-in-None-clause-keeps_up
 returns-in-None-clause-keeps_up g c = served_none_up g.K.Keeper c.args.service.keeper c.args.service.keeper c.args.service.state _ _ _ (none_told _ _ _ c.accept.result c.accept.ensures.accepts (c.in-Ok.is ∙ ap Ok c.in-None.is)).0
 
+pub returns-in-None-clause-still : goal.returns-in-None-clause-still
+returns-in-None-clause-still g c = rw c.in-Ok.is at c.accept.ensures.cause.still
+
 -- one was accepted
 pub serve_accepted-next-requires : goal.serve_accepted-next-requires
 serve_accepted-next-requires g c = accepted_open _ _ _ c.in-Some.conn c.accept.result (g.L.Listener.back_at_most c.args.net.now) c.accept.ensures.accepts (c.in-Ok.is ∙ ap Ok c.in-Some.is)
@@ -55,6 +58,9 @@ returns-in-Ok-closed-clause-kept g c =
 pub returns-in-Ok-closed-clause-keeps_up : goal.returns-in-Ok-closed-clause-keeps_up
 returns-in-Ok-closed-clause-keeps_up g c =
     served_one_up _ g.K.Keeper c.args.service.state c.args.service.keeper _ _ _ _ _ c.in-Some.conn c.accept.result _ c.in-Go.service c.accept.ensures.accepts (c.in-Ok.is ∙ ap Ok c.in-Some.is) c.serve_accepted-next.ensures.keeps_up c.in-Go.is
+
+pub returns-in-Ok-closed-clause-still : goal.returns-in-Ok-closed-clause-still
+returns-in-Ok-closed-clause-still g c = (rw c.in-Ok-closed.is at c.serve_accepted-next.ensures.cause.still) ∙ (rw c.in-Ok.is at c.accept.ensures.cause.still)
 
 -- and couldn't be closed
 pub returns-in-Err-closed-clause-ceased : goal.returns-in-Err-closed-clause-ceased

@@ -26,6 +26,9 @@ returns-in-Ok-append-clause-kept g c =
     kept_ok g.K.Keeper c.args.machine c.in-Ok-applied.machine c.args.stamped c.deref.result.now c.args.keeper c.append.new.self c.requires.served c.requires.now
     c.in-Ok-applied.ensures (c.deref.ensures.value ∙ c.in-Ok.ensures.value) c.append.ensures.object c.append.ensures.cause.later c.in-Ok-append.ensures.kept c.append.ensures.any_moment
 
+pub returns-in-Ok-append-clause-still : goal.returns-in-Ok-append-clause-still
+returns-in-Ok-append-clause-still g c = c.in-Ok-append.ensures.cause.still
+
 -- keeping it failed
 pub returns-clause-kept : goal.returns-clause-kept
 returns-clause-kept g c =

@@ -1,4 +1,4 @@
-use Rattle.std.proofs.Common.{arith, rules, refl, inl, inr}
+use Rattle.std.proofs.Common.{◌≡◌, ◌∙◌, ap, arith, refl, inl, inr}
 use Rattle.std.proofs.lemmas.List.{length-take-le}
 use Rattle.reg_outside.specs.Faults.{Rose}
 use Rattle.reg_service.specs.Marked.{keeps_up_none, keeps_up_still, keeps_up_then}
@@ -8,7 +8,8 @@ use Rattle.reg_session.specs.Input.{StopsInputKeepingUp}
 use Rattle.reg_session.specs.Replies.{IsLine}
 use Rattle.reg_session.proofs.Feeding.{taken_none, taken_more, answers_all}
 use Rattle.reg_session.proofs.Halting.{kept_then, go_halted, err_by, err_one, err_so, ok_both, ok_so}
-use Rattle.reg_session.proofs.Reading.{stops_piece, stops_last, stops_early, early_input, early_output, early_disk}
+use Rattle.reg_session.proofs.Reading.{stops_piece, stops_last, stops_early, early_input, early_output, early_disk, early_much, early_never_much, line_not_much}
+use Rattle.reg_session.specs.declared.stop.Stop.TheVariants as stop
 use Rattle.reg_session.proofs.input.answer_input.Goals as goal
 
 -- nothing was read yet
@@ -19,6 +20,7 @@ loop-taken-init g c = record {
   few = omega arith;
   reads = omega arith;
   writes = omega arith;
+  still = (refl, refl, refl);
   kept = c.stays.ensures;
   keeps_up = keeps_up_none g.J.Keeper IsLine _ _ _ _ _ refl refl;
 }
@@ -29,8 +31,9 @@ loop-taken-preserved g c = record {
   done = taken_more _ _ _ _ _ _ _ _ _ _ _ _ c.loop-taken.invariant.done c.in-Ok.ensures.bytes (length-take-le _ _ c.in-Ok.ensures.filled) c.in_ok-service.ensures.fed;
   held = c.loop-taken.invariant.held;
   few = omega (arith, c.in-Ok.ensures.within);
-  reads = search rules;
-  writes = search rules;
+  reads = omega (arith, c.loop-taken.invariant.reads, c.in-Ok.ensures.still);
+  writes = omega (arith, c.loop-taken.invariant.writes, c.in_ok-service.ensures.still.1);
+  still = (c.in_ok-service.ensures.still.0 ∙ c.loop-taken.invariant.still.0, c.in_ok-service.ensures.still.1 ∙ c.loop-taken.invariant.still.1, c.in-Ok.ensures.still ∙ c.loop-taken.invariant.still.2);
   kept = kept_then g.J.Keeper _ _ _ _ _ _ c.loop-taken.invariant.kept c.in_ok-service.ensures.kept;
   keeps_up = keeps_up_then g.J.Keeper IsLine _ _ _ _ _ _ _ _ _ c.loop-taken.invariant.kept c.in_ok-service.ensures.kept c.loop-taken.invariant.keeps_up c.in_ok-service.ensures.keeps_up;
 }
@@ -46,6 +49,15 @@ returns-then-count-eq0-clause-kept g c = ok_so _ _ c.finish-last.result c.finish
 pub returns-then-count-eq0-clause-keeps_up : goal.returns-then-count-eq0-clause-keeps_up
 returns-then-count-eq0-clause-keeps_up g c = ok_both _ _ _ c.finish-last.result c.finish-last.ensures.kept c.finish-last.ensures.keeps_up
     (λ to kept keeps_up. keeps_up_then g.J.Keeper IsLine _ _ _ _ _ _ _ _ _ c.loop-taken.invariant.kept kept c.loop-taken.invariant.keeps_up keeps_up)
+
+-- and no count of faults changed
+pub returns-then-count-eq0-clause-still : goal.returns-then-count-eq0-clause-still
+returns-then-count-eq0-clause-still g c =
+    let inv = c.loop-taken.invariant in
+    ok_so _ _ c.finish-last.result c.finish-last.ensures.still (λ to still. (still.0 ∙ inv.still.0, still.1 ∙ inv.still.1, c.in-Ok.ensures.still ∙ inv.still.2))
+
+pub returns-then-count-eq0-clause-still_too_much : goal.returns-then-count-eq0-clause-still_too_much
+returns-then-count-eq0-clause-still_too_much g c = err_one _ _ c.finish-last.result c.finish-last.ensures.others (λ e others is. absurd (line_not_much e.0 others is))
 
 -- the last line stopped the session
 pub returns-then-count-eq0-clause-keeps_up_to : goal.returns-then-count-eq0-clause-keeps_up_to
@@ -73,6 +85,14 @@ returns-in_err-service-clause-keeps_up_to g c =
 pub returns-in_err-service-clause-halted : goal.returns-in_err-service-clause-halted
 returns-in_err-service-clause-halted g c = err_one _ _ c.from_residual.result (returns-in_err-service-clause-keeps_up_to g c) (λ e stops. stops.0)
 
+pub returns-in_err-service-clause-still_too_much : goal.returns-in_err-service-clause-still_too_much
+returns-in_err-service-clause-still_too_much g c =
+    let keeps = g.J.Keeper.keep_faults in
+    let writes = g.K.Sink.write_faults in
+    let reads = g.S.Source.read_faults in
+    err_by (λ e. e.0 ≡ stop.TooMuch → (keeps e.1 ≡ keeps c.args.service.keeper) × (writes c.feed.new.out ≡ writes c.args.out.now) × (reads c.read_some.new.input ≡ reads c.args.input.now))
+    c.from_residual.result c.in_err-service.field-0.0 c.from_residual.ensures.1 (λ is. absurd (line_not_much _ c.in_err-service.ensures.others is))
+
 -- the input failed
 pub returns-in-Err-clause-keeps_up_to : goal.returns-in-Err-clause-keeps_up_to
 returns-in-Err-clause-keeps_up_to g c =
@@ -93,6 +113,9 @@ returns-in-Err-clause-output g c = early_output _ _ _ _ _ _ _ c.stop_at_input.en
 pub returns-in-Err-clause-disk : goal.returns-in-Err-clause-disk
 returns-in-Err-clause-disk g c is = absurd (early_disk _ _ _ _ _ _ c.stop_at_input.ensures.why (λ d. let input = c.in-Err.ensures.input.0 in absurd (cc)) is)
 
+pub returns-in-Err-clause-still_too_much : goal.returns-in-Err-clause-still_too_much
+returns-in-Err-clause-still_too_much g c is = absurd (early_never_much _ _ _ _ _ _ c.stop_at_input.ensures.why (λ d. let input = c.in-Err.ensures.input.0 in absurd (cc)) is)
+
 -- there was too much of it
 pub returns-clause-keeps_up_to : goal.returns-clause-keeps_up_to
 returns-clause-keeps_up_to g c =
@@ -112,3 +135,11 @@ returns-clause-output g c = early_output _ _ _ _ _ _ _ c.stop_at_input-2.ensures
 
 pub returns-clause-disk : goal.returns-clause-disk
 returns-clause-disk g c is = absurd (early_disk _ _ _ _ _ _ c.stop_at_input-2.ensures.why (λ d. absurd (cc)) is)
+
+pub returns-clause-still_too_much : goal.returns-clause-still_too_much
+returns-clause-still_too_much g c is =
+    let inv = c.loop-taken.invariant in (
+      ap (λ (k : _). g.J.Keeper.keep_faults k) c.stop_at_input-2.ensures.keeper ∙ inv.still.0,
+      early_much _ _ _ _ _ _ c.stop_at_input-2.ensures.why is ∙ inv.still.1,
+      inv.still.2,
+    )

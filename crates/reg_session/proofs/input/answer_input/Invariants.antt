@@ -1,4 +1,4 @@
-use Rattle.std.proofs.Common.{◌≤◌, ◌-◌, ◌^◌, []}
+use Rattle.std.proofs.Common.{◌≡◌, ◌≤◌, ◌-◌, ◌^◌, []}
 use Rattle.reg_service.specs.Kept.{KeptOn}
 use Rattle.reg_service.specs.Marks.{KeepsUp, output_of}
 use Rattle.reg_session.specs.Input.{HasTaken}
@@ -19,6 +19,7 @@ invariant-loop-taken g l =
       few : l.taken ≤ 2 ^ 32;
       reads : g.S.Source.read_faults l.fn.input ≤ g.S.Source.read_faults l.input;
       writes : g.K.Sink.write_faults l.fn.out ≤ g.K.Sink.write_faults l.out;
+      still : (g.J.Keeper.keep_faults l.service.keeper ≡ g.J.Keeper.keep_faults l.fn.service.keeper) × (g.K.Sink.write_faults l.out ≡ g.K.Sink.write_faults l.fn.out) × (g.S.Source.read_faults l.input ≡ g.S.Source.read_faults l.fn.input);
       kept : KeptOn g.J.Keeper l.fn.service.state.history l.fn.service.keeper l.service.state.history l.service.keeper;
       keeps_up : KeepsUp g.J.Keeper IsLine l.fn.service.keeper (output_of g.K.Sink l.fn.out) (output_of g.K.Sink l.out) l.service.state.history l.service.keeper;
     }

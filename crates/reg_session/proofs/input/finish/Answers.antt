@@ -1,4 +1,4 @@
-use Rattle.std.proofs.Common.{refl, inl, inr, ◌∷◌, [], List, ℕ}
+use Rattle.std.proofs.Common.{◌∙◌, refl, inl, inr, ◌∷◌, [], List, ℕ}
 use Rattle.reg_outside.specs.Faults.{Rose}
 use Rattle.reg_service.specs.Marked.{keeps_up_still, part_of_whole}
 use Rattle.reg_service.specs.Marks.{WritesAll, output_of}
@@ -16,6 +16,9 @@ returns-in-Ok-clause-answered g c = rw c.flush.ensures.same c.in_ok-service.ensu
 
 pub returns-in-Ok-clause-keeps_up : goal.returns-in-Ok-clause-keeps_up
 returns-in-Ok-clause-keeps_up g c = keeps_up_still WritesAll g.J.Keeper IsLine _ _ _ _ _ _ _ c.flush.ensures.same c.flush.ensures.marks refl c.in_ok-service.ensures.keeps_up
+
+pub returns-in-Ok-clause-still : goal.returns-in-Ok-clause-still
+returns-in-Ok-clause-still g c = (c.in_ok-service.ensures.still.0, c.in-Ok.ensures.still ∙ c.in_ok-service.ensures.still.1)
 
 -- it wasn't
 pub returns-in_err-service-clause-keeps_up_to : goal.returns-in_err-service-clause-keeps_up_to

@@ -16,6 +16,9 @@ returns-then-is_skipped-clause-answered g c bytes held = answered_skipped _ byte
 pub returns-then-is_skipped-clause-keeps_up : goal.returns-then-is_skipped-clause-keeps_up
 returns-then-is_skipped-clause-keeps_up g c = keeps_up_none g.J.Keeper IsLine _ _ _ _ _ refl refl
 
+pub returns-then-is_skipped-clause-still : goal.returns-then-is_skipped-clause-still
+returns-then-is_skipped-clause-still g c = (refl, refl)
+
 -- the line is answered at the clock's next moment, by what was written
 pub returns-in-Ok-clause-answered : goal.returns-in-Ok-clause-answered
 returns-in-Ok-clause-answered g c bytes held =
@@ -29,6 +32,9 @@ pub returns-in-Ok-clause-kept : goal.returns-in-Ok-clause-kept
 returns-in-Ok-clause-kept g c =
     let t = told_of c.reading-reading.result in
     next_kept g.J.Keeper c.args.service.state.history _ c.args.service.keeper c.turn-reply.result.1 c.in-Go.service (c.turn-reply.ensures.kept t.0 t.1) c.in-Go.is
+
+pub returns-in-Ok-clause-still : goal.returns-in-Ok-clause-still
+returns-in-Ok-clause-still g c = (rw c.in-Go.is at c.turn-reply.ensures.still, (rw c.in-Ok.is at c.write_line-written.ensures.still) ∙ c.mark-2.ensures.still)
 
 pub returns-in-Ok-clause-keeps_up : goal.returns-in-Ok-clause-keeps_up
 returns-in-Ok-clause-keeps_up g c =

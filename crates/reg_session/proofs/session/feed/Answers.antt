@@ -1,4 +1,4 @@
-use Rattle.std.proofs.Common.{arith, rules, refl, length-drop, take-append-drop, List, ℕ, take, drop}
+use Rattle.std.proofs.Common.{◌∙◌, arith, refl, length-drop, take-append-drop, List, ℕ, take, drop}
 use Rattle.std.proofs.lemmas.List.{take_all}
 use Rattle.reg_outside.specs.Faults.{Rose}
 use Rattle.reg_service.specs.Marked.{keeps_up_none, keeps_up_then, part_keeps_up_then}
@@ -22,6 +22,7 @@ loop-at-init g c =
       fed = λ line held. (held, answered_none here);
       within = omega arith;
       count = omega arith;
+      still = (refl, refl);
       kept = c.stays.ensures;
       keeps_up = keeps_up_none g.J.Keeper IsLine _ _ _ _ _ refl refl;
     }
@@ -33,7 +34,8 @@ loop-at-preserved g c =
     record {
       fed = feeds_from _ _ _ c.args.line c.loop-at.line c.in_ok-service.field-0-1 c.args.piece.now c.loop-at.at c.in_ok-service.field-0-2 c.loop-at.invariant.fed (rw c.split_at.ensures.back at c.in_ok-service.ensures.fed);
       within = omega (arith, rest, length-drop c.loop-at.at c.args.piece.now);
-      count = search rules;
+      count = omega (arith, c.loop-at.invariant.count, c.in_ok-service.ensures.still.1);
+      still = (c.in_ok-service.ensures.still.0 ∙ c.loop-at.invariant.still.0, c.in_ok-service.ensures.still.1 ∙ c.loop-at.invariant.still.1);
       kept = kept_then g.J.Keeper _ _ _ _ _ _ c.loop-at.invariant.kept c.in_ok-service.ensures.kept;
       keeps_up = keeps_up_then g.J.Keeper IsLine _ _ _ _ _ _ _ _ _ c.loop-at.invariant.kept c.in_ok-service.ensures.kept c.loop-at.invariant.keeps_up c.in_ok-service.ensures.keeps_up;
     }
@@ -64,5 +66,8 @@ pub returns-in_err-service-clause-halted : goal.returns-in_err-service-clause-ha
 returns-in_err-service-clause-halted g c = err_one _ _ c.from_residual.result (returns-in_err-service-clause-keeps_up_to g c) (λ e halts before held. (halts before held).0)
 
 -- all bytes were taken
+pub returns-clause-still : goal.returns-clause-still
+returns-clause-still g c = c.loop-at.invariant.still
+
 pub returns-clause-fed : goal.returns-clause-fed
 returns-clause-fed g c = rw (take_all c.loop-at.at c.args.piece.now (omega (arith, c.loop-at-test.false))) at c.loop-at.invariant.fed

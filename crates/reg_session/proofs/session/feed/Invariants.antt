@@ -1,4 +1,4 @@
-use Rattle.std.proofs.Common.{◌≤◌, ◌-◌, length, take}
+use Rattle.std.proofs.Common.{◌≡◌, ◌≤◌, ◌-◌, length, take}
 use Rattle.reg_session.specs.Answered.{Feeds}
 use Rattle.reg_service.specs.Kept.{KeptOn}
 use Rattle.reg_service.specs.Marks.{KeepsUp, output_of}
@@ -16,6 +16,7 @@ invariant-loop-at g l =
           (record { written = written l.out; moments = moments l.clock; state = l.service.state }) l.line;
       within : l.at ≤ length l.piece;
       count : faults l.fn.out ≤ faults l.out;
+      still : (g.J.Keeper.keep_faults l.service.keeper ≡ g.J.Keeper.keep_faults l.fn.service.keeper) × (faults l.out ≡ faults l.fn.out);
       kept : KeptOn g.J.Keeper l.fn.service.state.history l.fn.service.keeper l.service.state.history l.service.keeper;
       keeps_up : KeepsUp g.J.Keeper IsLine l.fn.service.keeper (output_of g.K.Sink l.fn.out) (output_of g.K.Sink l.out) l.service.state.history l.service.keeper;
     }

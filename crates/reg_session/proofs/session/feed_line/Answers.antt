@@ -20,6 +20,12 @@ returns-then-end-bytes-clause-fed g c =
 pub returns-then-end-bytes-clause-keeps_up : goal.returns-then-end-bytes-clause-keeps_up
 returns-then-end-bytes-clause-keeps_up g c = keeps_up_none g.J.Keeper IsLine _ _ _ _ _ refl refl
 
+pub returns-then-end-bytes-clause-still : goal.returns-then-end-bytes-clause-still
+returns-then-end-bytes-clause-still g c = (refl, refl)
+
+pub returns-clause-still : goal.returns-clause-still
+returns-clause-still g c = c.in_ok-service.ensures.still
+
 -- the bytes before the LF go on with the line, and the LF ends it
 pub returns-clause-fed : goal.returns-clause-fed
 returns-clause-fed g c =

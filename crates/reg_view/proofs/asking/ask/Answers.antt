@@ -4,7 +4,7 @@ use Rattle.reg_terms.specs.declared.query.Answer.{Answer}
 use Rattle.reg_view.specs.AtClock.{asked_at, view}
 use Rattle.reg_view.specs.Past.{past_at}
 use Rattle.reg_view.specs.Show.{show}
-use Rattle.reg_view.proofs.Moved.{at_clock, none_gone_at, unseen_at, unseen_object_at, tells_at, yields_at, if_ok}
+use Rattle.reg_view.proofs.Moved.{at_clock, none_gone_at, unseen_at, unseen_object_at, tells_at, known_at, yields_at, if_ok}
 use Rattle.reg_view.proofs.asking.ask.Goals as goal
 
 -- the facts and the memberships are those at the clock
@@ -28,3 +28,6 @@ returns-clause-unseen_object g c name asks unseen = (rw c.into_parts-by.ensures 
 
 pub returns-clause-names : goal.returns-clause-names
 returns-clause-names g c = if_ok c.answer.result _ _ (λ (r : Result Answer Refusal) h. tells_at (view c.args.machine.now.history c.args.machine.now.clock (asked_at c.args.machine.now.clock c.args.question.query) c.args.question.by) c.args.question.query r h) (returns-clause-shown g c)
+
+pub returns-clause-tells : goal.returns-clause-tells
+returns-clause-tells g c = if_ok c.answer.result _ _ (λ (r : Result Answer Refusal) h. known_at c.args.machine.now.history c.args.machine.now.clock c.args.question.by c.args.question.query r h) (returns-clause-shown g c)

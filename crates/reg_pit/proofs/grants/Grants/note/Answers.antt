@@ -1,4 +1,4 @@
-use Rattle.std.proofs.Common.{◌≡◌, length, nat_le, arith}
+use Rattle.std.proofs.Common.{◌≡◌, length, true, nat_le, arith}
 use Rattle.std.proofs.Math.Seq.{take-length}
 use Rattle.reg_terms.specs.Kinds.{same_object}
 use Rattle.reg_pit.specs.Grants.{has_grant}
@@ -26,7 +26,7 @@ loop-privilege-preserved c =
     let set = rw c.key_of.ensures at c.in_ok-set.ensures.set in
     record {
       last = c.in_ok-set.ensures.last;
-      held = held_more c.args.object c.loop-privilege-item.result.0 c.loop-privilege-item.result.1 c.args.at c.loop-privilege.granted c.set.new.self c.law_fits.ensures c.loop-privilege.invariant.held set;
+      held = held_more c.args.object c.loop-privilege-item.result.0 c.loop-privilege-item.result.1 true c.args.at c.loop-privilege.granted c.set.new.self c.law_fits.ensures c.loop-privilege.invariant.held set;
       on = λ o q j t. grant_more c.args.object o c.loop-privilege-item.result.0 q c.loop-privilege-item.result.1 j c.args.grants.now c.loop-privilege.privilege-index c.args.at t _ _ _
           c.loop-privilege-test.true c.loop-privilege-item.is (set (o, q, j) t) (c.loop-privilege.invariant.on o q j t);
     }

@@ -19,6 +19,9 @@ returns-in-Go-clause-kept g c = rw c.in-Go.is at c.at.ensures.kept
 pub returns-in-Go-clause-same : goal.returns-in-Go-clause-same
 returns-in-Go-clause-same g c = rw c.in-Go.is at c.at.ensures.same
 
+pub returns-in-Go-clause-still : goal.returns-in-Go-clause-still
+returns-in-Go-clause-still g c = rw c.in-Go.is at c.at.ensures.still
+
 -- or there was no memory to
 pub returns-in-Stop-clause-turn : goal.returns-in-Stop-clause-turn
 returns-in-Stop-clause-turn g c = sym (ap last_reply (rw c.in-Stop.is at c.at.ensures.moved))
@@ -28,3 +31,6 @@ returns-in-Stop-clause-kept g c = rw c.in-Stop.is at c.at.ensures.kept
 
 pub returns-in-Stop-clause-same : goal.returns-in-Stop-clause-same
 returns-in-Stop-clause-same g c = rw c.in-Stop.is at c.at.ensures.same
+
+pub returns-in-Stop-clause-still : goal.returns-in-Stop-clause-still
+returns-in-Stop-clause-still g c = rw c.in-Stop.is at c.at.ensures.still

@@ -1,7 +1,7 @@
 use Rattle.std.proofs.Common.{◌≡◌, ◌∙◌, ℕ, ap, refl, subst, max, Ok}
 use Rattle.reg_machine.specs.History.{State}
 use Rattle.reg_base.specs.Entities.{entity_of}
-use Rattle.reg_service.specs.Kept.{IsLoaded, KeepsNext, LeavesKeeper}
+use Rattle.reg_service.specs.Kept.{IsLoaded, KeepsNext, LeavesFaults, LeavesKeeper}
 use Rattle.reg_terms.specs.declared.request.Op.TheVariants as op
 use Rattle.reg_service.specs.Turn.{turn, requested, at_moment, GoesOn}
 use Rattle.reg_view.specs.AtClock.{told}
@@ -24,6 +24,19 @@ returns-in_default-clause-asked g c is = (ap (λ (v : Served g.row.K.Denot). v.k
 
 pub returns-in_default-clause-room : goal.returns-in_default-clause-room
 returns-in_default-clause-room g c = unanswered (at_moment c.args.self.state c.args.at) c.args.request.by c.args.request.op
+
+pub returns-in_default-clause-still : goal.returns-in_default-clause-still
+returns-in_default-clause-still g c = ap (λ (v : Served g.row.K.Denot). g.K.Keeper.keep_faults v.keeper) c.self.view_is
+
+-- where it goes on the keeper's count of faults is as it was
+pub returns-in-Query-clause-still : goal.returns-in-Query-clause-still
+returns-in-Query-clause-still g c = subst (λ (v : Served g.row.K.Denot). LeavesFaults g.K.Keeper v.keeper c.asked.result.1) c.self.view_is c.asked.ensures.still
+
+pub returns-in-Command-clause-still : goal.returns-in-Command-clause-still
+returns-in-Command-clause-still g c = subst (λ (v : Served g.row.K.Denot). LeavesFaults g.K.Keeper v.keeper c.commanded.result.1) c.self.view_is c.commanded.ensures.still
+
+pub returns-in-Load-clause-still : goal.returns-in-Load-clause-still
+returns-in-Load-clause-still g c = subst (λ (v : Served g.row.K.Denot). LeavesFaults g.K.Keeper v.keeper c.load_by.result.1) c.self.view_is c.load_by.ensures.still
 
 -- a query leaves the history as it was
 pub returns-in-Query-clause-history : goal.returns-in-Query-clause-history
