@@ -1,5 +1,6 @@
 pub mod Ids
 pub mod Kept
+pub mod Loads
 pub mod Marked
 pub mod Marks
 pub mod Opening

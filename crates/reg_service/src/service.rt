@@ -1,13 +1,14 @@
 // One request after another, over a keeper. A command is dropped by a call of `drop`, as in
 // `opening`: else each exit takes it apart by its kinds.
 ghost use Rattle.std.specs.Prelude.{◌≡◌, ℕ, List, Option, Result, true, false, Ok, Err, None, IfOk};
-ghost use Rattle.std.specs.Prelude.{IfErr, IfSome};
+ghost use Rattle.std.specs.Prelude.{IfErr, IfSome, Some};
 ghost use Rattle.reg_machine.specs.History.{start};
 ghost use Rattle.reg_machine.specs.Refusals.{refusal};
 ghost use Rattle.reg_machine.specs.Loads.{load_outcome};
 ghost use Rattle.reg_keep.specs.Frames.{payloads_of_records};
 ghost use Rattle.reg_keep.specs.declared.open.OpenFault.TheVariants.{Damaged};
 ghost use Rattle.reg_base.specs.Names.{is_extension};
+ghost use Rattle.reg_base.specs.declared.entity.Entity.{Entity};
 ghost use Rattle.reg_terms.specs.declared.command.Stamped.{Stamped};
 ghost use Rattle.reg_terms.specs.declared.reply.LoadCounts.{LoadCounts};
 ghost use Rattle.reg_ops.specs.Forms.{is_entity, has_form};
@@ -15,9 +16,11 @@ ghost use Rattle.reg_wire.specs.Payload.{IsWritable};
 ghost use Rattle.reg_service.specs.Opening.{payloads_of, judged, FrontsReopen, IsServed};
 ghost use Rattle.reg_service.specs.Kept.{KeepsNext, KeptOn, IsAcknowledged, IsLoaded, LeavesKeeper};
 ghost use Rattle.reg_service.specs.Kept.{LeavesFaults, keeper_of};
+ghost use Rattle.reg_service.specs.Loads.{IsRefusedForRoom, LoadsIfRoom};
 ghost use Rattle.reg_service.specs.Marks.{LeavesSince};
 ghost use Rattle.reg_service.specs.Turn.{turn, requested, HasForm, IsQuery, Carries, Follows};
-ghost use Rattle.reg_service.specs.Turn.{GoesOn, MovesTo, counted, load_ordered, loaded, ordered};
+ghost use Rattle.reg_service.specs.Turn.{GoesOn, MovesTo, at_moment, counted, load_ordered};
+ghost use Rattle.reg_service.specs.Turn.{loaded, ordered};
 
 use crate::ids::made_id;
 use crate::opening::replay;
@@ -90,6 +93,19 @@ impl<K: Keeper> Next<K> {
             Next::Stop(_, keeper) => keeper.stamp(),
         }
     }
+}
+
+/// A law, which does nothing: a load of a table that has a plan is refused for want of room alone.
+fn law_loads(machine: &Machine<Incremental>)
+    ensures { (by : Entity) (job table : List ℕ)
+        → IsRefusedForRoom machine.now.history machine.now.clock by job table
+        (load_ordered machine.now (Some by) job table).0 }
+{
+    let facts = machine.facts();
+    facts.law_sound();
+    facts.law_held();
+    facts.law_names();
+    facts.law_jobs();
 }
 
 /// Asks the machine.
@@ -423,6 +439,10 @@ impl<K: Keeper> Service<K> {
         ensures loaded { (n : ℕ) (counts : LoadCounts) → result.0 ≡ Reply.Loaded n counts
             → IsLoaded ⟦<K as Keeper>⟧ self.state.history n result.1 }
 
+        // A load of a table that has a plan is refused for want of room alone, where the caller may
+        // load by the job.
+        ensures room { LoadsIfRoom (at_moment self.state at) request.by request.op result.0 }
+
         // A query leaves the keeper as it was, and so the service doesn't stop for it.
         ensures asked { IsQuery request.op → LeavesKeeper self.keeper result.1 }
     {
@@ -432,6 +452,7 @@ impl<K: Keeper> Service<K> {
             drop(request);
             return (Reply::NoMemory, Next::Stop(Cause::Memory, keeper));
         };
+        law_loads(&machine);
         let Request { by, op } = request;
         match op {
             Op::Query(query) => asked(alloc, machine, keeper, by, query),

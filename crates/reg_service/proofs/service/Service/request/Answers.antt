@@ -8,6 +8,8 @@ use Rattle.reg_view.specs.AtClock.{told}
 use Rattle.reg_service.specs.Opening.{Served}
 use Rattle.reg_service.proofs.Forms.{command_form}
 use Rattle.reg_service.proofs.Keeping.{stopped_at, served_later, query_goes_on}
+use Rattle.reg_service.specs.Loads.{LoadsIfRoom}
+use Rattle.reg_service.proofs.LoadsFull.{told_full, unanswered}
 use Rattle.reg_service.proofs.Loads.{command_unloaded, load_form, load_goes_on, query_unloaded}
 use Rattle.reg_service.proofs.service.Service.request.Goals as goal
 
@@ -19,6 +21,9 @@ returns-in_default-clause-kept g c =
 
 pub returns-in_default-clause-asked : goal.returns-in_default-clause-asked
 returns-in_default-clause-asked g c is = (ap (λ (v : Served g.row.K.Denot). v.keeper) c.self.view_is, refl)
+
+pub returns-in_default-clause-room : goal.returns-in_default-clause-room
+returns-in_default-clause-room g c = unanswered (at_moment c.args.self.state c.args.at) c.args.request.by c.args.request.op
 
 pub returns-in_default-clause-still : goal.returns-in_default-clause-still
 returns-in_default-clause-still g c = ap (λ (v : Served g.row.K.Denot). g.K.Keeper.keep_faults v.keeper) c.self.view_is
@@ -93,6 +98,22 @@ returns-in-Load-clause-kept g c =
 -- and is no query
 pub returns-in-Load-clause-asked : goal.returns-in-Load-clause-asked
 returns-in-Load-clause-asked g c is = absurd (rw c.in-Load.is at is)
+
+-- it is refused for want of room alone, and nothing else is a load
+pub returns-in-Load-clause-room : goal.returns-in-Load-clause-room
+returns-in-Load-clause-room g c =
+    let later : State = at_moment c.self.inside.machine c.args.at in
+    let moved : c.in-Ok.machine ≡ later = c.in-Ok.ensures ∙ ap (λ (n : ℕ). let s : State = record { history = c.self.inside.machine.history; clock = n } in s) (c.later_of-now.ensures.value ∙ ap (λ (n : ℕ). max n c.args.at) c.clock.ensures) in
+    let here : LoadsIfRoom c.in-Ok.machine c.args.request.by (op.Load c.in-Load.job c.in-Load.table) c.load_by.result.0 =
+    λ e who. told_full c.in-Ok.machine (entity_of c.args.request.by) e c.in-Load.job c.in-Load.table c.load_by.result.0 c.load_by.result.1 c.load_by.ensures.turn who (c.law_loads.ensures e c.in-Load.job c.in-Load.table) in
+    let then : LoadsIfRoom later c.args.request.by (op.Load c.in-Load.job c.in-Load.table) c.load_by.result.0 = subst (λ (m : State). LoadsIfRoom m c.args.request.by (op.Load c.in-Load.job c.in-Load.table) c.load_by.result.0) moved here in
+    subst (λ (v : Served g.row.K.Denot). LoadsIfRoom (at_moment v.state c.args.at) c.args.request.by c.args.request.op c.load_by.result.0) c.self.view_is (rw c.in-Load.is then)
+
+pub returns-in-Command-clause-room : goal.returns-in-Command-clause-room
+returns-in-Command-clause-room g c = rw c.in-Command.is tt
+
+pub returns-in-Query-clause-room : goal.returns-in-Query-clause-room
+returns-in-Query-clause-room g c = rw c.in-Query.is tt
 
 -- it is answered as a load, and nothing else is
 pub returns-in-Load-clause-acknowledged : goal.returns-in-Load-clause-acknowledged
