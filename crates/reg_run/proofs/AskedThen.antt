@@ -1,6 +1,6 @@
 -- Lines that are asked as of a moment.
-use Rattle.std.proofs.Common.{◌≡◌, ◌≤◌, List, ℕ, Option, Some, None, Result, Ok, Err, refl, ap, sym, subst, ◌∙◌, arith, ◌⊎◌, inl, inr, length, option_map, max}
-use Rattle.std.specs.Prelude.{IfSome, codes, ok_or}
+use Rattle.std.proofs.Common.{◌≡◌, ◌≤◌, List, ℕ, Option, Some, None, Result, Ok, Err, refl, ap, sym, subst, ◌∙◌, arith, inl, inr, length, option_map}
+use Rattle.std.specs.Prelude.{IfSome, codes}
 use Rattle.reg_base.specs.MomentText.{moment_of}
 use Rattle.reg_outside.specs.Faults.{Rose}
 use Rattle.reg_terms.specs.declared.refusal.Refusal.{Refusal}

@@ -12,7 +12,7 @@ use Rattle.reg_run.specs.Crash.{Seen, seen}
 use Rattle.reg_terms.specs.declared.refusal.Refusal.{Refusal}
 use Rattle.reg_terms.specs.declared.reply.Reply.{Reply}
 use Rattle.reg_terms.specs.declared.reply.Reply.TheVariants as reply
-use Rattle.reg_run.specs.AsOf.{AsOfEnds, In, asked_moment, input}
+use Rattle.reg_run.specs.AsOf.{AsOfEnds, In, input}
 use Rattle.reg_run.specs.Due.{Told, due_of, end_of_due}
 use Rattle.reg_run.specs.Ends.{Did, IsIdle, IsUsage, LoadAsked, LoadBroke, RunDid}
 use Rattle.reg_run.specs.Listing.{PrintsLines, due_lines}
