@@ -1,8 +1,10 @@
 pub mod AskedThen
 pub mod Asking
+pub mod Counting
 pub mod Crashing
 pub mod Ending
 pub mod Gathering
+pub mod Ids
 pub mod KeepingUp
 pub mod Loading
 pub mod Naming

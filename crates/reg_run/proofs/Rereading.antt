@@ -17,8 +17,9 @@ use Rattle.reg_service.specs.Opening.{accepted, after_payload, after_stamped, an
 use Rattle.reg_words.specs.declared.task.Places.{Places}
 use Rattle.reg_run.specs.Crash.{AsBefore, DiskSurvives, IsSound, OpensTo, OpensWith, Survives, seen}
 use Rattle.reg_run.specs.Ends.{end_of_open}
-use Rattle.reg_run.specs.Listing.{AreRead, Lists, PrintsLines, counted_lines, due_lines, placed}
-use Rattle.reg_export.specs.Listing.{counted, listing, nothing_made}
+use Rattle.reg_run.specs.Listing.{AreRead, Lists, PrintsLines, counted_lines, due_lines, rows_in}
+use Rattle.reg_export.specs.Listing.{Row, listing}
+use Rattle.reg_run.proofs.Ids.{ids_told}
 use Rattle.reg_run.specs.World.{Out}
 use Rattle.reg_run.specs.declared.status.End.{End}
 use Rattle.reg_run.specs.declared.status.End.TheVariants as the_end
@@ -77,13 +78,15 @@ pub reread : (held : Option (List ℕ)) (records : Records) (from : State) → O
 reread None records from opens_to opened_as = tt
 reread (Some file) records from opens_to opened_as = are_read from records (ap judged_all (sym opened_as) ∙ opens_to)
 
--- the lines by these records are those that are due
-same_lines : (places : Places) (held : Option (List ℕ)) (records : Records) (history : List Stamped) → IfSome held (λ file. opened file ≡ Ok records) → counted_lines places held records history ≡ due_lines places held history
-same_lines places None records history is = refl
-same_lines places (Some file) records history is = ap (λ (rs : Result Records ℕ). Some (listing places.from places.to (counted nothing_made (placed rs history)))) (sym is)
+-- the lines that are counted over these records are those that are due
+same_lines : (places : Places) (held : Option (List ℕ)) (records : Records) (from : State) → OpensTo held (Ok from) → IfSome held (λ file. opened file ≡ Ok records) → counted_lines places held records from.history ≡ due_lines places held from.history
+same_lines places None records from opens_to is = refl
+same_lines places (Some file) records from opens_to is =
+    let judged_so : judged start records ≡ Ok from = ap judged_all (sym is) ∙ opens_to in
+    ap (λ (rows : List Row). Some (listing places.from places.to rows)) (ids_told from records judged_so) ∙ ap (λ (rs : Result Records ℕ). Some (listing places.from places.to (rows_in rs from.history))) (sym is)
 
-pub prints_due : (places : Places) (held : Option (List ℕ)) (records : Records) (history : List Stamped) (end : End) (old new : Out) → IfSome held (λ file. opened file ≡ Ok records) → Lists (counted_lines places held records history) end old new → Lists (due_lines places held history) end old new
-prints_due places held records history end old new is printed = subst (λ (due : Option (List ℕ)). Lists due end old new) (same_lines places held records history is) printed
+pub prints_due : (places : Places) (held : Option (List ℕ)) (records : Records) (from : State) (end : End) (old new : Out) → OpensTo held (Ok from) → IfSome held (λ file. opened file ≡ Ok records) → Lists (counted_lines places held records from.history) end old new → Lists (due_lines places held from.history) end old new
+prints_due places held records from end old new opens_to is printed = subst (λ (due : Option (List ℕ)). Lists due end old new) (same_lines places held records from opens_to is) printed
 
 undamaged : (places : Places) (held : Option (List ℕ)) (from : State) (at : ℕ) → IfSome held (λ file. opened file ≡ Err at) → OpensTo held (Ok from) → IfSome (due_lines places held from.history) (λ bytes. ⊥)
 undamaged places None from at is opens_to = tt

@@ -1,14 +1,15 @@
 -- How printing the lines of a history's commands ends.
-use Rattle.std.specs.Prelude.{◌≡◌, ◌⊎◌, ℕ, List, [], ◌∷◌, Option, Some, option_map, length, ⊤}
-use Rattle.std.specs.Prelude.{IfSome, Result, Ok, Err}
+use Rattle.std.specs.Prelude.{◌≡◌, ◌⊎◌, ℕ, List, [], ◌∷◌, ◌++◌, Option, Some, option_map, length}
+use Rattle.std.specs.Prelude.{⊤, IfSome, Result, Ok, Err}
 use Rattle.std.specs.Io.KnownBytes.{append_known}
 use Rattle.reg_outside.specs.Faults.{Rose}
 use Rattle.reg_outside.specs.Streams.{WritesFront}
 use Rattle.reg_terms.specs.declared.command.Stamped.{Stamped}
 use Rattle.reg_wire.specs.Payload.{stamped_of}
-use Rattle.reg_machine.specs.History.{State}
+use Rattle.reg_machine.specs.History.{State, facts}
 use Rattle.reg_keep.specs.Frames.{opened}
-use Rattle.reg_export.specs.Listing.{Progress, cleared, counted, listing, nothing_made}
+use Rattle.reg_export.specs.Listing.{Progress, Row, cleared, counted, listing, nothing_made}
+use Rattle.reg_service.specs.Ids.{made_id}
 use Rattle.reg_words.specs.declared.task.Places.{Places}
 use Rattle.reg_run.specs.Crash.{DiskSurvives, IsUntouched, Seen}
 use Rattle.reg_run.specs.Status.{status_of}
@@ -42,23 +43,24 @@ abbrev pub PrintsLines : Option (List ℕ) → End → (faults later : ℕ) → 
 PrintsLines due end faults later old new =
     Lists due end old new ⊎ ((end ≡ the_end.Disk) × Rose faults later × (new ≡ old))
 
--- commands, each with the place of its record
-abbrev pub at_places : List (ℕ × List ℕ) → List Stamped → List (ℕ × Stamped)
-at_places [] history = []
-at_places (r ∷ records) [] = []
-at_places (r ∷ records) (s ∷ ss) = (r.0, s) ∷ at_places records ss
+-- commands after others, each with the place of its record and the id that its reply told
+abbrev pub rows_of : List Stamped → List (ℕ × List ℕ) → List Stamped → List Row
+rows_of before [] history = []
+rows_of before (r ∷ records) [] = []
+rows_of before (r ∷ records) (s ∷ ss) =
+    record { place = r.0; made = made_id s.command (facts before s.at); stamped = s }
+    ∷ rows_of (before ++ s ∷ []) records ss
 
--- the same, where a file has these records
-abbrev pub placed : Result (List (ℕ × List ℕ)) ℕ → List Stamped → List (ℕ × Stamped)
-placed (Ok records) history = at_places records history
-placed (Err at) history = []
+-- a history's commands, where a file has these records
+abbrev pub rows_in : Result (List (ℕ × List ℕ)) ℕ → List Stamped → List Row
+rows_in (Ok records) history = rows_of [] records history
+rows_in (Err at) history = []
 
 -- the lines of a history's commands of these numbers, each with the place at which its frame begins
--- in the file, where the disk tells its bytes
+-- in the file and the id that its reply told, where the disk tells its bytes
 abbrev pub due_lines : Places → Option (List ℕ) → List Stamped → Option (List ℕ)
 due_lines places held history =
-    option_map (λ file. listing places.from places.to (counted nothing_made
-    (placed (opened file) history))) held
+    option_map (λ file. listing places.from places.to (rows_in (opened file) history)) held
 
 -- `commands` from the state that the file opened to: the file was read once more, the lines of its
 -- commands were printed, and the disk was only read
@@ -80,6 +82,12 @@ AreRead [] [] = ⊤
 AreRead [] (s ∷ ss) = ⊥
 AreRead (r ∷ records) [] = ⊥
 AreRead (r ∷ records) (s ∷ ss) = (stamped_of r.1 ≡ Some s) × AreRead records ss
+
+-- commands, each with the place of its record
+abbrev pub at_places : List (ℕ × List ℕ) → List Stamped → List (ℕ × Stamped)
+at_places [] history = []
+at_places (r ∷ records) [] = []
+at_places (r ∷ records) (s ∷ ss) = (r.0, s) ∷ at_places records ss
 
 -- the lines of the commands of a file's records, by what commands before made
 abbrev pub counted_lines : Places → Option (List ℕ) → List (ℕ × List ℕ) → List Stamped

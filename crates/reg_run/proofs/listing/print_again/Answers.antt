@@ -6,7 +6,7 @@ use Rattle.reg_run.proofs.listing.print_again.Goals as goal
 pub returns-in-Ok-clause-printed : goal.returns-in-Ok-clause-printed
 returns-in-Ok-clause-printed g c from opens =
     let held = g.D.Disk.contents c.args.disk in
-    inl (prints_due c.args.places.now held c.in-Ok.records from.history _ _ _ c.in-Ok.ensures.records
+    inl (prints_due c.args.places.now held c.in-Ok.records from _ _ _ opens c.in-Ok.ensures.records
     (c.print_records-end.ensures held from.history (reread held c.in-Ok.records from opens c.in-Ok.ensures.records)))
 
 -- the file isn't damaged
