@@ -22,7 +22,7 @@ attributes and rules
     assignments-of-one-attribute assignments-on-one-group values-added values-removed-last-first
     values-removed-first-first vetoes-on-one-group rules-on-many-groups groups-with-on-create
 loads, the log and questions
-    load-of-rows load-again acknowledged is-member members-of-a-few folder-listed may grants-asked-then
+    load-of-rows load-again acknowledged may-of-a-member members-of-a-few folder-listed may grants-asked-then
 """
 import argparse
 import math
@@ -194,7 +194,7 @@ SHAPES = {
     "load-again": (1, lambda n: [*JOB, *persons(n), load(n)], lambda n: [load(n)]),
     "acknowledged": (1, lambda n: [*persons(n), {"op": "consumer.add", "consumer": "c"}], lambda n: [
         {"op": "consumer.ack", "consumer": "c", "seq": k + 1} for k in range(n)]),
-    "is-member": (1, lambda n: [*groups(1), *persons(n), *[joins(group(0), person(k)) for k in range(n)]],
+    "may-of-a-member": (1, lambda n: [*groups(1), *persons(n), *[joins(group(0), person(k)) for k in range(n)]],
                   lambda n: [{"op": "may", "object": group(0), "entity": person(k)} for k in range(n)]),
     "members-of-a-few": (1, lambda n: [*groups(n), *persons(10), *[joins(group(0), person(k)) for k in range(10)]],
                          lambda n: [{"op": "members", "group": group(0)} for k in range(n)]),
