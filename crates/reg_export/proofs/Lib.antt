@@ -1,4 +1,4 @@
-pub mod Pushing
+pub mod Placing
 pub mod Seen
 pub mod Putting
 pub mod Filling
@@ -6,6 +6,7 @@ pub mod Rows
 pub mod Callers
 pub mod Again
 pub mod Writing
+pub mod Whole
 pub mod Requests
 pub mod Told
 pub mod Ids

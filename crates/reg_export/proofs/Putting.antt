@@ -6,12 +6,11 @@ use Rattle.std.specs.Ordering.{is_eq, match_ordering, nat_cmp}
 use Rattle.std.specs.Cmp.Lexicographic.{slice_cmp}
 use Rattle.std.specs.declared.cmp.Ordering.{Ordering}
 use Rattle.std.specs.declared.cmp.Ordering.TheVariants.{Less, Equal, Greater}
-use Rattle.std.proofs.lemmas.Bool.{false≢true, or_parts}
+use Rattle.std.proofs.lemmas.Bool.{false≢true}
 use Rattle.std.proofs.lemmas.Map.Text.{is_eq-slice_cmp}
 use Rattle.std.proofs.lemmas.Slice.Eq.{bytes_eq-Decides}
 use Rattle.serde_json.specs.Data.{Data, Members, no_members, member, put, depth, members_depth}
 use Rattle.serde_json.specs.Find.{get_member}
-use Rattle.serde_json.specs.Written.{has_float, members_have_float}
 use Rattle.reg_json.specs.Fields.{key_list, other_key}
 use Rattle.reg_export.specs.Telling.{without}
 
@@ -80,19 +79,7 @@ known_put known k d (member l e ms) a all =
     let parts = known_parts (is_known known l) l (other_key known (key_list ms)) all in
     known_at (slice_cmp nat_cmp k l) known k l d e ms a parts.0 parts.1 (known_put known k d ms a parts.1)
 
--- ---- no floats, and how deep members nest
-
-floats_at : (o : Ordering) (k l : List ℕ) (d e : Data) (ms : Members) → has_float d ≡ false → has_float e ≡ false → members_have_float ms ≡ false → members_have_float (put k d ms) ≡ false
-    → members_have_float (match_ordering o (member k d (member l e ms)) (member l d ms) (member l e (put k d ms))) ≡ false
-floats_at Less k l d e ms a b rest later = rw (a, b) rest
-floats_at Equal k l d e ms a b rest later = rw a rest
-floats_at Greater k l d e ms a b rest later = rw b later
-
-pub floats_put : (k : List ℕ) (d : Data) (ms : Members) → has_float d ≡ false → members_have_float ms ≡ false → members_have_float (put k d ms) ≡ false
-floats_put k d no_members a rest = rw a refl
-floats_put k d (member l e ms) a rest =
-    let parts = or_parts (has_float e) (members_have_float ms) rest in
-    floats_at (slice_cmp nat_cmp k l) k l d e ms a parts.0 parts.1 (floats_put k d ms a parts.1)
+-- ---- how deep members nest
 
 depth_at : (o : Ordering) (n : ℕ) (k l : List ℕ) (d e : Data) (ms : Members) → depth d ≤ n → depth e ≤ n → members_depth ms ≤ n → members_depth (put k d ms) ≤ n
     → members_depth (match_ordering o (member k d (member l e ms)) (member l d ms) (member l e (put k d ms))) ≤ n

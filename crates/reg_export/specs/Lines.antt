@@ -80,8 +80,3 @@ has_id c = has_key (codes "id") (command_row (kind_of c)).op.fields
 abbrev pub is_nothing : FieldRef → Bool
 is_nothing reference.Nothing = true
 is_nothing _ = false
-
--- what is seen, under a key
-abbrev pub with_seen : List ℕ → List Field → Members → Members
-with_seen key [] ms = ms
-with_seen key (f ∷ fs) ms = with_data key (field_data f) ms

@@ -1,98 +1,186 @@
 // The fields of a command, each under its key.
-ghost use Rattle.std.specs.Prelude.{◌≡◌, OnOk, codes, map, option_map};
-ghost use Rattle.serde_json.specs.Data.{put as with_member, string};
-ghost use Rattle.serde_json.specs.View.{members_view};
+ghost use Rattle.std.specs.Prelude.{◌≡◌, ◌<◌, ◌^◌, IfOk, IfSome, codes, map, option_map, true};
+ghost use Rattle.reg_terms.specs.Privileges.{line_of};
+ghost use Rattle.reg_ops.specs.Forms.{is_i64};
 ghost use Rattle.reg_ops.specs.Parts.{seen, seen_all};
-ghost use Rattle.reg_export.specs.Fields.{moment_data};
-ghost use Rattle.reg_export.specs.Lines.{id_data, is_nothing, with_data, with_fields, with_seen};
+ghost use Rattle.reg_ops.specs.Table.{fields_of};
+ghost use Rattle.reg_ops.specs.declared.field.Field.TheVariants as field;
+ghost use Rattle.reg_json.specs.AdminReplies.{scope_word};
+ghost use Rattle.reg_json.specs.Replies.{kind_word};
+ghost use Rattle.reg_export.specs.Fields.{def_word, inherit_word};
+ghost use Rattle.reg_export.specs.Lines.{id_data, is_nothing, with_data, with_fields};
+ghost use Rattle.reg_export.specs.Members.{AreWhole, IsWhole, members_of, part_data};
+ghost use Rattle.reg_export.specs.Members.{reference_data};
 
-use crate::values::{
-    def_word, entity_value, given_value, inherit_word, kind_word, moment_value, names_value,
-    owners_value, rows_value, scope_word,
-};
-use reg_base::Moment;
-use reg_ops::{FieldKind, FieldRef};
-use reg_terms::privilege_name;
-use serde_json::{Map, Value, put};
-use std::alloc::{AllocError, Global};
+use crate::members::{Part, put_member};
+use reg_base::Privilege;
+use reg_ops::{FieldKind, FieldRef, fields_of};
+use reg_terms::{Command, DefKind, InheritKind, Scope, SetOp, Value, privilege_name};
+use std::alloc::AllocError;
 
-fn put_text(
-    alloc: Global,
-    members: &mut Map<String, Value>,
-    key: &str,
-    text: &str,
-) -> Result<(), AllocError>
-    ensures { OnOk result (members_view members.new.entries
-        ≡ with_member key.now (string text.now) (members_view members.old.entries)) }
+/// The word of how a composite is made.
+fn kind_word<'a>(kind: SetOp) -> &'a str
+    ensures { result.now ≡ kind_word kind }
 {
-    let value = Value::try_from_str(alloc, text)?;
-    put(members, alloc, key, value)
-}
-
-/// Puts a moment, where there is one.
-fn put_moment(
-    alloc: Global,
-    members: &mut Map<String, Value>,
-    key: &str,
-    moment: Option<Moment>,
-) -> Result<(), AllocError>
-    ensures { OnOk result (members_view members.new.entries
-        ≡ with_data key.now (option_map moment_data moment) (members_view members.old.entries)) }
-{
-    match moment {
-        Some(moment) => {
-            let value = moment_value(alloc, moment)?;
-            put(members, alloc, key, value)
-        }
-        None => Ok(()),
+    match kind {
+        SetOp::Intersection => "intersection",
+        SetOp::Complement => "complement",
     }
 }
 
-/// Puts the id of what was made, where there is one.
-pub fn put_id(
-    alloc: Global,
-    members: &mut Map<String, Value>,
-    made: Option<u64>,
-) -> Result<(), AllocError>
-    ensures { OnOk result (members_view members.new.entries
-        ≡ with_data (codes "id") (id_data made) (members_view members.old.entries)) }
+/// The word of the kind of objects that an inherit is for.
+fn inherit_word<'a>(kind: InheritKind) -> &'a str
+    ensures { result.now ≡ inherit_word kind }
 {
-    match made {
-        Some(id) => put(members, alloc, "id", Value::from(id)),
-        None => Ok(()),
+    match kind {
+        InheritKind::Folder => "folder",
+        InheritKind::Group => "group",
+        InheritKind::Definition => "definition",
     }
 }
 
-fn put_field(
-    alloc: Global,
-    members: &mut Map<String, Value>,
-    key: &str,
-    field: &FieldRef<'_>,
-) -> Result<(), AllocError>
-    ensures { OnOk result (members_view members.new.entries
-        ≡ with_seen key.now (seen field.now) (members_view members.old.entries)) }
+/// The word of how far an inherit or a rule reaches.
+fn scope_word<'a>(scope: Scope) -> &'a str
+    ensures { result.now ≡ scope_word scope }
+{
+    match scope {
+        Scope::One => "ONE",
+        Scope::Sub => "SUB",
+    }
+}
+
+/// The word of the kind of values that attributes take.
+fn def_word<'a>(kind: DefKind) -> &'a str
+    ensures { result.now ≡ def_word kind }
+{
+    match kind {
+        DefKind::Marker => "marker",
+        DefKind::Integer => "integer",
+        DefKind::Text => "text",
+        DefKind::Timestamp => "timestamp",
+    }
+}
+
+/// The name of a privilege.
+fn privilege_word<'a>(held: Privilege) -> &'a str
+    ensures { result.now ≡ (line_of held).name }
+{
+    privilege_name(held)
+}
+
+/// A field as a part of a line, unless it is left out.
+fn part_of<'a>(field: &'a FieldRef<'a>) -> Option<Part<'a>>
+    ensures { option_map part_data result ≡ reference_data field.now }
 {
     match field {
-        FieldRef::Nothing => Ok(()),
-        FieldRef::Name(name) => put_text(alloc, members, key, name.as_str()),
+        FieldRef::Nothing | FieldRef::OptionalMoment(None) => None,
+        FieldRef::Name(name) => Some(Part::Text(name.as_str())),
         FieldRef::Folder(text)
         | FieldRef::Extension(text)
         | FieldRef::Source(text)
         | FieldRef::Display(text)
-        | FieldRef::Object(text) => put_text(alloc, members, key, text.as_str()),
-        FieldRef::Entity(entity) => put(members, alloc, key, entity_value(alloc, entity)?),
-        FieldRef::OptionalMoment(moment) => put_moment(alloc, members, key, *moment),
-        FieldRef::SetOp(kind) => put_text(alloc, members, key, kind_word(*kind)),
-        FieldRef::InheritKind(kind) => put_text(alloc, members, key, inherit_word(*kind)),
-        FieldRef::Scope(scope) => put_text(alloc, members, key, scope_word(*scope)),
-        FieldRef::Privilege(held) => put_text(alloc, members, key, privilege_name(*held)),
-        FieldRef::Owners(owners) => put(members, alloc, key, owners_value(alloc, *owners)?),
-        FieldRef::Flag(flag) => put(members, alloc, key, Value::from(*flag)),
-        FieldRef::DefKind(kind) => put_text(alloc, members, key, def_word(*kind)),
-        FieldRef::Value(value) => put(members, alloc, key, given_value(alloc, value)?),
-        FieldRef::Number { value, .. } => put(members, alloc, key, Value::from(*value)),
-        FieldRef::Names(names) => put(members, alloc, key, names_value(alloc, names.list())?),
-        FieldRef::LoadRows(rows) => put(members, alloc, key, rows_value(alloc, rows.list())?),
+        | FieldRef::Object(text) => Some(Part::Text(text.as_str())),
+        FieldRef::Entity(entity) => Some(Part::Entity(entity)),
+        FieldRef::OptionalMoment(Some(moment)) => Some(Part::Moment(moment)),
+        FieldRef::SetOp(kind) => Some(Part::Text(kind_word(*kind))),
+        FieldRef::InheritKind(kind) => Some(Part::Text(inherit_word(*kind))),
+        FieldRef::Scope(scope) => Some(Part::Text(scope_word(*scope))),
+        FieldRef::Privilege(held) => Some(Part::Text(privilege_word(*held))),
+        FieldRef::Owners(owners) => Some(Part::Owners(*owners)),
+        FieldRef::Flag(flag) => Some(Part::Flag(*flag)),
+        FieldRef::DefKind(kind) => Some(Part::Text(def_word(*kind))),
+        FieldRef::Value(value) => Some(Part::Value(value)),
+        FieldRef::Number { value, .. } => Some(Part::Number(*value)),
+        FieldRef::Names(names) => Some(Part::Names(names.list())),
+        FieldRef::LoadRows(rows) => Some(Part::Rows(rows.list())),
+    }
+}
+
+fn law_integer_is_whole(number: i64)
+    ensures { is_i64 number ≡ true }
+{
+    let _any = number;
+}
+
+fn law_number_is_whole(number: u64)
+    ensures { number < 2 ^ 64 }
+{
+    let _any = number;
+}
+
+fn law_value_is_whole(value: &Value)
+    ensures { IsWhole (field.Value value.now) }
+{
+    match value {
+        Value::Int(number) => law_integer_is_whole(*number),
+        Value::Text(_) => {}
+    }
+}
+
+/// Numbers of a command have 64 bits.
+fn law_is_whole(field: &FieldRef<'_>)
+    ensures { AreWhole (seen field.now) }
+{
+    match field {
+        FieldRef::Value(value) => law_value_is_whole(value),
+        FieldRef::Number { value, .. } => law_number_is_whole(*value),
+        _ => {}
+    }
+}
+
+/// And so have those of all its fields.
+#[tactic(auto, using(crate::proofs::Whole::whole_joined))]
+fn law_are_whole(fields: &[FieldRef<'_>])
+    ensures { AreWhole (seen_all fields.now) }
+{
+    if let [field, others @ ..] = fields {
+        law_is_whole(field);
+        law_are_whole(others);
+    }
+}
+
+/// And those of a command.
+pub fn law_command_is_whole(command: &Command)
+    ensures { AreWhole (fields_of command.now) }
+{
+    law_are_whole(&fields_of(command));
+}
+
+/// An id has 64 bits.
+pub fn law_id_is_whole(made: Option<u64>)
+    ensures { IfSome made (λ id. id < 2 ^ 64) }
+{
+    if let Some(id) = made {
+        let _ = id;
+    }
+}
+
+/// Puts the id of what was made, where there is one.
+pub fn put_id<'a>(
+    members: Vec<(&'a str, Part<'a>)>,
+    made: Option<u64>,
+) -> Result<Vec<(&'a str, Part<'a>)>, AllocError>
+    ensures { IfOk result (λ ms. members_of ms.items
+        ≡ with_data (codes "id") (id_data made) (members_of members.entry.items)) }
+{
+    match made {
+        Some(id) => put_member(members, "id", Part::Number(id)),
+        None => Ok(members),
+    }
+}
+
+#[tactic(auto, using(crate::proofs::Placing::put_lemmas))]
+fn put_field<'a>(
+    members: Vec<(&'a str, Part<'a>)>,
+    key: &'a str,
+    field: &'a FieldRef<'a>,
+) -> Result<Vec<(&'a str, Part<'a>)>, AllocError>
+    ensures { IfOk result (λ ms. members_of ms.items
+        ≡ with_data key.now (reference_data field.now) (members_of members.entry.items)) }
+{
+    match part_of(field) {
+        Some(part) => put_member(members, key, part),
+        None => Ok(members),
     }
 }
 
@@ -105,25 +193,24 @@ fn is_nothing(field: &FieldRef<'_>) -> bool
 /// Puts the fields that are seen under their keys, which come in the same order. The only error is
 /// out of memory.
 #[tactic(auto, using(crate::proofs::Seen::seen_lemmas))]
-pub fn put_fields(
-    alloc: Global,
-    members: &mut Map<String, Value>,
-    keyed: &[(&'static str, FieldKind)],
-    fields: &[FieldRef<'_>],
-) -> Result<(), AllocError>
-    ensures { OnOk result (members_view members.new.entries
+pub fn put_fields<'a>(
+    members: Vec<(&'a str, Part<'a>)>,
+    keyed: &'a [(&'static str, FieldKind)],
+    fields: &'a [FieldRef<'a>],
+) -> Result<Vec<(&'a str, Part<'a>)>, AllocError>
+    ensures { IfOk result (λ ms. members_of ms.items
         ≡ with_fields (seen_all fields.now) (map (λ f. (f.0.now, f.1)) keyed.now)
-        (members_view members.old.entries)) }
+        (members_of members.entry.items)) }
 {
     let [field, others @ ..] = fields else {
-        return Ok(());
+        return Ok(members);
     };
     if is_nothing(field) {
-        return put_fields(alloc, members, keyed, others);
+        return put_fields(members, keyed, others);
     }
     let [(key, _), rest @ ..] = keyed else {
-        return Ok(());
+        return Ok(members);
     };
-    put_field(alloc, members, key, field)?;
-    put_fields(alloc, members, rest, others)
+    let members = put_field(members, key, field)?;
+    put_fields(members, rest, others)
 }

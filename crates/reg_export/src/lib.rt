@@ -7,6 +7,7 @@ mod fields;
 mod laws;
 mod line;
 mod listing;
+mod members;
 mod values;
 
 pub use laws::{law_line_reads_back, law_listed_is_told, law_request_reads_back};

@@ -1,180 +1,177 @@
-// Parts of commands as JSON values.
-ghost use Rattle.std.specs.Prelude.{◌≡◌, ◌++◌, ◌∷◌, [], IfOk, OnOk, codes, map};
-ghost use Rattle.serde_json.specs.Data.{array, string};
-ghost use Rattle.serde_json.specs.View.{view};
-ghost use Rattle.reg_json.specs.AdminReplies.{scope_word};
-ghost use Rattle.reg_json.specs.Replies.{kind_word, strings};
-ghost use Rattle.reg_export.specs.Fields.{def_word, entity_text, inherit_word, moment_data};
-ghost use Rattle.reg_export.specs.Fields.{owner_words, row_data, row_items, value_data, word_if};
+// Parts of commands, written as JSON.
+ghost use Rattle.std.specs.Prelude.{◌≡◌, ◌++◌, ◌∷◌, [], OnOk};
+ghost use Rattle.json.specs.Token.{key as json_key, string};
+ghost use Rattle.json.specs.Tree.{json_tokens};
+ghost use Rattle.serde_json.specs.Data.{array};
+ghost use Rattle.serde_json.specs.Written.{outline};
+ghost use Rattle.reg_base.specs.MomentText.{text_of};
+ghost use Rattle.reg_json.specs.Replies.{strings};
+ghost use Rattle.reg_export.specs.Fields.{entity_text, owner_words, row_data, row_items};
+ghost use Rattle.reg_export.specs.Fields.{value_data};
+ghost use Rattle.reg_base.specs.declared.entity.Entity.TheVariants as an_entity;
+ghost use Rattle.reg_export.specs.Members.{part_data, word_tokens};
 
+use crate::members::Part;
+use json::Writer;
 use reg_base::{Entity, Moment, Name};
-use reg_terms::{DefKind, InheritKind, LoadRow, Owners, Scope, SetOp, Value as GivenValue};
-use serde_json::{Map, Value, push, put};
+use reg_terms::{LoadRow, Owners, Value as GivenValue};
 use std::alloc::{AllocError, Global};
 
-fn group_value(alloc: Global, name: &Name) -> Result<Value, AllocError>
-    ensures { IfOk result (λ v. view v ≡ string (codes "g:gsa/" ++ name.now)) }
+fn put_group(alloc: Global, out: &mut Writer, name: &Name) -> Result<(), AllocError>
+    ensures ok { OnOk result (out.new.tokens
+        ≡ out.old.tokens ++ string (entity_text (an_entity.Group name.now)) ∷ []) }
+    ensures before { out.new.before ≡ out.old.before }
 {
     let mut text = String::from_str(alloc, "g:gsa/")?;
     text.push_str(name.as_str())?;
-    Ok(Value::from(text))
+    out.string(text.as_str())
 }
 
-/// The text that names an entity. The only error is out of memory, here and in what follows.
-pub fn entity_value(alloc: Global, entity: &Entity) -> Result<Value, AllocError>
-    ensures { IfOk result (λ v. view v ≡ string (entity_text entity.now)) }
+fn system_text() -> &'static str
+    ensures { result.now ≡ entity_text an_entity.System }
+{
+    "g:isa/GrouperSystem"
+}
+
+fn everyone_text() -> &'static str
+    ensures { result.now ≡ entity_text an_entity.Everyone }
+{
+    "g:isa/GrouperAll"
+}
+
+/// Writes the text that names an entity. The only error is out of memory, here and in what follows.
+fn put_entity(alloc: Global, out: &mut Writer, entity: &Entity) -> Result<(), AllocError>
+    ensures ok { OnOk result (out.new.tokens
+        ≡ out.old.tokens ++ string (entity_text entity.now) ∷ []) }
+    ensures before { out.new.before ≡ out.old.before }
 {
     match entity {
-        Entity::Person(text) => Value::try_from_str(alloc, text.as_str()),
-        Entity::Group(name) => group_value(alloc, name),
-        Entity::System => Value::try_from_str(alloc, "g:isa/GrouperSystem"),
-        Entity::Everyone => Value::try_from_str(alloc, "g:isa/GrouperAll"),
+        Entity::Person(text) => out.string(text.as_str()),
+        Entity::Group(name) => put_group(alloc, out, name),
+        Entity::System => out.string(system_text()),
+        Entity::Everyone => out.string(everyone_text()),
     }
 }
 
-/// The text of a moment.
-pub fn moment_value(alloc: Global, moment: Moment) -> Result<Value, AllocError>
-    ensures { IfOk result (λ v. view v ≡ moment_data moment) }
+/// Writes the text of a moment.
+fn put_moment(out: &mut Writer, moment: Moment) -> Result<(), AllocError>
+    ensures ok { OnOk result (out.new.tokens ≡ out.old.tokens ++ string (text_of moment) ∷ []) }
+    ensures before { out.new.before ≡ out.old.before }
 {
     let text = moment.text();
     match str::from_utf8(&text) {
-        Ok(text) => Value::try_from_str(alloc, text),
+        Ok(text) => out.string(text),
         // the text of a moment is ASCII
         Err(_) => unreachable!(),
     }
 }
 
-/// The word of how a composite is made.
-pub fn kind_word(kind: SetOp) -> &'static str
-    ensures { result.now ≡ kind_word kind }
+/// Writes a word, where it holds.
+fn put_word(out: &mut Writer, word: &str, holds: bool) -> Result<(), AllocError>
+    ensures ok { OnOk result (out.new.tokens ≡ out.old.tokens ++ word_tokens holds word.now) }
+    ensures before { out.new.before ≡ out.old.before }
 {
-    match kind {
-        SetOp::Intersection => "intersection",
-        SetOp::Complement => "complement",
-    }
+    if holds { out.string(word) } else { Ok(()) }
 }
 
-/// The word of the kind of objects that an inherit is for.
-pub fn inherit_word(kind: InheritKind) -> &'static str
-    ensures { result.now ≡ inherit_word kind }
+/// Writes the words of kinds of owner.
+#[tactic(auto, using(crate::proofs::Whole::owners_written))]
+fn put_owners(out: &mut Writer, owners: Owners) -> Result<(), AllocError>
+    ensures ok { OnOk result (out.new.tokens
+        ≡ out.old.tokens ++ json_tokens (outline (array (strings (owner_words owners))))) }
+    ensures before { out.new.before ≡ out.old.before }
 {
-    match kind {
-        InheritKind::Folder => "folder",
-        InheritKind::Group => "group",
-        InheritKind::Definition => "definition",
-    }
+    out.begin_array()?;
+    put_word(out, "folder", owners.folder)?;
+    put_word(out, "group", owners.group)?;
+    put_word(out, "subject", owners.subject)?;
+    out.end_array()
 }
 
-/// The word of how far an inherit or a rule reaches.
-pub fn scope_word(scope: Scope) -> &'static str
-    ensures { result.now ≡ scope_word scope }
-{
-    match scope {
-        Scope::One => "ONE",
-        Scope::Sub => "SUB",
-    }
-}
-
-/// The word of the kind of values that attributes take.
-pub fn def_word(kind: DefKind) -> &'static str
-    ensures { result.now ≡ def_word kind }
-{
-    match kind {
-        DefKind::Marker => "marker",
-        DefKind::Integer => "integer",
-        DefKind::Text => "text",
-        DefKind::Timestamp => "timestamp",
-    }
-}
-
-/// Puts a text behind the others.
-#[tactic(auto, using(crate::proofs::Pushing::text_more))]
-fn push_text(alloc: Global, texts: &mut Vec<Value>, text: &str) -> Result<(), AllocError>
-    ensures { OnOk result (map view texts.new.items
-        ≡ map view texts.old.items ++ string text.now ∷ []) }
-{
-    let value = Value::try_from_str(alloc, text)?;
-    push(texts, value)?;
-    Ok(())
-}
-
-/// Puts a word behind the others, where it holds.
-#[tactic(auto, using(crate::proofs::Pushing::none_more))]
-fn push_word(
-    alloc: Global,
-    words: &mut Vec<Value>,
-    word: &str,
-    holds: bool,
-) -> Result<(), AllocError>
-    ensures { OnOk result (map view words.new.items
-        ≡ map view words.old.items ++ map string (word_if holds word.now)) }
-{
-    if holds {
-        push_text(alloc, words, word)?;
-    }
-    Ok(())
-}
-
-/// The words of kinds of owner.
-pub fn owners_value(alloc: Global, owners: Owners) -> Result<Value, AllocError>
-    ensures { IfOk result (λ v. view v ≡ array (strings (owner_words owners))) }
-{
-    let mut words = Vec::new(alloc);
-    push_word(alloc, &mut words, "folder", owners.folder)?;
-    push_word(alloc, &mut words, "group", owners.group)?;
-    push_word(alloc, &mut words, "subject", owners.subject)?;
-    Ok(Value::from(words))
-}
-
-/// A value of an assignment.
-pub fn given_value(alloc: Global, value: &GivenValue) -> Result<Value, AllocError>
-    ensures { IfOk result (λ v. view v ≡ value_data value.now) }
+/// Writes a value of an assignment.
+#[tactic(auto, using(crate::proofs::Whole::integer_text))]
+fn put_value(out: &mut Writer, value: &GivenValue) -> Result<(), AllocError>
+    ensures ok { OnOk result (out.new.tokens
+        ≡ out.old.tokens ++ json_tokens (outline (value_data value.now))) }
+    ensures before { out.new.before ≡ out.old.before }
 {
     match value {
-        GivenValue::Int(number) => Ok(Value::from(*number)),
-        GivenValue::Text(text) => Value::try_from_str(alloc, text.as_str()),
+        GivenValue::Int(number) => out.i64(*number),
+        GivenValue::Text(text) => out.string(text.as_str()),
     }
 }
 
-/// Names, in order.
-pub fn names_value(alloc: Global, names: &[Name]) -> Result<Value, AllocError>
-    ensures { IfOk result (λ v. view v ≡ array (strings names.now)) }
+/// Writes names, in order.
+fn put_names(out: &mut Writer, names: &[Name]) -> Result<(), AllocError>
+    ensures ok { OnOk result (out.new.tokens
+        ≡ out.old.tokens ++ json_tokens (outline (array (strings names.now)))) }
+    ensures before { out.new.before ≡ out.old.before }
 {
-    let mut values = Vec::new(alloc);
+    out.begin_array()?;
     for name in names {
-        push_text(alloc, &mut values, name.as_str())?;
+        out.string(name.as_str())?;
     }
-    Ok(Value::from(values))
+    out.end_array()
 }
 
-fn row_value(alloc: Global, row: &LoadRow) -> Result<Value, AllocError>
-    ensures { IfOk result (λ v. view v ≡ row_data row.now) }
+fn put_text(out: &mut Writer, key: &str, text: &str) -> Result<(), AllocError>
+    ensures ok { OnOk result (out.new.tokens
+        ≡ out.old.tokens ++ json_key key.now ∷ string text.now ∷ []) }
+    ensures before { out.new.before ≡ out.old.before }
 {
-    let mut members = Map::new(alloc);
-    let group = Value::try_from_str(alloc, row.group.as_str())?;
-    put(&mut members, alloc, "group", group)?;
-    let person = Value::try_from_str(alloc, row.person.as_str())?;
-    put(&mut members, alloc, "person", person)?;
-    Ok(Value::from(members))
+    out.key(key)?;
+    out.string(text)
 }
 
-#[tactic(auto, using(crate::proofs::Pushing::row_more))]
-fn push_row(alloc: Global, values: &mut Vec<Value>, row: &LoadRow) -> Result<(), AllocError>
-    ensures { OnOk result (map view values.new.items
-        ≡ map view values.old.items ++ row_data row.now ∷ []) }
+#[tactic(auto, using(crate::proofs::Whole::row_written))]
+fn put_texts(out: &mut Writer, group: &str, person: &str) -> Result<(), AllocError>
+    ensures ok { OnOk result (out.new.tokens ≡ out.old.tokens
+        ++ json_tokens (outline (row_data (record { group = group.now; person = person.now })))) }
+    ensures before { out.new.before ≡ out.old.before }
 {
-    let value = row_value(alloc, row)?;
-    push(values, value)?;
+    out.begin_object()?;
+    put_text(out, "group", group)?;
+    put_text(out, "person", person)?;
+    out.end_object()?;
     Ok(())
 }
 
-/// Rows of a load, in order.
-pub fn rows_value(alloc: Global, rows: &[LoadRow]) -> Result<Value, AllocError>
-    ensures { IfOk result (λ v. view v ≡ array (row_items rows.now)) }
+fn put_row(out: &mut Writer, row: &LoadRow) -> Result<(), AllocError>
+    ensures ok { OnOk result (out.new.tokens
+        ≡ out.old.tokens ++ json_tokens (outline (row_data row.now))) }
+    ensures before { out.new.before ≡ out.old.before }
 {
-    let mut values = Vec::new(alloc);
+    put_texts(out, row.group.as_str(), row.person.as_str())
+}
+
+/// Writes rows of a load, in order.
+fn put_rows(out: &mut Writer, rows: &[LoadRow]) -> Result<(), AllocError>
+    ensures ok { OnOk result (out.new.tokens
+        ≡ out.old.tokens ++ json_tokens (outline (array (row_items rows.now)))) }
+    ensures before { out.new.before ≡ out.old.before }
+{
+    out.begin_array()?;
     for row in rows {
-        push_row(alloc, &mut values, row)?;
+        put_row(out, row)?;
     }
-    Ok(Value::from(values))
+    out.end_array()
+}
+
+/// Writes a part of a line.
+pub fn put_part(alloc: Global, out: &mut Writer, part: &Part<'_>) -> Result<(), AllocError>
+    ensures ok { OnOk result (out.new.tokens
+        ≡ out.old.tokens ++ json_tokens (outline (part_data part.now))) }
+    ensures before { out.new.before ≡ out.old.before }
+{
+    match part {
+        Part::Text(text) => out.string(text),
+        Part::Entity(entity) => put_entity(alloc, out, entity),
+        Part::Moment(moment) => put_moment(out, **moment),
+        Part::Owners(owners) => put_owners(out, *owners),
+        Part::Flag(flag) => out.boolean(*flag),
+        Part::Value(value) => put_value(out, value),
+        Part::Number(number) => out.u64(*number),
+        Part::Names(names) => put_names(out, names),
+        Part::Rows(rows) => put_rows(out, rows),
+    }
 }

@@ -1,5 +1,5 @@
 use Rattle.reg_json.proofs.Moments.{text_utf8}
-use Rattle.reg_export.proofs.values.moment_value.Goals as goal
+use Rattle.reg_export.proofs.values.put_moment.Goals as goal
 
 -- the text of a moment is UTF-8
 pub unreachable-requires : goal.unreachable-requires
