@@ -107,7 +107,7 @@ def to_and_fro(count, one, other):
 # Each shape: which part of the size it takes, what is made ready, and what is measured.
 SHAPES = {
     "groups-in-a-folder": (1, lambda n: [], groups),
-    "folders-in-a-folder": (1, lambda n: [], lambda n: [folder("f%06d" % k) for k in range(n)]),
+    "folders-in-a-folder": (1 / 8, lambda n: [], lambda n: [folder("f%06d" % k) for k in range(n)]),
     "persons": (1, lambda n: [], persons),
     "groups-come-and-go": (1, lambda n: [], lambda n: to_and_fro(
         n, {"op": "group.add", "group": "g"}, {"op": "group.delete", "group": "g"})),
@@ -122,8 +122,8 @@ SHAPES = {
     "group-moved": (1, lambda n: [folder("x"), folder("y"), *groups(n, "x:"), {"op": "group.add", "group": "x:a"}],
                     lambda n: to_and_fro(n, {"op": "group.move", "group": "x:a", "to": "y"},
                                          {"op": "group.move", "group": "y:a", "to": "x"})),
-    "definitions": (1, lambda n: [], lambda n: [definition("d%06d" % k) for k in range(n)]),
-    "attribute-names": (1, lambda n: ATTRIBUTE, lambda n: [
+    "definitions": (1 / 8, lambda n: [], lambda n: [definition("d%06d" % k) for k in range(n)]),
+    "attribute-names": (1 / 8, lambda n: ATTRIBUTE, lambda n: [
         {"op": "attr.add", "attribute": "a%06d" % k, "definition": "d"} for k in range(n)]),
     "members-of-one-group": (1, lambda n: [*groups(1), *persons(n)], lambda n: [
         joins(group(0), person(k)) for k in range(n)]),
@@ -167,7 +167,7 @@ SHAPES = {
         grants(group(k), person(0)) for k in range(n)]),
     "inherits-on-a-folder": (1 / 80, lambda n: [folder("f"), *groups(1_000, "f:"), *persons(n)], lambda n: [
         inherits("f", person(k)) for k in range(n)]),
-    "inherits-on-folders": (1, lambda n: [*persons(1), *[folder("f%06d" % k) for k in range(n)],
+    "inherits-on-folders": (1 / 8, lambda n: [*persons(1), *[folder("f%06d" % k) for k in range(n)],
                                           *[{"op": "group.add", "group": "f%06d:g" % k} for k in range(n)]],
                             lambda n: [inherits("f%06d" % k, person(0)) for k in range(n)]),
     "caller-with-many-grants": (1, lambda n: [*groups(n), *persons(1), *[grants(group(k), person(0), "UPDATE")
