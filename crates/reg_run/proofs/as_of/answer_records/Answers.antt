@@ -16,7 +16,7 @@ returns-in-Ok-answer_input g c held last opens =
     opens c.in-Ok-answer_input.ensures.told c.in-Ok-answer_input.ensures.flushed
 
 -- answering them stopped
-pub returns-in-Err-answer_input : goal.returns-in-Err-answer_input
-returns-in-Err-answer_input g c held last opens =
+pub returns : goal.returns
+returns g c held last opens =
     rw c.end_of_stop.ensures (stopped_then last c.in-Ok.earlier c.args.at held c.args.records (input_of g.S.Source c.args.input.now) (input_of g.S.Source c.answer_input.new.input) (out_of g.K.Sink c.args.out.now) (out_of g.K.Sink c.answer_input.new.out)
     c.in-Err-answer_input.stop c.in-Ok.ensures.ok opens c.in-Err-answer_input.ensures.stopped c.in-Err-answer_input.ensures.input c.in-Err-answer_input.ensures.output)
