@@ -19,7 +19,7 @@ use Rattle.reg_priv.specs.Touched.{is_listed, place_below}
 use Rattle.reg_priv.proofs.Homes.{home_in, home_placed, by_folders, folder_home}
 use Rattle.reg_priv.proofs.Untouched.{one_object, home_in_scope, by_home}
 
-or_true : (b : Bool) → (b || true) ≡ true
+pub or_true : (b : Bool) → (b || true) ≡ true
 or_true true = refl
 or_true false = refl
 
@@ -125,12 +125,12 @@ module _ (d : ℕ) (f : Lists) (home : List ℕ) (names : ChildNames) (found : L
 
 -- ---- from a folder down
 
-lies_itself : (n d : ℕ) (fs : List FolderRow) → lies_in n d d fs ≡ true
+pub lies_itself : (n d : ℕ) (fs : List FolderRow) → lies_in n d d fs ≡ true
 unfolding lies_in
 lies_itself zero d fs = eq-eqb d d refl
 lies_itself (suc n) d fs = rw (eq-eqb d d refl) refl
 
-up_one : (n h p d : ℕ) (fs : List FolderRow) → parent_of h fs ≡ Some p → lies_in n p d fs ≡ true → lies_in (suc n) h d fs ≡ true
+pub up_one : (n h p d : ℕ) (fs : List FolderRow) → parent_of h fs ≡ Some p → lies_in n p d fs ≡ true → lies_in (suc n) h d fs ≡ true
 unfolding lies_in
 up_one n h p d fs e k = rw (e, k) (or_true (h == d))
 

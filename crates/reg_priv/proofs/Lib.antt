@@ -7,4 +7,5 @@ pub mod Gathering
 pub mod Homes
 pub mod Untouched
 pub mod Below
+pub mod Within
 pub mod Worked

@@ -1,5 +1,5 @@
 -- Which objects' grants, direct and inherited, an event may change.
-use Rattle.std.specs.Prelude.{◌≡◌, ◌||◌, ℕ, zero, suc, List, Bool, false, Option, None, Some}
+use Rattle.std.specs.Prelude.{◌≡◌, ◌||◌, ℕ, zero, suc, List, Bool, true, false, Option, None, Some}
 use Rattle.std.specs.List.{list_any}
 use Rattle.reg_terms.specs.declared.event.Event.{Event}
 use Rattle.reg_terms.specs.declared.event.Event.TheVariants.{FolderMade, FolderMoved, FolderGone}
@@ -47,6 +47,11 @@ abbrev pub place_below : ℕ → ℕ → Option Placed → Lists → Bool
 place_below zero d place f = false
 place_below (suc n) d None f = false
 place_below (suc n) d (Some p) f = lies_in n p.folder d f.folders
+
+-- each object listed after was listed before, or passes a test
+abbrev pub AddsOnly : (Object → Bool) → List Object → List Object → Type 0
+AddsOnly test before after =
+    (o : Object) → is_listed o after ≡ true → (is_listed o before || test o) ≡ true
 
 -- all objects on which there are other grants after than before, direct or inherited, are among
 -- these

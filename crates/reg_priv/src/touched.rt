@@ -1,5 +1,5 @@
 // Which objects' grants an event may change.
-ghost use Rattle.std.specs.Prelude.{◌≡◌, ◌≤◌, List, ℕ, true, false, IfOk, OnOk, Some};
+ghost use Rattle.std.specs.Prelude.{◌≡◌, ◌≤◌, ◌||◌, List, ℕ, true, false, IfOk, OnOk, Some};
 ghost use Rattle.std.specs.List.{list_any};
 ghost use Rattle.std.specs.Str.{bytes_eq};
 ghost use Rattle.reg_terms.specs.declared.event.Event.{Event};
@@ -11,7 +11,7 @@ ghost use Rattle.reg_facts.specs.Naming.{child, place_of, placed};
 ghost use Rattle.reg_facts.specs.Suiting.{Suits};
 ghost use Rattle.reg_names.specs.Scopes.{in_scope};
 ghost use Rattle.reg_priv.specs.Grants.{grants, reaches};
-ghost use Rattle.reg_priv.specs.Touched.{is_listed, place_below, touched};
+ghost use Rattle.reg_priv.specs.Touched.{AddsOnly, is_listed, place_below, touched};
 
 use crate::climbing::MOST_LEVELS;
 use reg_base::FolderId;
@@ -31,8 +31,10 @@ pub fn law_untouched(facts: &Facts)
 
 /// One object.
 fn only(alloc: Global, object: Object) -> Result<Vec<Object>, AllocError>
-    ensures { IfOk result (λ objects. (o : Object) → same_object object o ≡ true
+    ensures each { IfOk result (λ objects. (o : Object) → same_object object o ≡ true
         → is_listed o objects.items ≡ true) }
+    ensures only { IfOk result (λ objects. (o : Object) → is_listed o objects.items ≡ true
+        → same_object object o ≡ true) }
 {
     let mut objects = Vec::new(alloc);
     objects.push(object)?;
@@ -51,7 +53,10 @@ fn put_named(
     ensures named { OnOk result ((e : List ℕ) (o : Object)
         → list_any (λ t. bytes_eq t e) extensions.now ≡ true → child folder e facts.now ≡ Some o
         → is_listed o found.new.items ≡ true) }
+    ensures only { OnOk result (AddsOnly (λ o. in_scope folder One o facts.now) found.old.items
+        found.new.items) }
 {
+    facts.law_sound();
     let mut pieces = extensions.pieces();
     while let Some(extension) = pieces.next() {
         if let Some(object) = facts.child(folder, extension) {
@@ -80,6 +85,8 @@ fn put_all_named(
     ensures attributes { OnOk result ((e : List ℕ) (o : Object)
         → list_any (λ t. bytes_eq t e) names.now.attributes ≡ true
         → child folder e facts.now ≡ Some o → is_listed o found.new.items ≡ true) }
+    ensures only { OnOk result (AddsOnly (λ o. in_scope folder One o facts.now) found.old.items
+        found.new.items) }
 {
     put_named(facts, folder, &names.folders, found)?;
     put_named(facts, folder, &names.groups, found)?;
@@ -89,8 +96,10 @@ fn put_all_named(
 
 /// The objects that stand directly in a folder.
 fn objects_in(alloc: Global, facts: &Facts, folder: FolderId) -> Result<Vec<Object>, AllocError>
-    ensures { IfOk result (λ objects. (o : Object) → in_scope folder One o facts.now ≡ true
+    ensures each { IfOk result (λ objects. (o : Object) → in_scope folder One o facts.now ≡ true
         → is_listed o objects.items ≡ true) }
+    ensures only { IfOk result (λ objects. (o : Object) → is_listed o objects.items ≡ true
+        → in_scope folder One o facts.now ≡ true) }
 {
     facts.law_sound();
     law_by_bytes();
@@ -114,10 +123,14 @@ fn put_below(
     ensures below { OnOk result ((o : Object)
         → place_below levels folder (place_of o (placed facts.now)) facts.now ≡ true
         → is_listed o found.new.items ≡ true) }
+    ensures only { OnOk result (AddsOnly
+        (λ o. place_below levels folder (place_of o (placed facts.now)) facts.now)
+        found.old.items found.new.items) }
 {
     if levels == 0 {
         return Ok(());
     }
+    facts.law_sound();
     let objects = objects_in(alloc, facts, folder)?;
     for object in &objects {
         found.push(*object)?;
@@ -130,8 +143,10 @@ fn put_below(
 
 /// What stands below a folder.
 fn objects_below(alloc: Global, facts: &Facts, folder: FolderId) -> Result<Vec<Object>, AllocError>
-    ensures { IfOk result (λ objects. (o : Object) → in_scope folder Sub o facts.now ≡ true
+    ensures each { IfOk result (λ objects. (o : Object) → in_scope folder Sub o facts.now ≡ true
         → is_listed o objects.items ≡ true) }
+    ensures only { IfOk result (λ objects. (o : Object) → is_listed o objects.items ≡ true
+        → in_scope folder Sub o facts.now ≡ true) }
 {
     let mut found = Vec::new(alloc);
     put_below(alloc, facts, MOST_LEVELS + 1, folder, &mut found)?;
@@ -148,6 +163,8 @@ fn folder_and_below(
         → same_object (Object.Folder folder) o ≡ true → is_listed o objects.items ≡ true) }
     ensures below { IfOk result (λ objects. (o : Object) → in_scope folder Sub o facts.now ≡ true
         → is_listed o objects.items ≡ true) }
+    ensures only { IfOk result (λ objects. (o : Object) → is_listed o objects.items ≡ true
+        → (same_object (Object.Folder folder) o || in_scope folder Sub o facts.now) ≡ true) }
 {
     let mut objects = objects_below(alloc, facts, folder)?;
     objects.push(Object::Folder(folder))?;
@@ -156,9 +173,11 @@ fn folder_and_below(
 
 /// What stands in the scope of an inherit.
 fn in_its_scope(alloc: Global, facts: &Facts, row: &InheritRow) -> Result<Vec<Object>, AllocError>
-    ensures { IfOk result (λ objects. (o : Object)
+    ensures each { IfOk result (λ objects. (o : Object)
         → in_scope row.now.folder row.now.scope o facts.now ≡ true
         → is_listed o objects.items ≡ true) }
+    ensures only { IfOk result (λ objects. (o : Object) → is_listed o objects.items ≡ true
+        → in_scope row.now.folder row.now.scope o facts.now ≡ true) }
 {
     match row.scope {
         Scope::One => objects_in(alloc, facts, row.folder),
@@ -168,8 +187,12 @@ fn in_its_scope(alloc: Global, facts: &Facts, row: &InheritRow) -> Result<Vec<Ob
 
 /// Those of a kind.
 fn of_kind(alloc: Global, objects: &[Object], kind: InheritKind) -> Result<Vec<Object>, AllocError>
-    ensures { IfOk result (λ kept. (o : Object) → is_of_kind kind o ≡ true
+    ensures each { IfOk result (λ kept. (o : Object) → is_of_kind kind o ≡ true
         → is_listed o objects.now ≡ true → is_listed o kept.items ≡ true) }
+    ensures kind { IfOk result (λ kept. (o : Object) → is_listed o kept.items ≡ true
+        → is_of_kind kind o ≡ true) }
+    ensures among { IfOk result (λ kept. (o : Object) → is_listed o kept.items ≡ true
+        → is_listed o objects.now ≡ true) }
 {
     let mut kept = Vec::new(alloc);
     for object in objects {
@@ -182,24 +205,29 @@ fn of_kind(alloc: Global, objects: &[Object], kind: InheritKind) -> Result<Vec<O
 
 /// What an inherit reaches.
 fn reached_by(alloc: Global, facts: &Facts, row: &InheritRow) -> Result<Vec<Object>, AllocError>
-    ensures { IfOk result (λ objects. (o : Object) → reaches o facts.now row.now ≡ true
+    ensures each { IfOk result (λ objects. (o : Object) → reaches o facts.now row.now ≡ true
         → is_listed o objects.items ≡ true) }
+    ensures only { IfOk result (λ objects. (o : Object) → is_listed o objects.items ≡ true
+        → reaches o facts.now row.now ≡ true) }
 {
     let objects = in_its_scope(alloc, facts, row)?;
     let kept = of_kind(alloc, &objects, row.kind)?;
     Ok(kept)
 }
 
-/// The objects whose grants, direct or inherited, an event may change, at the facts before it; each
-/// is listed at least once. An inherit costs what stands in its folder, or below it, and a folder
-/// that is moved what stands below it; all else costs nothing. The only error is out of memory.
+/// The objects whose grants, direct or inherited, an event may change, at the facts before it, and
+/// no others; each is listed at least once. An inherit costs what stands in its folder, or below
+/// it, and a folder that is moved what stands below it; all else costs nothing. The only error is
+/// out of memory.
 pub fn touched_objects(
     alloc: Global,
     facts: &Facts,
     event: &Event,
 ) -> Result<Vec<Object>, AllocError>
-    ensures { IfOk result (λ objects. (o : Object) → touched event.now facts.now o ≡ true
+    ensures each { IfOk result (λ objects. (o : Object) → touched event.now facts.now o ≡ true
         → is_listed o objects.items ≡ true) }
+    ensures only { IfOk result (λ objects. (o : Object) → is_listed o objects.items ≡ true
+        → touched event.now facts.now o ≡ true) }
 {
     match event {
         Event::FolderMade { row } => only(alloc, Object::Folder(row.id)),

@@ -5,4 +5,8 @@ use Rattle.reg_priv.specs.Touched.{is_listed}
 use Rattle.reg_priv.proofs.touched.of_kind.Given as goal
 
 abbrev pub invariant-loop-object : goal.invariant-loop-object
-invariant-loop-object l = (o : Object) → is_of_kind l.kind o ≡ true → is_listed o (take l.object-index l.objects) ≡ true → is_listed o l.kept.items ≡ true
+invariant-loop-object l = record {
+  each : (o : Object) → is_of_kind l.kind o ≡ true → is_listed o (take l.object-index l.objects) ≡ true → is_listed o l.kept.items ≡ true;
+  kind : (o : Object) → is_listed o l.kept.items ≡ true → is_of_kind l.kind o ≡ true;
+  among : (o : Object) → is_listed o l.kept.items ≡ true → is_listed o (take l.object-index l.objects) ≡ true;
+}
