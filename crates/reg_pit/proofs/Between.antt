@@ -72,7 +72,7 @@ module _ {K : Type 0} (R : K → K → Ordering) (o : IsTotalOrder R) where
   pub key_decides : (from to k : K) (end : ℕ) → end ≤ never → range_contains (place_cmp R) (Included (from, 0)) (Included (to, never)) (k, end) ≡ is_between R from to k
   key_decides from to k end h = rw (o.antisymm k to) (decides (R from k) (R to k) end h)
 
-  alike_between : (from to k j : K) → R k j ≡ Equal → is_between R from to j ≡ is_between R from to k
+  pub alike_between : (from to k j : K) → R k j ≡ Equal → is_between R from to j ≡ is_between R from to k
   alike_between from to k j h = rw (alike_right o k j from h, o.congr k j to h) refl
 
   pub each_on : (from to k : K) (t n : ℕ) (es : List ((K × ℕ) × ℕ)) → t < never → RunsFrom n (runs_of R k es)
@@ -95,7 +95,7 @@ module _ {K : Type 0} (R : K → K → Ordering) (o : IsTotalOrder R) where
   weaken n m [] h r = tt
   weaken n m (run ∷ runs) h r = (omega (arith, r.0), r.1, r.2, r.3)
 
-  tail_runs : (n : ℕ) (k : K) (x : (K × ℕ) × ℕ) (es : List ((K × ℕ) × ℕ)) → RunsFrom n (runs_of R k (x ∷ es)) → RunsFrom n (runs_of R k es)
+  pub tail_runs : (n : ℕ) (k : K) (x : (K × ℕ) × ℕ) (es : List ((K × ℕ) × ℕ)) → RunsFrom n (runs_of R k (x ∷ es)) → RunsFrom n (runs_of R k es)
   tail_runs n k x es r = elim (answer (R k x.0.0)) [
     | less a ↦ rw a at r
     | greater a ↦ rw a at r

@@ -4,6 +4,8 @@ pub mod Places
 pub mod Looking
 pub mod Alone
 pub mod Between
+pub mod Stepping
+pub mod Walking
 pub mod Clearing
 pub mod Notes
 pub mod Pairs

@@ -1,8 +1,9 @@
 -- How intervals are kept: a start for each key and end.
 use Rattle.std.specs.Prelude.{◌≡◌, ◌≤◌, ◌<◌, ◌==◌, ◌&&◌, ◌++◌, ⊤, Bool, true, nat_le, ℕ, suc, List}
-use Rattle.std.specs.Prelude.{[], ◌∷◌, map, Option, Some, None, if◌then◌else◌}
-use Rattle.std.specs.Ordering.{nat_cmp, ordering_then, is_eq, is_le, eq_by_cmp}
+use Rattle.std.specs.Prelude.{[], ◌∷◌, length, map, Option, Some, None, if◌then◌else◌}
+use Rattle.std.specs.Ordering.{nat_cmp, ordering_then, is_eq, is_le, is_lt, eq_by_cmp}
 use Rattle.std.specs.declared.cmp.Ordering.{Ordering}
+use Rattle.std.specs.declared.cmp.Ordering.TheVariants.{Less}
 use Rattle.std.specs.List.{list_any}
 use Rattle.std.specs.List.Sorted.{IsStrictlySortedBy}
 use Rattle.std.specs.Map.{keys_of}
@@ -65,6 +66,17 @@ pub record Switched {K : Type 0} (R : K → K → Ordering) (key : K) (at : ℕ)
 -- whether a key is one of those from one to another
 abbrev pub is_between : {K : Type 0} → (K → K → Ordering) → K → K → K → Bool
 is_between R from to k = is_le (R from k) && is_le (R k to)
+
+-- whether a key is behind another one, and no later than a last
+abbrev pub is_behind : {K : Type 0} → (K → K → Ordering) → K → K → K → Bool
+is_behind R key to k = is_lt (R key k) && is_le (R k to)
+
+-- of the keys that pass a test, the first that has an interval
+pub record IsFirstKey {K : Type 0} (R : K → K → Ordering) (es : List ((K × ℕ) × ℕ))
+    (test : K → Bool) (key : K) : Type 0 where
+  pub passes : test key ≡ true
+  pub has : 0 < length (spans_of R es key)
+  pub first : (k : K) → test k ≡ true → R k key ≡ Less → spans_of R es k ≡ []
 
 -- keys that tie are one
 abbrev pub TiesAreOne : {K : Type 0} → (K → K → Ordering) → Type 0

@@ -8,13 +8,14 @@ ghost use Rattle.std.specs.List.Sorted.{IsStrictlySortedBy};
 ghost use Rattle.reg_pit.specs.Spans.{covers, AreSpans, AreSpansOf, NoLater, spans_until};
 ghost use Rattle.reg_pit.specs.Spans.{looked_at};
 ghost use Rattle.reg_pit.specs.Runs.{AreRuns, EndedBy, Switched, is_between, spans_of, TiesAreOne};
-ghost use Rattle.reg_pit.specs.Runs.{AreAllOn, keyed_spans};
+ghost use Rattle.reg_pit.specs.Runs.{AreAllOn, IsFirstKey, is_behind, keyed_spans};
 
 use crate::ends::End;
 use reg_base::{Moment, Steps};
 use std::alloc::{AllocError, Global};
 use std::collections::BTreeMap;
 use std::marker::{Brand, Model};
+use std::ops::Bound;
 use std::sync::ledger::{Blank, Ledger};
 
 /// Intervals of moments for each key: from a start until just before an end, or without an end.
@@ -225,8 +226,41 @@ impl<K: Ord + Copy> Intervals<K> {
         Ok(rows)
     }
 
+    /// The first key from `from` up to `to` that has an interval: one look. Takes no memory.
+    fn first_key(&self, from: K, to: K) -> Option<K>
+        requires { is_gt (K.cmp from to) ≡ false }
+        ensures some { IfSome result (IsFirstKey K.cmp self.now (is_between K.cmp from to)) }
+        ensures none { IfNone result ((k : K) → is_between K.cmp from to k ≡ true
+            → spans_of K.cmp self.now k ≡ []) }
+    {
+        let first = End::at(Moment::start());
+        match self.starts.range((from, first)..=(to, End::never())).next() {
+            Some((place, _)) => Some(place.0),
+            None => None,
+        }
+    }
+
+    /// The first key behind one, up to `to`, that has an interval: one look, however many intervals
+    /// the one has. Takes no memory.
+    fn key_behind(&self, key: K, to: K) -> Option<K>
+        requires { is_gt (K.cmp key to) ≡ false }
+        ensures some { IfSome result (IsFirstKey K.cmp self.now (is_behind K.cmp key to)) }
+        ensures none { IfNone result ((k : K) → is_behind K.cmp key to k ≡ true
+            → spans_of K.cmp self.now k ≡ []) }
+    {
+        let last = Bound::Excluded((key, End::never()));
+        match self
+            .starts
+            .range((last, Bound::Included((to, End::never()))))
+            .next()
+        {
+            Some((place, _)) => Some(place.0),
+            None => None,
+        }
+    }
+
     /// The keys from `from` up to `to` that are on at a moment, in order, each once. Its looks are
-    /// uncounted: it costs what was ever set between them.
+    /// uncounted: two for each key between them that was ever on, however often.
     pub fn on_between(&self, from: K, to: K, t: Moment) -> Result<Vec<K>, AllocError>
         requires { is_gt (K.cmp from to) ≡ false }
         ensures ascending { IfOk result (λ keys. IsStrictlySortedBy K.cmp keys.items) }
@@ -234,11 +268,12 @@ impl<K: Ord + Copy> Intervals<K> {
             → list_any (eq_by_cmp K.cmp k) keys.items
             ≡ (is_between K.cmp from to k && covers (spans_of K.cmp self.now k) t)) }
     {
-        let first = End::at(Moment::start());
         let mut keys = Vec::new(self.alloc);
-        for (place, start) in self.starts.range((from, first)..=(to, End::never())) {
-            if place.1.has(*start, t) {
-                keys.push(place.0)?;
+        let mut next = self.first_key(from, to);
+        while let Some(key) = next {
+            next = self.key_behind(key, to);
+            if self.is_on(key, t) {
+                keys.push(key)?;
             }
         }
         Ok(keys)

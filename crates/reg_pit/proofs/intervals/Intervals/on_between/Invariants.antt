@@ -1,7 +1,8 @@
-use Rattle.std.proofs.Common.{◌≡◌, map, filter}
-use Rattle.std.specs.Map.Iter.{deref_pair}
-use Rattle.reg_pit.proofs.Between.{is_on, key_at}
+use Rattle.reg_pit.proofs.Walking.{Walked, left}
 use Rattle.reg_pit.proofs.intervals.Intervals.on_between.Given as goal
 
-abbrev pub invariant-loop-place : goal.invariant-loop-place
-invariant-loop-place g l = l.keys.items ≡ map key_at (filter (is_on l.t) (map deref_pair l.yielded))
+abbrev pub invariant-loop-next : goal.invariant-loop-next
+invariant-loop-next g l = Walked g.K.Ord.cmp l.fn.from l.to l.self l.t l.next l.keys.items
+
+abbrev pub decreases-loop-next : goal.decreases-loop-next
+decreases-loop-next g l = left g.K.Ord.cmp l.self l.next
