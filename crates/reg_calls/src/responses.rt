@@ -11,6 +11,9 @@ use reg_json::append_line;
 use reg_terms::{Refusal, Reply};
 use std::alloc::{AllocError, Global};
 
+/// How many bytes most replies take at most.
+const USUAL_ROOM: usize = 512;
+
 /// The status of a refusal.
 fn refusal_status(refusal: &Refusal) -> u16
     ensures value { result ≡ refusal_status refusal.now }
@@ -72,7 +75,7 @@ pub fn response_to(
 ) -> Result<Vec<u8>, AllocError>
     ensures { IfOk result (λ text. text.items ≡ response_to asked.now close reply.now) }
 {
-    let line = append_line(Vec::new(alloc), reply)?;
+    let line = append_line(Vec::with_capacity(alloc, USUAL_ROOM)?, reply)?;
     write_response(
         alloc,
         status_of(reply),
@@ -136,6 +139,6 @@ pub fn keep_fault(close: bool) -> &'static [u8]
 pub fn fault_response(alloc: Global, reply: &Reply) -> Result<Vec<u8>, AllocError>
     ensures { IfOk result (λ text. text.items ≡ fault_response reply.now) }
 {
-    let line = append_line(Vec::new(alloc), reply)?;
+    let line = append_line(Vec::with_capacity(alloc, USUAL_ROOM)?, reply)?;
     write_response(alloc, status_of(reply), None, true, &line)
 }

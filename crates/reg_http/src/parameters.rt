@@ -31,8 +31,9 @@ fn parameter_in(alloc: Global, target: &[u8]) -> Result<Vec<u8>, AllocError>
     ensures { IfOk result (λ bytes. bytes.items ≡ parameter_in target.now) }
 {
     let rest = after(after(before(target, b'?'), b'/'), b'/');
-    let mut bytes = Vec::new(alloc);
-    percent_decode(before(rest, b'/')).append_to(&mut bytes)?;
+    let part = before(rest, b'/');
+    let mut bytes = Vec::with_capacity(alloc, part.len())?;
+    percent_decode(part).append_to(&mut bytes)?;
     Ok(bytes)
 }
 

@@ -1,6 +1,6 @@
 //! The bytes of a response.
 
-ghost use Rattle.std.specs.Prelude.{◌≡◌, ◌++◌, length, IfOk, OnOk, option_map};
+ghost use Rattle.std.specs.Prelude.{◌≡◌, ◌++◌, length, IfOk, OnOk, decimal, option_map};
 ghost use Rattle.http.specs.StatusCode.{IsStatusCode};
 ghost use Rattle.reg_http.specs.Responses.{IsStatus, phrase, allow_line, close_line, first_lines};
 ghost use Rattle.reg_http.specs.Responses.{response};
@@ -20,9 +20,34 @@ fn phrase(status: u16) -> &'static str
     }
 }
 
+/// How many bytes the lines before a body take at most, or nearly so.
+const HEAD_ROOM: usize = 128;
+
+/// Adds a number.
+fn push_number(alloc: Global, text: &mut Vec<u8>, number: usize) -> Result<(), AllocError>
+    ensures { OnOk result (text.new.items ≡ text.old.items ++ decimal number) }
+{
+    let digits = format!(in alloc; "{number}")?;
+    text.extend_from_slice(digits.as_bytes())
+}
+
+/// The status line of most responses, and the lines on a body of so many bytes, for which there is
+/// room behind them.
+fn usual_lines(alloc: Global, size: usize) -> Result<Vec<u8>, AllocError>
+    ensures { IfOk result (λ text. text.items ≡ first_lines 200 size) }
+{
+    let mut lines = Vec::with_capacity(alloc, size.saturating_add(HEAD_ROOM))?;
+    lines.extend_from_slice(
+        b"HTTP/1.1 200 OK\r\nContent-Type: application/json\r\nContent-Length: ",
+    )?;
+    push_number(alloc, &mut lines, size)?;
+    lines.extend_from_slice(b"\r\n")?;
+    Ok(lines)
+}
+
 /// The status line, and the lines on a body of so many bytes.
 #[tactic(auto, unfolding(crate::specs::Responses::first_lines))]
-fn first_lines(alloc: Global, status: u16, size: usize) -> Result<Vec<u8>, AllocError>
+fn told_lines(alloc: Global, status: u16, size: usize) -> Result<Vec<u8>, AllocError>
     requires { IsStatus status }
     ensures { IfOk result (λ text. text.items ≡ first_lines status size) }
 {
@@ -31,6 +56,17 @@ fn first_lines(alloc: Global, status: u16, size: usize) -> Result<Vec<u8>, Alloc
         "HTTP/1.1 {status} {phrase}\r\nContent-Type: application/json\r\nContent-Length: {size}\r\n"
     )?;
     Ok(lines.into_bytes())
+}
+
+/// The same, where most responses are made at once.
+fn first_lines(alloc: Global, status: u16, size: usize) -> Result<Vec<u8>, AllocError>
+    requires { IsStatus status }
+    ensures { IfOk result (λ text. text.items ≡ first_lines status size) }
+{
+    match status {
+        200 => usual_lines(alloc, size),
+        _ => told_lines(alloc, status, size),
+    }
 }
 
 /// Adds the line that tells the allowed method, if there is one.

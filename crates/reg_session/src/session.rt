@@ -25,6 +25,9 @@ use reg_service::{Next, Service};
 use reg_terms::Reply;
 use std::alloc::{AllocError, Global};
 
+/// How many bytes most replies take at most.
+const USUAL_ROOM: usize = 512;
+
 /// The byte that ends a line.
 pub const LINE_FEED: u8 = 10;
 
@@ -32,7 +35,7 @@ pub const LINE_FEED: u8 = 10;
 pub fn reply_line(alloc: Global, reply: &Reply) -> Result<Vec<u8>, AllocError>
     ensures { IfOk result (λ line. line.items ≡ line_of reply.now) }
 {
-    append_line(Vec::new(alloc), reply)
+    append_line(Vec::with_capacity(alloc, USUAL_ROOM)?, reply)
 }
 
 fn write_bytes<K: Sink>(out: &mut K, bytes: &[u8]) -> Result<(), Stop>

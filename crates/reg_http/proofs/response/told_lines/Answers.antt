@@ -1,6 +1,6 @@
 use Rattle.std.proofs.Common.{ap, ◌∙◌, append_assoc}
 use Rattle.reg_http.specs.Responses.{first_lines}
-use Rattle.reg_http.proofs.response.first_lines.Goals as goal
+use Rattle.reg_http.proofs.response.told_lines.Goals as goal
 
 pub returns : goal.returns
 unfolding first_lines
