@@ -1,3 +1,5 @@
 pub mod Ends
+pub mod Joined
+pub mod Lawful
 pub mod Then
 pub mod Told

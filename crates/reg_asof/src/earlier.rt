@@ -56,7 +56,7 @@ fn queried(alloc: Global, machine: &Machine<Incremental>, by: Bytes, query: Quer
 /// The registry as it was at a moment. Contracts see its history and its clock.
 #[derive(Drop)]
 pub struct Earlier {
-    machine: Machine<Incremental>,
+    pub(crate) machine: Machine<Incremental>,
 }
 
 impl Model for Earlier {
@@ -87,6 +87,13 @@ impl Earlier {
             Ok(machine) => Ok(Earlier { machine }),
             Err(_) => Err(OpenFault::NoMemory),
         }
+    }
+
+    /// Its machine, whose clock is at the moment.
+    pub fn machine(&self) -> &Machine<Incremental>
+        ensures { result.now ≡ self.now }
+    {
+        &self.machine
     }
 
     /// What asks for no change is answered as by a registry with this history at this moment. It

@@ -4,6 +4,7 @@
 
 mod earlier;
 mod input;
+mod joined;
 mod records;
 
 pub use earlier::Earlier;

@@ -5,3 +5,6 @@ pub mod Standing
 pub mod Acknowledging
 pub mod OneDelivery
 pub mod BatchPrinting
+pub mod Named
+pub mod OneOrder
+pub mod OneReason

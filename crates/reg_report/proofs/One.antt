@@ -16,12 +16,14 @@ use Rattle.reg_access.specs.Grounds.{AreThose}
 use Rattle.reg_terms.specs.declared.refusal.Refusal.{Refusal}
 use Rattle.reg_words.specs.declared.task.Report.{Report}
 use Rattle.reg_words.specs.declared.task.Report.TheVariants as report
-use Rattle.reg_report.specs.Asked.{attestation_asked, attested_asked, permit_asked, permitted_asked}
+use Rattle.reg_report.specs.Asked.{attestation_asked, attested_asked, permit_asked, permitted_asked, why_asked}
 use Rattle.reg_report.specs.Attestations.{IsAttestationLine, state_then}
 use Rattle.reg_report.specs.Lines.{attestation_data, line, permitted_data}
 use Rattle.reg_report.specs.Permissions.{IsPermittedLine, texts_of}
 use Rattle.reg_report.specs.Printed.{Printed}
 use Rattle.reg_report.specs.Reported.{Reported}
+use Rattle.reg_report.specs.Whys.{IsWhyLine}
+use Rattle.reg_report.proofs.OneReason.{one_explanation}
 
 -- ---- lists
 
@@ -51,6 +53,9 @@ OneList = (kind_at : ℕ → StateKind) (now : ℕ) (a b : List (ℕ × StateKin
 one_attestation : OneList → (s : State) (g : ℕ) (a b : List ℕ) → IsAttestationLine s g a → IsAttestationLine s g b → a ≡ b
 one_attestation law s g a b p q = p.prints ∙ (ap (λ states. line (attestation_data states)) (law (λ t. (state_then s g t).kind) s.clock p.states q.states p.those q.those) ∙ sym q.prints)
 
+one_why : (s : State) (person group : ℕ) (a b : List ℕ) → IsWhyLine s person group a → IsWhyLine s person group b → a ≡ b
+one_why s person group a b p q = p.prints ∙ (ap line (one_explanation (now_facts s) _ _ person 100 group _ p.statements q.statements p.those q.those) ∙ sym q.prints)
+
 -- where what is asked is printed in one way, one thing is told
 one_told : {A : Type 0} (asked : Result A Refusal) (prints : A → List ℕ → Type 0) → ((x : A) (a b : List ℕ) → prints x a → prints x b → a ≡ b) → (a b : Result (List ℕ) Refusal) → Printed asked prints a → Printed asked prints b → a ≡ b
 one_told (Err refusal) prints one a b p q = p ∙ sym q
@@ -66,3 +71,4 @@ one_report law (report.Permitted resource action) s a b p q = one_told (permitte
 one_report law (report.Attested group at) s a b p q = one_told (attested_asked group at s.clock (now_facts s)) _ (λ x a b p q. p ∙ sym q) a b p q
 one_report law (report.Attestation group) s a b p q = one_told (attestation_asked group (now_facts s)) (IsAttestationLine s) (one_attestation law s) a b p q
 one_report law report.Reminders s a b p q = p ∙ sym q
+one_report law (report.Why subject group) s a b p q = one_told (why_asked subject group (now_facts s)) _ (λ x. one_why s x.0 x.1) a b p q

@@ -1,5 +1,6 @@
 -- What a report is about, by its words: first a text that is no name or no moment is refused, then
--- what doesn't stand, then what is of another kind, then a moment later than the clock.
+-- what doesn't stand, then what is of another kind, then a moment later than the clock. A report as
+-- of a moment is refused for that moment first.
 use Rattle.std.specs.Prelude.{ℕ, List, Option, Some, None, Result, Ok, Err, codes, option_map}
 use Rattle.std.specs.Prelude.{⊤, ok_or, if◌then◌else◌, nat_lt}
 use Rattle.reg_base.specs.Names.{is_name}
@@ -36,10 +37,16 @@ check_name field text = if is_name text then Ok tt else Err (refusal.BadName fie
 abbrev pub check_action : List ℕ → Result ⊤ Refusal
 check_action text = if is_action text then Ok tt else Err (refusal.BadName (codes "action"))
 
--- the moment that a text is, where one is given
+-- the moment that a text is
+abbrev pub moment_at : List ℕ → Result ℕ Refusal
+moment_at text = ok_or (moment_of text) (refusal.BadMoment (codes "at"))
+
+-- and where one is given
 abbrev pub moment_in : Option (List ℕ) → Result (Option ℕ) Refusal
 moment_in None = Ok None
-moment_in (Some text) = ok_or (option_map Some (moment_of text)) (refusal.BadMoment (codes "at"))
+moment_in (Some text) = do
+  moment ← moment_at text
+  Ok (Some moment)
 
 -- ---- what stands
 
@@ -70,11 +77,20 @@ abbrev pub resource_in : ℕ → Lists → Result ℕ Refusal
 resource_in attribute f =
     if is_resource attribute f then Ok attribute else Err (refusal.WrongKind (codes "resource"))
 
--- the moment asked of, which is the clock's where none is given, and isn't later than the clock
+-- a moment that may be asked of: one that isn't later than the clock
+abbrev pub not_later : ℕ → ℕ → Result ℕ Refusal
+not_later clock asked = if nat_lt clock asked then Err (refusal.Future asked clock) else Ok asked
+
+-- the moment asked of, which is the clock's where none is given
 abbrev pub in_time : ℕ → Option ℕ → Result ℕ Refusal
 in_time clock None = Ok clock
-in_time clock (Some asked) =
-    if nat_lt clock asked then Err (refusal.Future asked clock) else Ok asked
+in_time clock (Some asked) = not_later clock asked
+
+-- the moment that a report is made as of, by its text
+abbrev pub moment_asked : List ℕ → ℕ → Result ℕ Refusal
+moment_asked text clock = do
+  asked ← moment_at text
+  not_later clock asked
 
 -- ---- reports
 
@@ -106,6 +122,16 @@ attested_asked group at clock f = do
   id ← group_found group f
   t ← in_time clock moment
   Ok (id, t)
+
+-- the person and the group that `why` is about
+abbrev pub why_asked : List ℕ → List ℕ → Lists → Result (ℕ × ℕ) Refusal
+why_asked subject group f = do
+  entity ← subject_in subject
+  _ ← check_name (codes "group") group
+  found ← person_found entity f
+  id ← group_found group f
+  person ← person_in found
+  Ok (person, id)
 
 -- the group that `attestation` is about
 abbrev pub attestation_asked : List ℕ → Lists → Result ℕ Refusal

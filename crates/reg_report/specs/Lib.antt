@@ -8,3 +8,5 @@ pub mod Reported
 pub mod BatchAsked
 pub mod Delivered
 pub mod BatchLines
+pub mod WhyLines
+pub mod Whys

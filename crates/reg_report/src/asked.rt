@@ -1,5 +1,5 @@
 // What a report is about, by its words.
-ghost use Rattle.std.specs.Prelude.{◌≡◌, ◌≤◌, true, Some, IfOk, IfSome, codes};
+ghost use Rattle.std.specs.Prelude.{◌≡◌, ◌≤◌, true, Some, IfOk, IfSome, IsErr, OnErr, codes};
 ghost use Rattle.reg_terms.specs.declared.refusal.Refusal.{Refusal};
 ghost use Rattle.reg_facts.specs.Sound.{has_group, has_subject};
 ghost use Rattle.reg_access.specs.Grounds.{is_resource};
@@ -33,9 +33,9 @@ impl From<AllocError> for Unreported {
 
 ghost use Rattle.reg_report.specs.Asked.{check_action, attestation_asked, attested_asked};
 ghost use Rattle.reg_report.specs.Asked.{attribute_found, check_name, group_found, in_time};
-ghost use Rattle.reg_report.specs.Asked.{moment_in};
+ghost use Rattle.reg_report.specs.Asked.{moment_asked, moment_at, moment_in, not_later};
 ghost use Rattle.reg_report.specs.Asked.{permit_asked, permitted_asked, person_found, person_in};
-ghost use Rattle.reg_report.specs.Asked.{resource_in, subject_in};
+ghost use Rattle.reg_report.specs.Asked.{resource_in, subject_in, why_asked};
 ghost use Rattle.reg_report.specs.Gives.{Gives, IsRefusal};
 
 /// The refusal of a text that is no name.
@@ -112,15 +112,26 @@ fn check_action(alloc: Global, text: &Text) -> Result<(), Unreported>
     }
 }
 
+/// The moment that a text is.
+fn moment_at(alloc: Global, text: &Text) -> Result<Moment, Unreported>
+    ensures reads { Gives result (moment_at text.now) }
+    ensures refused { OnErr result (IsErr (moment_at text.now)) }
+{
+    match Moment::parse(text.bytes()) {
+        Some(moment) => Ok(moment),
+        None => Err(bad_moment(alloc)),
+    }
+}
+
 /// The moment that a text is, where one is given.
 fn moment_in(alloc: Global, text: &Option<Text>) -> Result<Option<Moment>, Unreported>
     ensures { Gives result (moment_in text.now) }
 {
     match text {
-        Some(text) => match Moment::parse(text.bytes()) {
-            Some(moment) => Ok(Some(moment)),
-            None => Err(bad_moment(alloc)),
-        },
+        Some(text) => {
+            let moment = moment_at(alloc, text)?;
+            Ok(Some(moment))
+        }
         None => Ok(None),
     }
 }
@@ -199,18 +210,39 @@ fn resource_in(alloc: Global, facts: &Facts, attribute: AttrId) -> Result<AttrId
     }
 }
 
+/// A moment that may be asked of: one that isn't later than the clock.
+fn not_later(clock: Moment, asked: Moment) -> Result<Moment, Unreported>
+    ensures reads { Gives result (not_later clock asked) }
+    ensures refused { OnErr result (IsErr (not_later clock asked)) }
+    ensures past { IfOk result (λ t. t ≤ clock) }
+{
+    if clock < asked {
+        return Err(Unreported::Refused(Refusal::Future { asked, clock }));
+    }
+    Ok(asked)
+}
+
 /// The moment asked of, which is the clock's where none is given, and isn't later than the clock.
 fn in_time(clock: Moment, asked: Option<Moment>) -> Result<Moment, Unreported>
     ensures reads { Gives result (in_time clock asked) }
     ensures past { IfOk result (λ t. t ≤ clock) }
 {
     match asked {
-        Some(asked) if clock < asked => {
-            Err(Unreported::Refused(Refusal::Future { asked, clock }))
-        }
-        Some(asked) => Ok(asked),
+        Some(asked) => not_later(clock, asked),
         None => Ok(clock),
     }
+}
+
+/// The moment that a report is made as of, by its text: it isn't later than the clock. A text that
+/// is no moment is refused first.
+pub fn moment_asked(alloc: Global, text: &Text, clock: Moment) -> Result<Moment, Unreported>
+    ensures reads { Gives result (moment_asked text.now clock) }
+
+    // Memory is wanted for a refusal alone.
+    ensures refused { OnErr result (IsErr (moment_asked text.now clock)) }
+{
+    let asked = moment_at(alloc, text)?;
+    not_later(clock, asked)
 }
 
 /// The person and the resource that `permit` is about.
@@ -270,6 +302,23 @@ pub fn attested_asked(
     let id = group_found(alloc, facts, group)?;
     let t = in_time(clock, moment)?;
     Ok((id, t))
+}
+
+/// The person and the group that `why` is about.
+pub fn why_asked(
+    alloc: Global,
+    facts: &Facts,
+    subject: &Text,
+    group: &Text,
+) -> Result<(SubjectId, GroupId), Unreported>
+    ensures { Gives result (why_asked subject.now group.now facts.now) }
+{
+    let entity = subject_in(alloc, subject)?;
+    check_name(alloc, "group", group)?;
+    let found = person_found(alloc, facts, &entity)?;
+    let id = group_found(alloc, facts, group)?;
+    let person = person_in(alloc, found)?;
+    Ok((person, id))
 }
 
 /// The group that `attestation` is about.

@@ -15,8 +15,8 @@ use reg_base::Moment;
 use reg_terms::Texts;
 use std::alloc::{AllocError, Global};
 
-/// The member that each report has.
-fn put_ok(out: &mut Writer) -> Result<(), AllocError>
+/// The member that each report has. The only error is out of memory.
+pub fn put_ok(out: &mut Writer) -> Result<(), AllocError>
     ensures ok { OnOk result (out.new.tokens
         ≡ out.old.tokens ++ key (codes "ok") ∷ (boolean true ∷ [])) }
     ensures before { out.new.before ≡ out.old.before }
@@ -36,7 +36,7 @@ fn put_number(out: &mut Writer, number: Option<u64>) -> Result<(), AllocError>
     }
 }
 
-fn put_moment(out: &mut Writer, moment: Option<Moment>) -> Result<(), AllocError>
+pub fn put_moment(out: &mut Writer, moment: Option<Moment>) -> Result<(), AllocError>
     ensures ok { OnOk result (out.new.tokens
         ≡ out.old.tokens ++ json_tokens (outline (moment_data moment))) }
     ensures before { out.new.before ≡ out.old.before }

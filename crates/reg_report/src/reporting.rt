@@ -6,6 +6,7 @@ ghost use Rattle.reg_report.specs.Reported.{Reported, bytes_told};
 use crate::asked::Unreported;
 use crate::attestation::{attestation_report, attested_report};
 use crate::permission::{permit_report, permitted_report};
+use crate::why::why_report;
 use reg_access::reminders;
 use reg_effect::Kept;
 use reg_machine::Machine;
@@ -34,13 +35,15 @@ fn reported<K: Kept>(
         Report::Attested { group, at } => attested_report(alloc, machine, group, at),
         Report::Attestation { group } => attestation_report(alloc, machine, group),
         Report::Reminders => Ok(reminders(alloc, machine)?),
+        Report::Why { subject, group } => why_report(alloc, machine, subject, group),
     }
 }
 
 /// What a report prints after the history at the clock, each line with LF, or why it is refused. A
 /// text that is no name or no moment is refused first, then what doesn't stand, then what is of
 /// another kind, then a moment later than the clock. The only error is out of memory. Costs what
-/// the calls of permissions and attestations cost that it makes, and one look by name a word.
+/// the calls of permissions, attestations and reasons cost that it makes, and one look by name a
+/// word.
 pub fn report<K: Kept>(
     alloc: Global,
     machine: &Machine<K>,

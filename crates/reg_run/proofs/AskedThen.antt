@@ -1,10 +1,8 @@
--- Lines that are asked as of a moment.
-use Rattle.std.proofs.Common.{◌≡◌, ◌≤◌, List, ℕ, Option, Some, None, Result, Ok, Err, refl, ap, sym, subst, ◌∙◌, arith, inl, inr, length, option_map}
-use Rattle.std.specs.Prelude.{IfSome, codes}
-use Rattle.reg_base.specs.MomentText.{moment_of}
+-- The registry as it was at a moment: how it is found, and asked.
+use Rattle.std.proofs.Common.{◌≡◌, List, ℕ, Option, Some, None, Result, Ok, Err, refl, ap, sym, subst, ◌∙◌, inl, inr}
+use Rattle.std.specs.Prelude.{IfSome, IsErr}
 use Rattle.reg_outside.specs.Faults.{Rose}
 use Rattle.reg_terms.specs.declared.refusal.Refusal.{Refusal}
-use Rattle.reg_terms.specs.declared.refusal.Refusal.TheVariants.{BadMoment}
 use Rattle.reg_terms.specs.declared.reply.Reply.TheVariants as reply
 use Rattle.reg_machine.specs.History.{State, start}
 use Rattle.reg_keep.specs.Frames.{opened}
@@ -13,22 +11,28 @@ use Rattle.reg_keep.specs.declared.open.OpenFault.TheVariants as fault
 use Rattle.reg_service.specs.Opening.{judged, judged_all}
 use Rattle.reg_session.specs.declared.stop.Stop.{Stop}
 use Rattle.reg_session.specs.declared.stop.Stop.TheVariants as stop
-use Rattle.reg_asof.specs.Ends.{StopsTelling, TellsInput}
+use Rattle.reg_report.specs.Gives.{Fails}
+use Rattle.reg_report.specs.declared.asked.Unreported.{Unreported}
+use Rattle.reg_report.specs.declared.asked.Unreported.TheVariants as unreported
+use Rattle.reg_asof.specs.Ends.{StopsTelling}
 use Rattle.reg_asof.specs.Then.{state_at}
-use Rattle.reg_run.specs.AsOf.{AnswersThen, AsOfEnds, In, ReadsAndAnswers, asked_moment, not_later}
-use Rattle.reg_run.specs.Crash.{OpensTo}
+use Rattle.reg_run.specs.AsOf.{AnswersLines, AsOfEnds, DidAsOf, In, NotReread, input}
+use Rattle.reg_run.specs.Crash.{OpensTo, Seen}
 use Rattle.reg_run.specs.Due.{Told, due_of}
-use Rattle.reg_run.specs.Ends.{end_of_open, end_of_stop}
-use Rattle.reg_run.specs.World.{Out}
+use Rattle.reg_run.specs.Earlier.{AsksFound, FindsAt, FindsEarlier}
+use Rattle.reg_run.specs.Ends.{OpenCaused, OverJournal, end_of_open, end_of_stop}
+use Rattle.reg_run.specs.Status.{status_of}
+use Rattle.reg_run.specs.World.{Out, SameNet, World, output}
+use Rattle.reg_run.specs.declared.earlier.Unasked.{Unasked}
+use Rattle.reg_run.specs.declared.earlier.Unasked.TheVariants as unasked
 use Rattle.reg_run.specs.declared.status.End.{End}
 use Rattle.reg_run.specs.declared.status.End.TheVariants as the_end
 use Rattle.reg_run.proofs.Gathering.{Records}
 
-itself : (held : Option (List ℕ)) (s : State) → IfSome held (λ file. s ≡ s)
-itself None s = tt
-itself (Some file) s = refl
+-- ---- finding it
 
-as_then : (held : Option (List ℕ)) (records : Records) (last s : State) (at : ℕ) → ((from : State) → judged start records ≡ Ok from → s ≡ state_at from.history at) → IfSome held (λ file. judged start records ≡ Ok last) → IfSome held (λ file. s ≡ state_at last.history at)
+-- it is that of the history
+pub as_then : (held : Option (List ℕ)) (records : Records) (last s : State) (at : ℕ) → ((from : State) → judged start records ≡ Ok from → s ≡ state_at from.history at) → IfSome held (λ file. judged start records ≡ Ok last) → IfSome held (λ file. s ≡ state_at last.history at)
 as_then None records last s at is opens = tt
 as_then (Some file) records last s at is opens = is last opens
 
@@ -36,27 +40,12 @@ undamaged : (held : Option (List ℕ)) (r : Result State ℕ) (last : State) (pl
 undamaged None r last place is opens = tt
 undamaged (Some file) r last place is opens = let both : Err place ≡ Ok last = sym is ∙ opens in absurd (cc)
 
--- there was no memory for the registry
-pub not_replayed : (last : State) (at : ℕ) (held : Option (List ℕ)) (records : Records) (f : OpenFault) (i : In) (o : Out) → ((place : ℕ) → f ≡ fault.Damaged place → judged start records ≡ Err place) → (f ≡ fault.Fault → ⊥)
-    → IfSome held (λ file. judged start records ≡ Ok last) → AnswersThen last at held (end_of_open f) i i o o
-not_replayed last at held records (fault.Damaged place) i o damaged never opens = (state_at last.history at, itself held (state_at last.history at), (undamaged held (judged start records) last place (damaged place refl) opens, refl, refl))
-not_replayed last at held records fault.Fault i o damaged never opens = absurd (never refl)
-not_replayed last at held records fault.NoMemory i o damaged never opens = (state_at last.history at, itself held (state_at last.history at), (refl, refl))
-
--- all lines were answered
-pub all_answered : (last s : State) (at : ℕ) (held : Option (List ℕ)) (records : Records) (i i2 : In) (o o2 : Out) → ((from : State) → judged start records ≡ Ok from → s ≡ state_at from.history at)
-    → IfSome held (λ file. judged start records ≡ Ok last) → TellsInput s i.left i2.left o.written o2.written → o2.flushed ≡ option_map length o2.written → AnswersThen last at held the_end.Done i i2 o o2
-all_answered last s at held records i i2 o o2 is opens tells flushed = (s, as_then held records last s at is opens, (tells, flushed))
-
--- answering them stopped
-pub stopped_then : (last s : State) (at : ℕ) (held : Option (List ℕ)) (records : Records) (i i2 : In) (o o2 : Out) (why : Stop) → ((from : State) → judged start records ≡ Ok from → s ≡ state_at from.history at)
-    → IfSome held (λ file. judged start records ≡ Ok last) → StopsTelling s i.left i2.left o.written o2.written o2.flushed why → (why ≡ stop.Input → Rose i.reads i2.reads) → (why ≡ stop.Output → Rose o.writes o2.writes)
-    → AnswersThen last at held (end_of_stop why) i i2 o o2
-stopped_then last s at held records i i2 o o2 stop.Memory is opens stops input output = elim stops.ends [ ]
-stopped_then last s at held records i i2 o o2 stop.Disk is opens stops input output = elim stops.ends [ ]
-stopped_then last s at held records i i2 o o2 stop.Input is opens stops input output = (s, as_then held records last s at is opens, (input refl, stops))
-stopped_then last s at held records i i2 o o2 stop.Output is opens stops input output = (s, as_then held records last s at is opens, (output refl, stops))
-stopped_then last s at held records i i2 o o2 stop.TooMuch is opens stops input output = (s, as_then held records last s at is opens, stops)
+-- there was no memory for it
+pub not_replayed : (last : State) (held : Option (List ℕ)) (faults later : ℕ) (records : Records) (f : OpenFault) → ((place : ℕ) → f ≡ fault.Damaged place → judged start records ≡ Err place) → (f ≡ fault.Fault → ⊥)
+    → IfSome held (λ file. judged start records ≡ Ok last) → NotReread (end_of_open f) held faults later
+not_replayed last held faults later records (fault.Damaged place) damaged never opens = undamaged held (judged start records) last place (damaged place refl) opens
+not_replayed last held faults later records fault.Fault damaged never opens = absurd (never refl)
+not_replayed last held faults later records fault.NoMemory damaged never opens = tt
 
 -- the records of a file that opens are judged as it is
 pub judged_again : (held : Option (List ℕ)) (records : Records) (last : State) → OpensTo held (Ok last) → IfSome held (λ file. opened file ≡ Ok records) → IfSome held (λ file. judged start records ≡ Ok last)
@@ -68,32 +57,73 @@ no_damage None last place read opens = tt
 no_damage (Some file) last place read opens = let both : Err place ≡ Ok last = ap judged_all (sym read) ∙ opens in absurd (cc)
 
 -- the file wasn't read once more
-pub not_read_again : (last : State) (at : ℕ) (held : Option (List ℕ)) (before later : ℕ) (f : OpenFault) (i : In) (o : Out) → ((place : ℕ) → f ≡ fault.Damaged place → IfSome held (λ file. opened file ≡ Err place))
-    → (f ≡ fault.Fault → Rose before later) → OpensTo held (Ok last) → ReadsAndAnswers last at held before later (end_of_open f) i i o o
-not_read_again last at held before later (fault.Damaged place) i o damaged rose opens = inl (state_at last.history at, itself held (state_at last.history at), (no_damage held last place (damaged place refl) opens, refl, refl))
-not_read_again last at held before later fault.Fault i o damaged rose opens = inr (refl, rose refl, refl, refl)
-not_read_again last at held before later fault.NoMemory i o damaged rose opens = inl (state_at last.history at, itself held (state_at last.history at), (refl, refl))
+pub not_reread : (last : State) (held : Option (List ℕ)) (faults later : ℕ) (f : OpenFault) → ((place : ℕ) → f ≡ fault.Damaged place → IfSome held (λ file. opened file ≡ Err place)) → (f ≡ fault.Fault → Rose faults later)
+    → OpensTo held (Ok last) → NotReread (end_of_open f) held faults later
+not_reread last held faults later (fault.Damaged place) damaged rose opens = no_damage held last place (damaged place refl) opens
+not_reread last held faults later fault.Fault damaged rose opens = rose refl
+not_reread last held faults later fault.NoMemory damaged rose opens = tt
+
+-- there is a moment to find it at
+pub found_at : (due : Result ℕ Refusal) (at : ℕ) (last : State) (held : Option (List ℕ)) (faults later : ℕ) (found : Result State Unasked) → due ≡ Ok at → FindsAt (Ok at) last held faults later found → FindsAt due last held faults later found
+found_at due at last held faults later found is finds = rw is finds
+
+-- there is none
+pub no_moment : (due : Result ℕ Refusal) (why : Unreported) (last : State) (held : Option (List ℕ)) (faults later : ℕ) → Fails why due → IsErr due → FindsAt due last held faults later (Err (unasked.Unreported why))
+no_moment (Ok at) why last held faults later fails refused = absurd (cc)
+no_moment (Err r) unreported.Memory last held faults later fails refused = tt
+no_moment (Err r) (unreported.Refused told) last held faults later fails refused = let is : told ≡ r = cc in is
+
+-- ---- asking it
 
 -- a refusal, by what is refused
 pub told_same : (r s : Refusal) (end : End) (old new : Out) → r ≡ s → Told (λ due. due ≡ due_of (reply.Refused r)) end old new → Told (λ due. due ≡ due_of (reply.Refused s)) end old new
 told_same r s end old new is told = subst (λ (x : Refusal). Told (λ due. due ≡ due_of (reply.Refused x)) end old new) is told
 
--- a text that names a moment, and one that names none
-pub named : (text : List ℕ) (clock at : ℕ) → moment_of text ≡ Some at → asked_moment text clock ≡ not_later clock at
-named text clock at is = rw is refl
+-- answering lines stopped
+pub stopped : (s : State) (i i2 : In) (o o2 : Out) (why : Stop) → StopsTelling s i.left i2.left o.written o2.written o2.flushed why → (why ≡ stop.Input → Rose i.reads i2.reads) → (why ≡ stop.Output → Rose o.writes o2.writes)
+    → AnswersLines s (end_of_stop why) i i2 o o2
+stopped s i i2 o o2 stop.Memory stops input output = elim stops.ends [ ]
+stopped s i i2 o o2 stop.Disk stops input output = elim stops.ends [ ]
+stopped s i i2 o o2 stop.Input stops input output = (input refl, stops)
+stopped s i i2 o o2 stop.Output stops input output = (output refl, stops)
+stopped s i i2 o o2 stop.TooMuch stops input output = stops
 
-pub unnamed : (text : List ℕ) (clock : ℕ) → moment_of text ≡ None → asked_moment text clock ≡ Err (BadMoment (codes "at"))
-unnamed text clock is = rw is refl
+-- what is asked of a registry
+abbrev Asking : Type 1
+Asking = State → End → In → In → Out → Out → Type 0
 
--- what follows from what the text says
-pub ends_as : (r due : Result ℕ Refusal) (last : State) (held : Option (List ℕ)) (before later : ℕ) (end : End) (i i2 : In) (o o2 : Out) → due ≡ r → AsOfEnds r last held before later end i i2 o o2 → AsOfEnds due last held before later end i i2 o o2
-ends_as r due last held before later end i i2 o o2 is ends = rw is ends
+ends_then : (Asks : Asking) (due : Result ℕ Refusal) (last : State) (held : Option (List ℕ)) (faults later : ℕ) (found : Result State Unasked) (end : End) (i i2 : In) (o o2 : Out) → FindsAt due last held faults later found
+    → AsksFound Asks found end i i2 o o2 → AsOfEnds Asks due last held faults later end i i2 o o2
+ends_then Asks (Ok at) last held faults later (Ok s) end i i2 o o2 finds asks = inl (s, finds, asks)
+ends_then Asks (Ok at) last held faults later (Err (unasked.Ended e)) end i i2 o o2 finds (taken, (is, wrote)) = inr (subst (λ (x : End). NotReread x held faults later) (sym is) finds, taken, wrote)
+ends_then Asks (Ok at) last held faults later (Err (unasked.Unreported why)) end i i2 o o2 finds asks = absurd finds
+ends_then Asks (Err r) last held faults later (Ok s) end i i2 o o2 finds asks = absurd finds
+ends_then Asks (Err r) last held faults later (Err (unasked.Ended e)) end i i2 o o2 finds asks = absurd finds
+ends_then Asks (Err r) last held faults later (Err (unasked.Unreported why)) end i i2 o o2 finds (taken, prints) = (taken, prints r finds)
 
--- faults since an earlier moment
-pub ends_since : (r : Result ℕ Refusal) (last : State) (held : Option (List ℕ)) (before mid later : ℕ) (end : End) (i i2 : In) (o o2 : Out) → before ≤ mid → AsOfEnds r last held mid later end i i2 o o2 → AsOfEnds r last held before later end i i2 o o2
-ends_since (Ok at) last held before mid later end i i2 o o2 le (inl answers) = inl answers
-ends_since (Ok at) last held before mid later end i i2 o o2 le (inr (is, rose, taken, wrote)) = inr (is, risen, taken, wrote)
-  where
-    risen : Rose before later
-    risen = omega (arith, le, rose)
-ends_since (Err r) last held before mid later end i i2 o o2 le refused = refused
+-- what a run did that found it, and asked it
+pub did_then : (d : Seen) (Asks : Asking) (text : List ℕ) (found : Result State Unasked) (end : End) (before after : World) → FindsEarlier d text before.held before.faults after.faults before.moments after.moments found
+    → AsksFound Asks found end (input before) (input after) (output before) (output after) → SameNet before after → OverJournal d (DidAsOf d Asks text end before after) end before after
+did_then d Asks text found end before after (inr (from, opens, finds)) asks net = inr (
+  from,
+  opens,
+  record {
+    now = finds.now;
+    moment = finds.moment;
+    ends = ends_then Asks _ from before.held before.faults after.faults found end (input before) (input after) (output before) (output after) finds.finds asks;
+    clock = finds.clock;
+    net = net;
+    same = finds.same;
+    disk = finds.disk (status_of end);
+  },
+)
+did_then d Asks text (Ok s) end before after (inl none) asks net = absurd none
+did_then d Asks text (Err (unasked.Ended e)) end before after (inl (cause, clock, same)) (taken, (is, wrote)) net = inl (record {
+  cause = subst (λ (x : End). OpenCaused x before.held before.faults after.faults) (sym is) cause;
+  input = (ap (λ (i : In). i.left) taken, ap (λ (i : In). i.reads) taken);
+  output = (ap (λ (o : Out). o.written) wrote, ap (λ (o : Out). o.flushed) wrote, ap (λ (o : Out). o.writes) wrote);
+  clock = clock;
+  net = net;
+  disk = same;
+})
+did_then d Asks text (Err (unasked.Unreported why)) end before after (inl none) asks net = absurd none

@@ -1,9 +1,11 @@
 -- Where the words ask for nothing.
-use Rattle.std.proofs.Common.{◌≡◌, ◌∙◌, ◌⊎◌, List, ℕ, Option, Some, None, Result, Ok, Err, refl, ap, sym, subst, inl, inr, arith}
+use Rattle.std.proofs.Common.{◌≡◌, ◌∙◌, ◌⊎◌, List, ℕ, Bool, true, false, Option, Some, None, Result, Ok, Err, refl, ap, sym, subst, inl, inr, arith}
 use Rattle.reg_outside.specs.declared.disk.Disk.{Ghosts}
 use Rattle.reg_machine.specs.History.{State}
 use Rattle.reg_terms.specs.declared.command.Stamped.{Stamped}
+use Rattle.std.specs.Prelude.{if◌then◌else◌}
 use Rattle.reg_words.specs.declared.task.Provision.{Provision}
+use Rattle.reg_words.specs.declared.task.Report.{Report}
 use Rattle.reg_words.specs.declared.task.Task.{Task}
 use Rattle.reg_words.specs.declared.task.Task.TheVariants as task
 use Rattle.reg_run.specs.declared.status.End.{End}
@@ -12,8 +14,8 @@ use Rattle.reg_run.specs.Crash.{Seen, seen}
 use Rattle.reg_terms.specs.declared.refusal.Refusal.{Refusal}
 use Rattle.reg_terms.specs.declared.reply.Reply.{Reply}
 use Rattle.reg_terms.specs.declared.reply.Reply.TheVariants as reply
-use Rattle.reg_run.specs.AsOf.{AsOfEnds, In, input}
-use Rattle.reg_run.specs.Due.{Told, due_of, end_of_due}
+use Rattle.reg_run.specs.AsOf.{AsOfEnds, In, PrintsReport, input}
+use Rattle.reg_run.specs.Due.{Due, Told, due_of, end_of_due}
 use Rattle.reg_run.specs.Ends.{Did, IsIdle, IsUsage, LoadAsked, LoadBroke, RunDid}
 use Rattle.reg_run.specs.Listing.{PrintsLines, due_lines}
 use Rattle.reg_run.specs.Once.{Printed, end_of_reply}
@@ -70,10 +72,24 @@ refused_is_use : (r : Refusal) (old new : Out) → Told (λ due. due ≡ due_of 
 refused_is_use r old new (inl (due, is, printed)) = told_is_use (reply.Refused r) due.bytes old new (subst (λ (e : End). Printed e due.bytes the_end.Usage old new) (ap end_of_due is) printed)
 refused_is_use r old new (inr printed) = told_is_use reply.NoMemory _ old new printed
 
-as_of_is_use : (r : Result ℕ Refusal) (last : State) (held : Option (List ℕ)) (faults later : ℕ) (i i2 : In) (old new : Out) → AsOfEnds r last held faults later the_end.Usage i i2 old new → ⊥
-as_of_is_use (Ok at) last held faults later i i2 old new (inl answers) = answers.2
-as_of_is_use (Ok at) last held faults later i i2 old new (inr p) = let is : the_end.Usage ≡ the_end.Disk = p.0 in absurd (cc)
-as_of_is_use (Err r) last held faults later i i2 old new refused = refused_is_use r old new refused.1
+either_is_use : (refused : Bool) → (if refused then the_end.Refused else the_end.Done) ≡ the_end.Usage → ⊥
+either_is_use true e = absurd (cc)
+either_is_use false e = absurd (cc)
+
+due_is_use : (due : Due) (old new : Out) → Printed (end_of_due due) due.bytes the_end.Usage old new → ⊥
+due_is_use due old new (inl (inl p)) = either_is_use due.refused (sym p.0)
+due_is_use due old new (inl (inr p)) = let is : the_end.Usage ≡ the_end.Output = p.0 in absurd (cc)
+due_is_use due old new (inr p) = let is : the_end.Usage ≡ the_end.Memory = p.0 in absurd (cc)
+
+report_is_use : (asked : Report) (s : State) (i i2 : In) (old new : Out) → PrintsReport asked s the_end.Usage i i2 old new → ⊥
+report_is_use asked s i i2 old new (taken, inl (due, is, printed)) = due_is_use due old new printed
+report_is_use asked s i i2 old new (taken, inr printed) = told_is_use reply.NoMemory _ old new printed
+
+as_of_is_use : (Asks : State → End → In → In → Out → Out → Type 0) (r : Result ℕ Refusal) (last : State) (held : Option (List ℕ)) (faults later : ℕ) (i i2 : In) (old new : Out) → ((s : State) → Asks s the_end.Usage i i2 old new → ⊥)
+    → AsOfEnds Asks r last held faults later the_end.Usage i i2 old new → ⊥
+as_of_is_use Asks (Ok at) last held faults later i i2 old new none (inl (s, is, asks)) = none s asks
+as_of_is_use Asks (Ok at) last held faults later i i2 old new none (inr p) = p.0
+as_of_is_use Asks (Err r) last held faults later i i2 old new none refused = refused_is_use r old new refused.1
 
 -- no task ends so
 task_is_use : (d : Seen) (t : Task) (before after : World) → Did d t the_end.Usage before after → ⊥
@@ -93,7 +109,10 @@ task_is_use d (task.Load job) before after (inr p) = load_is_use p.0 job p.2.tak
 task_is_use d (task.Commands places) before after (inl not) = not.cause
 task_is_use d (task.Commands places) before after (inr p) = lines_are_use (due_lines places before.held p.0.history) before.faults after.faults (output before) (output after) p.2.printed
 task_is_use d (task.AsOf at) before after (inl not) = not.cause
-task_is_use d (task.AsOf at) before after (inr p) = as_of_is_use _ p.0 before.held before.faults after.faults (input before) (input after) (output before) (output after) p.2.ends
+task_is_use d (task.AsOf at) before after (inr p) = as_of_is_use _ _ p.0 before.held before.faults after.faults (input before) (input after) (output before) (output after) (λ s asks. asks) p.2.ends
+task_is_use d (task.ReportAsOf asked at) before after (inl not) = not.cause
+task_is_use d (task.ReportAsOf asked at) before after (inr p) =
+    as_of_is_use (PrintsReport asked) _ p.0 before.held before.faults after.faults (input before) (input after) (output before) (output after) (λ s. report_is_use asked s (input before) (input after) (output before) (output after)) p.2.ends
 task_is_use d (task.Provision asked) before after (inl not) = not.cause
 task_is_use d (task.Provision asked) before after (inr p) = provision_is_use asked _ p.2.at _ _ _ _ p.2.ends
 task_is_use d (task.Sample seed size) before after did = print_is_use _ _ _ did.printed

@@ -34,7 +34,7 @@ use Rattle.reg_sample.specs.Played.{summary, summary_text}
 use Rattle.reg_run.specs.Once.{AsksOnce, IsTakenWhole, Printed, load_of}
 use Rattle.reg_run.specs.Due.{Due, Replied, RepliedFront, AnswersTo, ReportsAt}
 use Rattle.reg_run.specs.Providing.{DidProvision}
-use Rattle.reg_run.specs.AsOf.{DidAsOf}
+use Rattle.reg_run.specs.AsOf.{AnswersLines, DidAsOf, PrintsReport}
 use Rattle.reg_run.specs.Listing.{DidCommands}
 use Rattle.reg_run.specs.Questions.{asked_by}
 use Rattle.reg_words.specs.declared.task.Task.{Task}
@@ -301,7 +301,9 @@ Did d (task.Load job) end before after =
 Did d (task.Commands places) end before after =
     OverJournal d (DidCommands d places end before after) end before after
 Did d (task.AsOf at) end before after =
-    OverJournal d (DidAsOf d at end before after) end before after
+    OverJournal d (DidAsOf d AnswersLines at end before after) end before after
+Did d (task.ReportAsOf asked at) end before after =
+    OverJournal d (DidAsOf d (PrintsReport asked) at end before after) end before after
 Did d (task.Provision asked) end before after =
     OverJournal d (DidProvision d asked end before after) end before after
 Did d (task.Sample seed size) end before after = DidSample d seed size end before after

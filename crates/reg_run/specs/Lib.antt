@@ -1,6 +1,7 @@
 pub mod AsOf
 pub mod Crash
 pub mod Due
+pub mod Earlier
 pub mod Ends
 pub mod KeepsUp
 pub mod Listing

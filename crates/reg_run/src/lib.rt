@@ -3,6 +3,7 @@
 #![tactic(auto)]
 
 mod as_of;
+mod earlier;
 mod listing;
 mod load;
 mod perform;

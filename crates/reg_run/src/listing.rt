@@ -2,7 +2,7 @@
 ghost use Rattle.std.specs.Prelude.{◌≡◌, ◌⊎◌, ◌≤◌, ◌<◌, ◌∷◌, [], ℕ, List, Option, Some, None, Ok};
 ghost use Rattle.std.specs.Prelude.{Err, IfErr, IfNone, IfSome, OnErr, OnOk};
 ghost use Rattle.reg_outside.specs.Disk.{Changes, Same};
-ghost use Rattle.reg_outside.specs.Faults.{HasCause, Rose};
+ghost use Rattle.reg_outside.specs.Faults.{HasCause};
 ghost use Rattle.reg_outside.specs.Streams.{WritesFront};
 ghost use Rattle.reg_terms.specs.declared.command.Stamped.{Stamped};
 ghost use Rattle.reg_wire.specs.Payload.{stamped_of};

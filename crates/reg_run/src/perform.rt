@@ -1,9 +1,9 @@
 // The tasks, each over a disk that it gives back.
-ghost use Rattle.std.specs.Prelude.{◌≡◌, ◌≤◌, List, ℕ, Option, Ok, Err, length, option_map, IfOk};
+ghost use Rattle.std.specs.Prelude.{◌≡◌, ◌≤◌, List, ℕ, Ok, Err, length, option_map, IfOk};
 ghost use Rattle.std.specs.Prelude.{IfErr, IfSome, OnErr, OnOk, true};
 ghost use Rattle.std.specs.Io.KnownBytes.{append_known};
 ghost use Rattle.reg_outside.specs.Disk.{Changes, Same};
-ghost use Rattle.reg_outside.specs.Faults.{Rose, HasCause};
+ghost use Rattle.reg_outside.specs.Faults.{HasCause};
 ghost use Rattle.reg_outside.specs.Streams.{WritesFront, later_moments};
 ghost use Rattle.reg_keep.specs.JournalWords.{disk_of};
 ghost use Rattle.reg_service.specs.Opening.{opens, at_last, FrontsReopen};
@@ -17,7 +17,7 @@ ghost use Rattle.reg_run.specs.Status.{check_line};
 ghost use Rattle.reg_run.specs.World.{Net, World, world, holding, printing, at_clock, net_of};
 ghost use Rattle.reg_run.specs.World.{out_of};
 
-use crate::as_of::as_of_over;
+use crate::as_of::{as_of_over, report_as_of_over};
 use crate::listing::commands_over;
 use crate::load::load_over;
 use crate::provision::provision_over;
@@ -324,6 +324,9 @@ pub fn perform<S: Source, K: Sink, D: Disk, C: Clock, L: Listener>(
         Task::Check => check_over(alloc, out, disk),
         Task::Ask(question) => ask_over(alloc, question, out, disk, clock),
         Task::Report(asked) => report_over(alloc, asked, out, disk, clock),
+        Task::ReportAsOf { report, at } => {
+            report_as_of_over(alloc, report, at, out, disk, clock)
+        }
         Task::Load { job } => load_over(alloc, job, input, out, disk, clock),
         Task::Commands(places) => commands_over(alloc, places, out, disk),
         Task::AsOf { at } => as_of_over(alloc, at, input, out, disk, clock),

@@ -45,8 +45,9 @@ fn follow<S: Source, K: Sink, D: Disk, C: Clock, L: Listener>(
 /// input with a line of output, `serve PORT [--connections N]` answers the messages of so many
 /// connections, one after another, `check` opens the journal, `commands [--from N] [--to M]`
 /// prints its commands, `members NAME [--at T]` and `history NAME` ask it, `as-of T` answers each
-/// line of the input by the registry as it was at a moment, and `provision CONSUMER SUBJECT MAX`
-/// prints operations for an outside list and acknowledges them. A status other than 0 has a note on
+/// line of the input by the registry as it was at a moment, `why SUBJECT GROUP [--at T]` says why a
+/// person is a member of a group or isn't, now or then, and `provision CONSUMER SUBJECT MAX` prints
+/// operations for an outside list and acknowledges them. A status other than 0 has a note on
 /// `notes`; that it can't be written changes nothing.
 pub fn run<S: Source, K: Sink, N: Sink, D: Disk, C: Clock, L: Listener>(
     alloc: Global,

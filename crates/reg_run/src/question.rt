@@ -34,7 +34,7 @@ fn bad_name(alloc: Global) -> NotAsked
 }
 
 /// The refusal of a text that is no moment.
-pub(crate) fn bad_moment(alloc: Global) -> NotAsked
+fn bad_moment(alloc: Global) -> NotAsked
     ensures { IsRefusal result (Refusal.BadMoment (codes "at")) }
 {
     match Text::new(alloc, "at") {

@@ -31,7 +31,7 @@ pub(crate) fn print_refusal<K: Sink>(alloc: Global, refusal: Refusal, out: &mut 
 }
 
 /// Prints what a report tells of a machine at its clock.
-fn print_report<K: Sink>(
+pub(crate) fn print_report<K: Sink>(
     alloc: Global,
     machine: &Machine<Incremental>,
     asked: &Report,

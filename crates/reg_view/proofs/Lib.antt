@@ -28,3 +28,4 @@ pub mod Worked
 pub mod Tellings
 pub mod Knowing
 pub mod Moved
+pub mod Answered

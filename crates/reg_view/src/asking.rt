@@ -1,21 +1,25 @@
 // Asking.
-ghost use Rattle.std.specs.Prelude.{◌≡◌, ℕ, List, Ok, Err, IfErr, IfOk};
+ghost use Rattle.std.specs.Prelude.{◌≡◌, ℕ, List, Ok, Err, Some, IfErr, IfOk};
 ghost use Rattle.reg_terms.specs.declared.command.Stamped.{Stamped};
-ghost use Rattle.reg_machine.specs.History.{facts};
+ghost use Rattle.reg_terms.specs.declared.query.Query.{Query};
+ghost use Rattle.reg_priv.specs.declared.who.Who.{Who};
+ghost use Rattle.reg_machine.specs.History.{facts, now_facts};
 ghost use Rattle.reg_current.specs.Live.{live};
-ghost use Rattle.reg_view.specs.AtClock.{asked_at, view};
+ghost use Rattle.reg_view.specs.Answers.{answer_of};
+ghost use Rattle.reg_view.specs.AtClock.{asked_at, told, view};
 ghost use Rattle.reg_view.specs.Knowing.{IsKnownTo};
 ghost use Rattle.reg_view.specs.Missing.{MayYield};
 ghost use Rattle.reg_view.specs.Past.{past_at};
 ghost use Rattle.reg_view.specs.Show.{show};
 ghost use Rattle.reg_view.specs.Telling.{IfRefused, TellsOf, names_of};
 ghost use Rattle.reg_view.specs.Unseen.{AsksAbout, AsksOf, IsOfNoneGone, IsUnseen, IsUnseenObject};
+ghost use Rattle.reg_view.specs.View.{caller_of};
 
 use crate::Answer;
 use crate::answering::answer;
 use crate::question::{Parts, Question};
 use reg_effect::Kept;
-use reg_facts::Refusal;
+use reg_facts::{Refusal, law_by_bytes};
 use reg_machine::Machine;
 use std::alloc::{AllocError, Global};
 
@@ -86,4 +90,20 @@ pub fn ask<K: Kept>(
     let facts = machine.facts();
     let kept = machine.kept();
     answer(alloc, machine, facts, kept, &by, &query, &caller, called)
+}
+
+/// What a caller that stands is told at the clock is the answer over the facts and the memberships
+/// there and what the history tells of the past (`Answers.antt`). It does nothing.
+pub fn law_told<K: Kept>(machine: &Machine<K>)
+    ensures { (by : List ℕ) (who : Who) (query : Query)
+        → caller_of by (now_facts machine.now) ≡ Some who
+        → told machine.now.history machine.now.clock by query
+        ≡ answer_of (past_at machine.now) (live machine.now.clock (now_facts machine.now))
+        (now_facts machine.now) machine.now.clock by who query }
+{
+    let facts = machine.facts();
+    facts.law_sound();
+    facts.law_held();
+    facts.law_names();
+    law_by_bytes();
 }

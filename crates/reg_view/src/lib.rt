@@ -22,7 +22,7 @@ mod seeing;
 mod texts;
 mod timing;
 
-pub use asking::ask;
+pub use asking::{ask, law_told};
 pub use earlier::law_powers;
 pub use question::Question;
 pub use reg_terms::{Answer, FactorsShown, Op, Query, Reply, Request, RowShown, RowsShown};

@@ -5,7 +5,7 @@ use Rattle.clap.specs.declared.parser.matches.Found.{Found}
 use Rattle.clap.specs.declared.error.Error.{Error}
 use Rattle.clap.specs.declared.error.kind.ErrorKind.TheVariants as kind
 use Rattle.clap.proofs.OnLiterals.{clap_on_literals}
-use Rattle.reg_words.specs.Words.{bare, members, history, serve, load, sample, permit, permitted, attested, attestation, provision, commands, as_of, is_none, read_by}
+use Rattle.reg_words.specs.Words.{bare, members, history, serve, load, sample, permit, permitted, attested, attestation, provision, commands, as_of, why, is_none, read_by}
 use Rattle.reg_words.specs.declared.task.Task.{Task}
 
 pub bare_is_simple : (name : Text) → is_simple_and_free (bare name) ≡ true
@@ -59,6 +59,10 @@ commands_is_simple = refl
 pub as_of_is_simple : is_simple_and_free as_of ≡ true
 unfolding clap_on_literals
 as_of_is_simple = refl
+
+pub why_is_simple : is_simple_and_free why ≡ true
+unfolding clap_on_literals
+why_is_simple = refl
 
 -- an error that isn't want of memory
 pub some_kind : (kinds : Kinds) (e : Error) → HasKind kinds e → kind_of e ≢ kind.OutOfMemory → kinds ≢ []

@@ -89,6 +89,12 @@ commands = with_option (codes "to") (with_option (codes "from") (bare (codes "co
 abbrev pub as_of : App
 as_of = with_word (codes "at") (bare (codes "as-of"))
 
+-- `why SUBJECT GROUP [--at T]`
+abbrev pub why : App
+why =
+    with_option (codes "at") (with_word (codes "group")
+    (with_word (codes "subject") (bare (codes "why"))))
+
 -- what `members` asks, by what it found
 abbrev pub members_in : List Row → Option Task
 members_in rows =
@@ -186,6 +192,18 @@ commands_in rows = commands_of (first_of (codes "from") rows) (first_of (codes "
 abbrev pub as_of_in : List Row → Option Task
 as_of_in rows = option_map (λ at. task.AsOf at) (first_of (codes "at") rows)
 
+-- what `why` asks, by its words: the report now, or as of a moment
+abbrev pub why_of : Text → Text → Option Text → Task
+why_of subject group None = task.Report (report.Why subject group)
+why_of subject group (Some at) = task.ReportAsOf (report.Why subject group) at
+
+-- the same by what it found
+abbrev pub why_in : List Row → Option Task
+why_in rows =
+    option_and_then (λ subject.
+    option_map (λ group. why_of subject group (first_of (codes "at") rows))
+    (first_of (codes "group") rows)) (first_of (codes "subject") rows)
+
 abbrev pub is_none : Kinds → Bool
 is_none [] = true
 is_none (k ∷ ks) = false
@@ -219,7 +237,8 @@ task_by word words =
     else (if bytes_eq word (codes "provision") then read_by provision provision_in words
     else (if bytes_eq word (codes "commands") then read_by commands commands_in words
     else (if bytes_eq word (codes "as-of") then read_by as_of as_of_in words
-    else None)))))))))))))))
+    else (if bytes_eq word (codes "why") then read_by why why_in words
+    else None))))))))))))))))
 
 -- this names a command
 abbrev pub is_command : Text → Bool
@@ -228,7 +247,7 @@ is_command word =
     (codes "init" ∷ codes "apply" ∷ codes "serve" ∷ codes "check" ∷ codes "members"
     ∷ codes "history" ∷ codes "load" ∷ codes "sample" ∷ codes "permit" ∷ codes "permitted"
     ∷ codes "attested" ∷ codes "attestation" ∷ codes "reminders" ∷ codes "provision"
-    ∷ codes "commands" ∷ codes "as-of" ∷ [])
+    ∷ codes "commands" ∷ codes "as-of" ∷ codes "why" ∷ [])
 
 -- the first of the words does
 abbrev pub name_command : List Text → Bool

@@ -4,7 +4,7 @@ ghost use Rattle.clap.specs.Words.{app_of, fault_of, first_of, found_of, is_simp
 ghost use Rattle.clap.specs.Words.{matches_of, rows_of};
 ghost use Rattle.reg_words.specs.Words.{bare, with_word, with_option, members, history, serve};
 ghost use Rattle.reg_words.specs.Words.{load, sample, permit, permitted, attested, attestation};
-ghost use Rattle.reg_words.specs.Words.{as_of, commands, provision};
+ghost use Rattle.reg_words.specs.Words.{as_of, commands, provision, why};
 
 use clap::error::ErrorKind;
 use clap::{Arg, ArgAction, ArgMatches, Command};
@@ -146,6 +146,16 @@ pub fn as_of<'a>(alloc: Global) -> Result<Command<'a>, AllocError>
 {
     let command = bare(alloc, "as-of");
     with_word(alloc, command, "at")
+}
+
+/// `why SUBJECT GROUP [--at T]`
+pub fn why<'a>(alloc: Global) -> Result<Command<'a>, AllocError>
+    ensures { IfOk result (λ c. app_of c ≡ why) }
+{
+    let command = bare(alloc, "why");
+    let command = with_word(alloc, command, "subject")?;
+    let command = with_word(alloc, command, "group")?;
+    with_option(alloc, command, "at")
 }
 
 /// What a command finds in the words, of which the first is its own. None where it doesn't take

@@ -80,6 +80,11 @@ pub enum Report {
     },
     /// The groups whose attestation asks for something.
     Reminders,
+    /// Why a person is an effective member of a group, or isn't.
+    Why {
+        subject: Text,
+        group: Text,
+    },
 }
 
 /// A batch of operations for an outside list of memberships, in the words of its caller: whether
@@ -118,6 +123,9 @@ pub enum Task {
     Ask(Question),
     /// Make one report.
     Report(Report),
+    /// Make one report as it was made at an earlier moment. Whether the text is a moment isn't asked
+    /// yet.
+    ReportAsOf { report: Report, at: Text },
     /// Run a job over a table, which is the input. Whether the job's text is a name isn't asked
     /// yet.
     Load { job: Text },

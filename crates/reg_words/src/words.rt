@@ -9,10 +9,11 @@ ghost use Rattle.reg_words.specs.Words.{is_command, name_command, provision, pro
 ghost use Rattle.reg_words.specs.Words.{commands, commands_in, commands_of, provision_of};
 ghost use Rattle.reg_words.specs.Words.{read_bare, read_by, sample, sample_in, sample_of, serve};
 ghost use Rattle.reg_words.specs.Words.{serve_in, serve_of, task_by, task_of};
+ghost use Rattle.reg_words.specs.Words.{why, why_in, why_of};
 
 use crate::commands::{
     as_of, attestation, attested, bare, commands, found, history, load, members, permit, permitted,
-    provision, sample, serve, value,
+    provision, sample, serve, value, why,
 };
 use crate::numbers::{connections_in, entries_in, place_in, port_in, seed_in, size_in};
 use crate::task::{Places, Provision, Question, Report, Task};
@@ -364,6 +365,42 @@ fn read_as_of(alloc: Global, words: &[String]) -> Result<Option<Task>, AllocErro
     }
 }
 
+/// What `why` asks, by its words.
+fn why_of(subject: Text, group: Text, at: Option<Text>) -> Task
+    ensures { result ≡ why_of subject group at }
+{
+    let report = Report::Why { subject, group };
+    match at {
+        Some(at) => Task::ReportAsOf { report, at },
+        None => Task::Report(report),
+    }
+}
+
+/// What `why` asks, by what it found.
+fn why_in(alloc: Global, matches: &ArgMatches) -> Result<Option<Task>, AllocError>
+    ensures { IfOk result (λ asked. asked ≡ why_in (rows_of (found_of matches.now))) }
+{
+    let Some(subject) = value(alloc, matches, "subject")? else {
+        return Ok(None);
+    };
+    let Some(group) = value(alloc, matches, "group")? else {
+        return Ok(None);
+    };
+    let at = value(alloc, matches, "at")?;
+    Ok(Some(why_of(subject, group, at)))
+}
+
+/// Reads the words of `why SUBJECT GROUP [--at T]`.
+fn read_why(alloc: Global, words: &[String]) -> Result<Option<Task>, AllocError>
+    ensures { IfOk result (λ asked. asked ≡ read_by why why_in (map string_bytes words.now)) }
+{
+    let command = why(alloc)?;
+    match found(command, words)? {
+        Some(matches) => why_in(alloc, &matches),
+        None => Ok(None),
+    }
+}
+
 /// Reads the words of the command of this name.
 fn task_by(alloc: Global, word: &str, words: &[String]) -> Result<Option<Task>, AllocError>
     ensures asked { IfOk result (λ asked. asked
@@ -387,6 +424,7 @@ fn task_by(alloc: Global, word: &str, words: &[String]) -> Result<Option<Task>, 
         "provision" => read_provision(alloc, words),
         "commands" => read_commands(alloc, words),
         "as-of" => read_as_of(alloc, words),
+        "why" => read_why(alloc, words),
         _ => Ok(None),
     }
 }

@@ -17,11 +17,11 @@ fn null(rt: &HostRuntime) -> Option<File> {
 }
 
 /// How the file is opened: only `init` makes one that is absent, so that a mistyped name leaves none
-/// behind, and `as-of` reads it alone, beside a program that serves it too.
+/// behind, and `as-of` and `why` read it alone, beside a program that serves it too.
 fn access(words: &[String]) -> Access {
     match words {
         [first, ..] if first.as_str() == "init" => Access::Make,
-        [first, ..] if first.as_str() == "as-of" => Access::Read,
+        [first, ..] if first.as_str() == "as-of" || first.as_str() == "why" => Access::Read,
         _ => Access::Write,
     }
 }

@@ -1,48 +1,12 @@
-use Rattle.std.proofs.Common.{◌≡◌, ◌∙◌, ℕ, refl, ap, sym, inl, inr, append-nil, [], max}
-use Rattle.reg_keep.specs.JournalWords.{disk_of}
-use Rattle.reg_machine.specs.History.{State}
-use Rattle.reg_run.specs.AsOf.{asked_moment}
-use Rattle.reg_run.proofs.AskedThen.{ends_since}
-use Rattle.reg_run.proofs.Crashing.{untouched_same, survives_kept, survives_none, stops_whole, no_shorter}
-use Rattle.reg_run.proofs.Rereading.{still_same, survives_reread}
+use Rattle.std.proofs.Common.{Ok, Err, refl}
+use Rattle.reg_run.specs.AsOf.{AnswersLines}
+use Rattle.reg_run.proofs.AskedThen.{did_then}
 use Rattle.reg_run.proofs.as_of.as_of_over.Goals as goal
 
--- the journal didn't open, so the disk was only read
-pub returns-in-Err-clause-did : goal.returns-in-Err-clause-did
-returns-in-Err-clause-did g c net = inl (record {
-  cause = c.in-Err.ensures.cause;
-  input = (refl, refl);
-  output = (refl, refl, refl);
-  clock = refl;
-  net = refl;
-  disk = untouched_same g.D.Disk c.args.disk c.in-Err.disk c.in-Err.ensures.crash_err (g.met.D.Disk.only_now c.args.disk) c.in-Err.ensures.same_err;
-})
-
--- it did, and was read once more
+-- the registry as it was is asked
 pub returns-in-Ok-clause-did : goal.returns-in-Ok-clause-did
-returns-in-Ok-clause-did g c net =
-    let from = c.in-Ok.service.state in
-    let old = c.args.disk in
-    let mid = disk_of c.in-Ok.service.keeper in
-    let new = c.answer_at.result.1 in
-    let same = sym (append-nil from.history) in
-    let only = g.met.D.Disk.only_now old in
-    let again = rw c.close.ensures.disk at c.answer_at.ensures in
-    let latest : c.later_of-latest.result ≡ max from.clock c.now-now.result = c.later_of-latest.ensures.value ∙ ap (λ (n : ℕ). max n c.now-now.result) (c.clock.ensures ∙ ap (λ (s : State). s.clock) c.machine.ensures) in
-    let left = survives_none g.D.Disk from.history _ _ old mid (survives_kept g.D.Disk from.history from.history from.history [] _ old mid mid c.in-Ok.ensures.crash only c.in-Ok.ensures.same (g.met.D.Disk.reads_now mid)
-    same (no_shorter from.history from.history [] same) (inl refl) (λ is. refl)
-    (stops_whole from.history from.history c.in-Ok.service.keeper c.in-Ok.service.keeper c.stays.ensures.crash c.close.ensures.again (rw c.close.ensures.disk at c.close.ensures.images))) in
-    inr (
-      from,
-      c.in-Ok.ensures.opens,
-      record {
-        now = c.now-now.result;
-        moment = c.now-now.ensures.moment;
-        ends = ends_since (asked_moment c.args.at.now (max from.clock c.now-now.result)) from _ _ _ _ c.answer_at.result.0 _ _ _ _ c.in-Ok.ensures.later
-            (rw latest at (rw c.in-Ok.ensures.same at (again.ends from (rw c.in-Ok.ensures.same c.in-Ok.ensures.opens))));
-        clock = c.now-now.ensures.later;
-        net = refl;
-        same = untouched_same g.D.Disk old new (still_same g.D.Disk old mid new c.in-Ok.ensures.crash again.crash) only (rw c.in-Ok.ensures.same at again.same);
-        disk = survives_reread g.D.Disk from.history [] 0 _ old mid new c.in-Ok.ensures.crash.later again.crash again.same left;
-      },
-    )
+returns-in-Ok-clause-did g c net = did_then _ AnswersLines c.args.at.now (Ok c.in-Ok.earlier) _ _ _ (rw c.in-Ok.is at c.find_earlier-found.ensures.finds) c.answer_lines.ensures refl
+
+-- there is none
+pub returns-in-Err-clause-did : goal.returns-in-Err-clause-did
+returns-in-Err-clause-did g c net = did_then _ AnswersLines c.args.at.now (Err c.in-Err.why) _ _ _ (rw c.in-Err.is at c.find_earlier-found.ensures.finds) (refl, c.print_why.ensures) refl

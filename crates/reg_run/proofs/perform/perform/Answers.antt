@@ -18,6 +18,9 @@ returns-in-Commands-clause-did g c = rw c.in-Commands.is (c.commands_over.ensure
 pub returns-in-AsOf-clause-did : goal.returns-in-AsOf-clause-did
 returns-in-AsOf-clause-did g c = rw c.in-AsOf.is (c.as_of_over.ensures.did (net_of g.L.Listener c.args.net.now))
 
+pub returns-in-ReportAsOf-clause-did : goal.returns-in-ReportAsOf-clause-did
+returns-in-ReportAsOf-clause-did g c = rw c.in-ReportAsOf.is (c.report_as_of_over.ensures.did (world g.S.Source g.K.Sink g.D.Disk g.C.Clock c.args.input.now c.args.out.now c.args.disk c.args.clock.now (net_of g.L.Listener c.args.net.now)))
+
 pub returns-in-Ask-clause-did : goal.returns-in-Ask-clause-did
 returns-in-Ask-clause-did g c = rw c.in-Ask.is (c.ask_over.ensures.did (world g.S.Source g.K.Sink g.D.Disk g.C.Clock c.args.input.now c.args.out.now c.args.disk c.args.clock.now (net_of g.L.Listener c.args.net.now)))
 

@@ -1,0 +1,11 @@
+pub mod Closing
+pub mod Ends
+pub mod Exact
+pub mod Filtering
+pub mod Firsts
+pub mod Items
+pub mod Levels
+pub mod Numbers
+pub mod Picking
+pub mod Reaches
+pub mod Standing

@@ -1,0 +1,5 @@
+pub mod Ways
+pub mod Reasons
+pub mod Counts
+pub mod Picks
+pub mod Stated
