@@ -5,7 +5,7 @@ where the command isn't refused.
 """
 
 from dataclasses import replace
-from typing import TYPE_CHECKING, List, Optional, Union
+from typing import TYPE_CHECKING, Dict, List, Optional, Union
 
 import names
 import refusals
@@ -34,6 +34,7 @@ class Edit(Turn):
         super().__init__(registry, by)
         self.facts = self.state.facts.copy()
         self.entries: List[Entry] = []
+        self.did: Dict[str, object] = {}  # a load's rows: the list of commands tells them
 
     def note(
         self, kind: str, thing: Optional[Thing] = None, entity: Optional[Thing] = None,

@@ -93,6 +93,7 @@ def load(edit: Edit, name: str, table: str) -> Dict[str, int]:
     plan = make_plan(edit, job, records)
     demand_safe(job, plan)
     carry_out(edit, plan)
+    edit.did = rows_of(edit, plan)
     return {
         "added": len(plan.added),
         "created": len(plan.created),
@@ -193,3 +194,16 @@ def carry_out(edit: Edit, plan: Plan) -> None:
         group = made[name] if name in made else edit.state.names[name]
         edit.facts.rows[(group, person)] = Window(edit.moment, None)
         edit.note("row.add", group, person)
+
+
+def rows_of(edit: Edit, plan: Plan) -> Dict[str, object]:
+    """What the run did, in names, as the list of commands and the journal have it."""
+
+    def row(group_name: str, person: Thing) -> Dict[str, str]:
+        return {"group": group_name, "person": edit.facts.name(person)}
+
+    return {
+        "created": plan.created,
+        "removed": [row(edit.facts.name(group), person) for group, person in plan.removed],
+        "added": [row(name, person) for name, person in plan.added],
+    }

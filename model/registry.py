@@ -5,7 +5,7 @@ with it. It keeps no sets and no indexes: after each step everything is worked o
 rows, and each moment's facts are kept whole. README.md says where to begin reading.
 """
 
-from typing import Dict, List, Tuple
+from typing import Dict, List, NamedTuple
 
 import attributes
 import consumers
@@ -37,6 +37,14 @@ FAMILIES = (
 )
 
 
+class Accepted(NamedTuple):
+    """An accepted command: when it acted, its line, and what else the list of commands tells."""
+
+    moment: int
+    line: str
+    did: Dict[str, object]
+
+
 class Registry:
     """What the accepted commands made, from the first one on."""
 
@@ -45,7 +53,7 @@ class Registry:
         self.state = State(first_facts(), 0)
         self.past = Past(self.state)
         self.log: List[log.Entry] = []
-        self.accepted: List[Tuple[int, str]] = []
+        self.accepted: List[Accepted] = []
 
     def answer(self, moment: int, line: str) -> str:
         """The reply to a line that is read at a moment.
@@ -70,7 +78,7 @@ class Registry:
         carried = request.operation.meaning(edit, *request.values) or {}
         limits.demand_room(self.state.facts, edit.facts, len(self.accepted) + 1)
         self.step(self.clock, edit.facts, edit.entries)
-        self.accepted.append((self.clock, line))
+        self.accepted.append(Accepted(self.clock, line, edit.did or carried))
         return {"ok": True, "number": len(self.accepted), **carried}
 
     def pass_to(self, moment: int) -> None:
@@ -103,6 +111,6 @@ class Registry:
         The clock is the last one's, and may be set back to it; dates after it are to come again.
         """
         again = Registry()
-        for moment, line in self.accepted:
-            again.answer(moment, line)
+        for command in self.accepted:
+            again.answer(command.moment, command.line)
         return again

@@ -32,6 +32,12 @@ OF_VALUE_KIND: Dict[str, List[object]] = {
 }
 
 
+def text_of(moment: int) -> str:
+    """A moment's text; of some moments without the zeros at its end."""
+    text = moments.text(moment)
+    return text if moment % 3 else text[:-1].rstrip("0").rstrip(".") + "Z"
+
+
 class Choices:
     """Draws for one history."""
 
@@ -147,7 +153,7 @@ class Choices:
             moment = self.change() + self.random.randint(-1, 1)
         else:
             moment = self.one_of([0, 1, moments.GREATEST - 1, moments.GREATEST, clock])
-        return moments.text(max(0, min(moments.GREATEST, moment)))
+        return text_of(max(0, min(moments.GREATEST, moment)))
 
     def change(self) -> int:
         """A moment at which something happened."""
@@ -159,7 +165,7 @@ class Choices:
         near = self.change() + self.random.randint(-1, 1)
         far = self.one_of([0, clock - 1, clock, clock + 1, moments.GREATEST])
         moment = near if self.chance(0.75) else far
-        return moments.text(max(0, min(moments.GREATEST, moment)))
+        return text_of(max(0, min(moments.GREATEST, moment)))
 
     def place(self) -> int:
         """A number of the log, or one just outside what may be acknowledged."""

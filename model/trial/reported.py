@@ -14,7 +14,7 @@ import subprocess
 import sys
 import tempfile
 from random import Random
-from typing import Dict, List, Optional, Tuple
+from typing import Dict, List, Sequence, Tuple
 
 # the model is in the folder above
 sys.path.insert(0, os.path.dirname(os.path.dirname(os.path.abspath(__file__))))
@@ -168,12 +168,15 @@ class History:
         return asked
 
 
-def told(program: Program, words: List[str], moment: int) -> Tuple[str, int]:
-    """What the program prints when the clock says this, and its status."""
+def told(
+    program: Program, words: List[str], moment: int, lines: Sequence[str] = ()
+) -> Tuple[str, int]:
+    """What the program prints for these lines when the clock says this, and its status."""
     readings = program.folder / "clock.txt"
     readings.write_text(f"{moment}\n")
     done = subprocess.run(
         [program.path, str(program.folder / "journal"), *words],
+        input="".join(line + "\n" for line in lines).encode(),
         stdout=subprocess.PIPE,
         env=dict(os.environ, CLOCK_LIST=str(readings), LD_PRELOAD=str(program.shim)),
         cwd=program.folder,
