@@ -491,6 +491,11 @@ NESTING = [
     op("member.remove", group="staff", member="g:gsa/team"), op("groups", subject="uni/cid"),
     op("composite.clear", group="active"), op("group.delete", group="suspended"),
 ]
+REASONS = [
+    *PERSONS, *(op("group.add", group=name) for name in ("staff", "team", "suspended", "active")),
+    *add("staff", "uni/ann", "g:gsa/team"), *add("team", "uni/ann", "uni/bob"), *add("suspended", "uni/bob"),
+    op("composite.set", group="active", kind="complement", left="staff", right="suspended"),
+]
 # the clock tells a second more for each line: the ends come while the lines go on
 DATES = [
     op("group.add", group="staff"), op("group.add", group="keys"),
@@ -517,7 +522,7 @@ def posted(**command):
 
 
 def trials():
-    persons, jobs = made(PERSONS), made(JOBS)
+    persons, jobs, reasons = made(PERSONS), made(JOBS), made(REASONS)
     return [
         Words("init", None, ["init"]),
         Lines("first commands", EMPTY, FIRST),
@@ -528,6 +533,8 @@ def trials():
         Words("check", jobs, ["check"]),
         Words("members", jobs, ["members", "courses:art"]),
         Words("history of no group", jobs, ["history", "courses:none"]),
+        Words("why", reasons, ["why", "uni/ann", "active"]),
+        Words("why as it was", reasons, ["why", "uni/bob", "active", "--at", "2026-01-02T00:00:00Z"]),
         Connections("two connections", jobs, [
             [posted(op="group.add", group="courses:new"), message("GET", "/groups/courses:art/members"),
              posted(op="member.add", group="courses:new", member="uni/bob")],
