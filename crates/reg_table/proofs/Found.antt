@@ -1,138 +1,152 @@
--- What the stamps find, after one row more, one less and one replaced.
-use Rattle.std.proofs.Common.{◌≡◌, ◌<◌, ◌+◌, ◌++◌, ℕ, [], ◌∷◌, Bool, true, false, not, cond, Option, Some, None, refl, sym, ap, ◌∙◌, subst, map, filter, inl, inr}
-use Rattle.std.specs.Prelude.{if◌then◌else◌, is_some}
-use Rattle.std.specs.Option.{option_or}
+-- The rows of a table after one more, one less and one replaced, and what is found among them.
+use Rattle.std.proofs.Common.{◌≡◌, ◌≤◌, ◌<◌, ◌+◌, ◌++◌, ℕ, suc, length, List, [], ◌∷◌, true, not, cond, Some, None, refl, sym, ap, ◌∙◌, map, filter, arith, inl, inr}
+use Rattle.std.specs.Prelude.{is_some}
+use Rattle.std.specs.Option.{option_map}
 use Rattle.std.specs.List.{list_any, find}
 use Rattle.std.specs.Ordering.{nat_cmp}
 use Rattle.std.specs.Cmp.{IsTotalOrder}
 use Rattle.std.specs.declared.cmp.Ordering.{Ordering}
-use Rattle.std.specs.Map.{keys_of, values_of, lookup, remove_entry, set_value}
-use Rattle.std.specs.BTreeMap.{BTreeMap, get, is_at, keys, values, insert_entry, IsOrdered}
-use Rattle.std.proofs.lemmas.List.{map-append}
+use Rattle.std.specs.Map.{values_of, remove_entry}
+use Rattle.std.specs.BTreeMap.{BTreeMap, get, is_at, values, insert_entry, IsOrdered}
+use Rattle.std.proofs.lemmas.List.{map-append, length-map}
 use Rattle.std.proofs.lemmas.Bool.{cases_Bool}
-use Rattle.reg_table.specs.Stamps.{stamp_of}
-use Rattle.reg_table.specs.Finds.{has_key, Finds}
-use Rattle.reg_table.proofs.Entries.{sides, entry_by, entry_last, entry_less, entry_kept, entry_replaced, entry_altered, keys_less, keys_stay}
-use Rattle.reg_table.proofs.Keys.{turned, same_key, other_key, once_at, once_push, once_filter, once_put, put, put_key}
-use Rattle.reg_table.proofs.Lists.{unremoved, unedited, none_left}
-use Rattle.reg_table.proofs.Stamps.{none_stamped, stamped_push, stamp_push, stamp_none, stamp_stands, stamp_map, stamped_map, unstamped, row_by_stamp, find_some, unfound}
+use Rattle.std.proofs.lemmas.Cmp.{nat_cmp_total}
+use Rattle.reg_table.specs.declared.stamped.Stamped.{Stamped}
+use Rattle.reg_table.specs.Keyed.{in_order}
+use Rattle.reg_table.specs.Stamps.{stamp_of, row_of, stamp_order, by_stamp}
+use Rattle.reg_table.specs.Finds.{has_key, AreOnce, Finds}
+use Rattle.reg_table.proofs.Entries.{all_put, all_less, apart_more, below_more, key_at, find_entry, any_entry, once_entries, entry_less, entry_put, apart_put}
+use Rattle.reg_table.proofs.Groups.{none_filtered}
+use Rattle.reg_table.proofs.Keys.{itself, turned, alike, once_at, once_filter, put}
+use Rattle.reg_table.proofs.Lists.{PassesOnce, all_map, all_filter, any_of, filter_of, find_map, find_passes, map_of, one_kept, unedited}
+use Rattle.reg_table.proofs.Passing.{order_any}
+use Rattle.reg_table.proofs.Stamps.{Below, order_map, order_filter, one_filtered, order_find, order_last, order_length}
 
-put_in : (b t : Bool) (n : ℕ) (o : Option ℕ) → t ≡ b → (b ≡ true → o ≡ None) → cond b (Some n) o ≡ option_or o (if t then Some n else None)
-put_in true t n o e h = rw (e, h refl) refl
-put_in false t n None e h = rw e refl
-put_in false t n (Some s) e h = refl
+no_length : {R : Type 0} (rows : List R) → suc (length rows) ≤ 1 → rows ≡ []
+no_length [] h = refl
+no_length (r ∷ rows) h = absurd (omega (arith, h))
 
 module _ {K R : Type 0} (cmp : K → K → Ordering) (key : R → K) (total : IsTotalOrder cmp) where
-  pub finds_none : (stamps : BTreeMap K ℕ) (rows : BTreeMap ℕ R) (next : ℕ) → stamps.entries ≡ [] → rows.entries ≡ [] → Finds cmp key stamps rows next
-  finds_none stamps rows next m o = record { found = λ k. rw (m, o) refl; once = rw o tt; stamped = rw o (none_stamped next) }
-
-  -- a row more, behind the others
-  pub rows_more : (old new : BTreeMap ℕ R) (next : ℕ) (row : R) → new.entries ≡ old.entries ++ (next, row) ∷ [] → values new ≡ values old ++ row ∷ []
-  rows_more old new next row ordered = ap (λ es. values_of es) ordered ∙ map-append (λ (e : ℕ × R). e.1) old.entries ((next, row) ∷ [])
-
-  pub finds_more : (old new : BTreeMap K ℕ) (was is : BTreeMap ℕ R) (next : ℕ) (row : R) → Finds cmp key old was next → list_any (has_key cmp key (key row)) (values was) ≡ false
-      → ((k : K) → get cmp new k ≡ cond (is_at (cmp (key row)) k) (Some next) (get cmp old k)) → is.entries ≡ was.entries ++ (next, row) ∷ [] → Finds cmp key new is (next + 1)
-  finds_more old new was is next row kept none marked ordered = record {
-    found = λ k. marked k ∙ rw (kept.found k, rows_more was is next row ordered, keyed, stamp_push (has_key cmp key k) row next (values was) (keys was) kept.stamped.side_by_side)
-        (put_in (is_at (cmp (key row)) k) (has_key cmp key k row) next (stamp_of (has_key cmp key k) (values was) (keys was)) (turned cmp total k (key row))
-        (λ hit. stamp_none (has_key cmp key k) (values was) (keys was) (ap (λ test. list_any test (values was)) (sym (same_key cmp key total (key row) k hit)) ∙ none)));
-    once = rw (rows_more was is next row ordered) (once_push cmp key total (values was) row kept.once none);
-    stamped = rw (rows_more was is next row ordered, keyed) (stamped_push row next (keys was) (values was) kept.stamped);
-  }
+  -- where each key has one row at most
+  once_by : (rows : List R) → ((k : K) → length (filter (has_key cmp key k) rows) ≤ 1) → AreOnce cmp key rows
+  once_by [] most = tt
+  once_by (r ∷ rows) most =
+      let here : suc (length (filter (has_key cmp key (key r)) rows)) ≤ 1 = rw (itself cmp total (key r)) at (most (key r)) in
+      (none_filtered (has_key cmp key (key r)) rows (no_length (filter (has_key cmp key (key r)) rows) here), once_by rows rest)
     where
-      keyed : keys is ≡ keys was ++ next ∷ []
-      keyed = ap (λ es. keys_of es) ordered ∙ map-append (λ (e : ℕ × R). e.0) was.entries ((next, row) ∷ [])
+      rest : (k : K) → length (filter (has_key cmp key k) rows) ≤ 1
+      rest k = elim (cases_Bool (has_key cmp key k r)) [
+        | inl t ↦ let all : suc (length (filter (has_key cmp key k) rows)) ≤ 1 = rw t at (most k) in omega (arith, all)
+        | inr t ↦ rw t at (most k)
+      ]
 
-  pub finds_more_at : (old new : BTreeMap K ℕ) (was is : BTreeMap ℕ R) (next after : ℕ) (row : R) (k : K) → k ≡ key row → after ≡ next + 1 → Finds cmp key old was next → list_any (has_key cmp key (key row)) (values was) ≡ false
-      → ((q : K) → get cmp new q ≡ cond (is_at (cmp k) q) (Some next) (get cmp old q)) → is.entries ≡ was.entries ++ (next, row) ∷ [] → Finds cmp key new is after
-  finds_more_at old new was is next after row k here more kept none marked ordered =
-      rw more (finds_more old new was is next row kept none (subst (λ z. (q : K) → get cmp new q ≡ cond (is_at (cmp z) q) (Some next) (get cmp old q)) here marked) ordered)
+  module _ (stored : BTreeMap K (Stamped R)) (next : ℕ) (kept : Finds cmp key stored next) where
+    once_stored : AreOnce cmp (key_at cmp key total) (values stored)
+    once_stored = once_entries cmp key total stored.entries kept.ordered kept.keyed
 
-  -- a key put in and taken out again
-  pub finds_back : (old mid new : BTreeMap K ℕ) (was is : BTreeMap ℕ R) (next n : ℕ) (row : R) (k : K) → k ≡ key row → Finds cmp key old was next → list_any (has_key cmp key (key row)) (values was) ≡ false
-      → ((q : K) → get cmp mid q ≡ cond (is_at (cmp k) q) (Some n) (get cmp old q)) → ((q : K) → get cmp new q ≡ cond (is_at (cmp k) q) None (get cmp mid q)) → is.entries ≡ was.entries → Finds cmp key new is next
-  finds_back old mid new was is next n row k here kept free put out same = record {
-    found = λ q. rw (ap (λ es. values_of es) same, ap (λ es. keys_of es) same) (out q ∙ elim (cases_Bool (is_at (cmp k) q)) [
-      | inl hit ↦ rw hit (sym (stamp_none (has_key cmp key q) (values was) (keys was) (ap (λ test. list_any test (values was)) (sym (same_key cmp key total k q hit)) ∙ none)))
-      | inr miss ↦ rw miss (put q ∙ rw miss (kept.found q))
-    ]);
-    once = rw (ap (λ es. values_of es) same) kept.once;
-    stamped = rw (ap (λ es. values_of es) same, ap (λ es. keys_of es) same) kept.stamped;
-  }
-    where
-      none : list_any (has_key cmp key k) (values was) ≡ false
-      none = rw here free
+    once_key : (k : K) → PassesOnce (has_key cmp (key_at cmp key total) k) (values stored)
+    once_key k = once_at cmp (key_at cmp key total) total k (values stored) once_stored
 
-  pub last : (rows : BTreeMap ℕ R) (stamps : BTreeMap K ℕ) (next : ℕ) (row : R) → Finds cmp key stamps rows next → insert_entry nat_cmp rows.entries next row ≡ rows.entries ++ (next, row) ∷ []
-  last rows stamps next row kept = entry_last next row rows.entries kept.stamped.below
+    pub once_rows : AreOnce cmp key (by_stamp (values stored))
+    once_rows = once_by (by_stamp (values stored)) (λ k.
+        let same : filter (has_key cmp key k) (by_stamp (values stored)) ≡ map row_of (filter (has_key cmp (key_at cmp key total) k) (values stored)) =
+        filter_of row_of (has_key cmp key k) (in_order stamp_order (values stored))
+        ∙ ap (map row_of) (order_filter (has_key cmp (key_at cmp key total) k) (values stored) kept.apart ∙ one_filtered (has_key cmp (key_at cmp key total) k) (values stored) (once_key k)) in
+        let many = length-map (filter (has_key cmp (key_at cmp key total) k) (values stored)) row_of in
+        let most = one_kept (has_key cmp (key_at cmp key total) k) (values stored) (once_key k) in
+        rw same (omega (arith, many, most)))
 
-  -- a row less
-  pub rows_less : (stamps : BTreeMap K ℕ) (was is : BTreeMap ℕ R) (next : ℕ) (k : K) (s : ℕ) → Finds cmp key stamps was next → get cmp stamps k ≡ Some s → is.entries ≡ remove_entry (is_at (nat_cmp s)) was.entries
-      → values is ≡ filter (λ r. not (has_key cmp key k r)) (values was)
-  rows_less stamps was is next k s kept at gone = ap (λ es. values_of es) gone ∙ entry_less (has_key cmp key k) s was.entries (sym (kept.found k) ∙ at) kept.stamped.rise (once_at cmp key total k (values was) kept.once)
+    pub rows_length : length (by_stamp (values stored)) ≡ length (values stored)
+    rows_length = length-map (in_order stamp_order (values stored)) row_of ∙ order_length (values stored) kept.apart
 
-  pub finds_less : (old new : BTreeMap K ℕ) (was is : BTreeMap ℕ R) (next : ℕ) (k : K) (s : ℕ) → Finds cmp key old was next → get cmp old k ≡ Some s → ((q : K) → get cmp new q ≡ cond (is_at (cmp k) q) None (get cmp old q))
-      → is.entries ≡ remove_entry (is_at (nat_cmp s)) was.entries → IsOrdered nat_cmp is → Finds cmp key new is next
-  finds_less old new was is next k s kept at marked gone rise = record {
-    found = λ q. marked q ∙ rw (kept.found q) (elim (cases_Bool (is_at (cmp k) q)) [
-      | inl hit ↦ rw hit (sym (stamp_none (has_key cmp key q) (values is) (keys is) (ap (λ test. list_any test (values is)) (sym (same_key cmp key total k q hit)) ∙ rw left (none_left (has_key cmp key k) (values was)))))
-      | inr miss ↦ rw (miss, gone) (sym (entry_kept (has_key cmp key k) s (has_key cmp key q) (λ r h. other_key cmp key total k q r h miss) was.entries (sym (kept.found k) ∙ at) kept.stamped.rise))
-    ]);
-    once = rw left (once_filter cmp key total (λ r. not (has_key cmp key k r)) (values was) kept.once);
-    stamped = record {
-      rise = rise;
-      below = rw gone (keys_less (λ n. n < next) (is_at (nat_cmp s)) was.entries kept.stamped.below);
-      side_by_side = sides is.entries;
-    };
-  }
-    where
-      left : values is ≡ filter (λ r. not (has_key cmp key k r)) (values was)
-      left = rows_less old was is next k s kept at gone
+    -- what is found
+    pub key_stands : (k : K) → is_some (get cmp stored k) ≡ list_any (has_key cmp key k) (by_stamp (values stored))
+    key_stands k = sym (
+        any_of row_of (has_key cmp key k) (in_order stamp_order (values stored))
+        ∙ (order_any nat_cmp stamp_of nat_cmp_total (has_key cmp (key_at cmp key total) k) (values stored) kept.apart
+        ∙ any_entry cmp key total k stored.entries kept.keyed))
 
-  -- a key that no row has
-  pub key_stands : (stamps : BTreeMap K ℕ) (rows : BTreeMap ℕ R) (next : ℕ) (k : K) → Finds cmp key stamps rows next → is_some (get cmp stamps k) ≡ list_any (has_key cmp key k) (values rows)
-  key_stands stamps rows next k kept = ap is_some (kept.found k) ∙ stamp_stands (has_key cmp key k) (values rows) (keys rows) kept.stamped.side_by_side
+    pub key_finds : (k : K) → option_map row_of (get cmp stored k) ≡ find (has_key cmp key k) (by_stamp (values stored))
+    key_finds k = sym (
+        find_map row_of (has_key cmp key k) (in_order stamp_order (values stored))
+        ∙ ap (option_map row_of) (order_find (has_key cmp (key_at cmp key total) k) (values stored) kept.apart (once_key k) ∙ find_entry cmp key total k stored.entries kept.keyed))
 
-  pub none_less : (stamps : BTreeMap K ℕ) (rows : BTreeMap ℕ R) (next : ℕ) (k : K) → Finds cmp key stamps rows next → get cmp stamps k ≡ None → values rows ≡ filter (λ r. not (has_key cmp key k r)) (values rows)
-  none_less stamps rows next k kept none = unremoved (has_key cmp key k) (values rows) (unstamped (has_key cmp key k) next (values rows) (keys rows) kept.stamped (sym (kept.found k) ∙ none))
+    -- no row to be replaced
+    pub none_put : (row : R) (k : K) → k ≡ key row → get cmp stored k ≡ None → by_stamp (values stored) ≡ map (put cmp key total row) (by_stamp (values stored))
+    none_put row k here none =
+        unedited (has_key cmp key (key row)) (put cmp key total row) (λ r h. rw h refl) (by_stamp (values stored))
+        (sym (key_stands (key row)) ∙ rw (← here) (ap is_some none))
 
-  pub none_found : (stamps : BTreeMap K ℕ) (rows : BTreeMap ℕ R) (next : ℕ) (k : K) → Finds cmp key stamps rows next → get cmp stamps k ≡ None → find (has_key cmp key k) (values rows) ≡ None
-  none_found stamps rows next k kept none = unfound (has_key cmp key k) next (values rows) (keys rows) kept.stamped (sym (kept.found k) ∙ none)
+    -- a row more, behind the others
+    module _ (new : BTreeMap K (Stamped R)) (k : K) (s : Stamped R) (free : get cmp stored k ≡ None) (last : s.stamp ≡ next) (written : new.entries ≡ insert_entry cmp stored.entries k s) where
+      low : Below s.stamp (values stored)
+      low = rw last kept.below
 
-  pub none_put : (stamps : BTreeMap K ℕ) (rows : BTreeMap ℕ R) (next : ℕ) (row : R) → Finds cmp key stamps rows next → get cmp stamps (key row) ≡ None → values rows ≡ map (put cmp key total row) (values rows)
-  none_put stamps rows next row kept none =
-      unedited (has_key cmp key (key row)) (put cmp key total row) (λ r h. rw h refl) (values rows)
-      (unstamped (has_key cmp key (key row)) next (values rows) (keys rows) kept.stamped (sym (kept.found (key row)) ∙ none))
+      pub rows_more : by_stamp (values new) ≡ by_stamp (values stored) ++ s.row ∷ []
+      rows_more =
+          ap (λ es. by_stamp (values_of es)) written
+          ∙ (ap (map row_of) (order_last cmp k s stored.entries low free)
+          ∙ map-append row_of (in_order stamp_order (values stored)) (s ∷ []))
 
-  -- the row of a stamp
-  pub some_found : (stamps : BTreeMap K ℕ) (rows : BTreeMap ℕ R) (next : ℕ) (k : K) (s : ℕ) → Finds cmp key stamps rows next → get cmp stamps k ≡ Some s → lookup (is_at (nat_cmp s)) rows.entries ≡ find (has_key cmp key k) (values rows)
-  some_found stamps rows next k s kept at = entry_by s rows.entries ∙ row_by_stamp (has_key cmp key k) s next (values rows) (keys rows) kept.stamped (sym (kept.found k) ∙ at)
+      pub finds_more : has_key cmp key k s.row ≡ true → IsOrdered cmp new → Finds cmp key new (next + 1)
+      finds_more at up = record {
+        ordered = up;
+        keyed = rw written (all_put cmp k s (λ e. has_key cmp key e.0 e.1.row ≡ true) (λ q h. sym (alike cmp total k q (key s.row) h) ∙ at) at stored.entries kept.keyed);
+        apart = rw written (apart_more cmp k s stored.entries low free kept.apart);
+        below = rw written (below_more cmp k s next stored.entries (omega (arith, last)) kept.below);
+      }
 
-  pub has_row : (stamps : BTreeMap K ℕ) (rows : BTreeMap ℕ R) (next : ℕ) (k : K) (s : ℕ) → Finds cmp key stamps rows next → get cmp stamps k ≡ Some s → (row : R) × (lookup (is_at (nat_cmp s)) rows.entries ≡ Some row) × (has_key cmp key k row ≡ true)
-  has_row stamps rows next k s kept at =
-      let passed = find_some (has_key cmp key k) s (values rows) (keys rows) (sym (kept.found k) ∙ at) in
-      (passed.0, some_found stamps rows next k s kept at ∙ passed.1, passed.2)
+    -- a row less
+    module _ (new : BTreeMap K (Stamped R)) (k : K) (gone : new.entries ≡ remove_entry (is_at (cmp k)) stored.entries) where
+      left : values new ≡ filter (λ s. not (has_key cmp (key_at cmp key total) k s)) (values stored)
+      left = ap values_of gone ∙ entry_less cmp key total k stored.entries kept.keyed (once_key k)
 
-  -- a row in the place of another
-  pub rows_put : (stamps : BTreeMap K ℕ) (was is : BTreeMap ℕ R) (next : ℕ) (row : R) (s : ℕ) → Finds cmp key stamps was next → get cmp stamps (key row) ≡ Some s → is.entries ≡ insert_entry nat_cmp was.entries s row → values is ≡ map (put cmp key total row) (values was)
-  rows_put stamps was is next row s kept at written =
-      let old = has_row stamps was next (key row) s kept at in
-      ap (λ es. values_of es) (written ∙ entry_replaced (has_key cmp key (key row)) s was.entries row stamped kept.stamped.rise)
-      ∙ (ap (λ r. values_of (set_value (is_at (nat_cmp s)) was.entries r)) (sym (rw old.2 refl))
-      ∙ entry_altered (has_key cmp key (key row)) s (put cmp key total row) (λ r h. rw h refl) was.entries old.0 stamped kept.stamped.rise (once_at cmp key total (key row) (values was) kept.once) old.1)
-    where
-      stamped : stamp_of (has_key cmp key (key row)) (values was) (keys was) ≡ Some s
-      stamped = sym (kept.found (key row)) ∙ at
+      pub rows_less : by_stamp (values new) ≡ filter (λ r. not (has_key cmp key k r)) (by_stamp (values stored))
+      rows_less =
+          ap by_stamp left
+          ∙ (ap (map row_of) (sym (order_filter (λ s. not (has_key cmp (key_at cmp key total) k s)) (values stored) kept.apart))
+          ∙ sym (filter_of row_of (λ r. not (has_key cmp key k r)) (in_order stamp_order (values stored))))
 
-  pub finds_put : (stamps : BTreeMap K ℕ) (was is : BTreeMap ℕ R) (next : ℕ) (row : R) (s : ℕ) → Finds cmp key stamps was next → get cmp stamps (key row) ≡ Some s → is.entries ≡ insert_entry nat_cmp was.entries s row → Finds cmp key stamps is next
-  finds_put stamps was is next row s kept at written = record {
-    found = λ k. rw (rows, keyed) (kept.found k ∙ sym (stamp_map (has_key cmp key k) (put cmp key total row) (put_key cmp key total row k) (values was) (keys was)));
-    once = rw rows (once_put cmp key total row (values was) kept.once);
-    stamped = rw (rows, keyed) (stamped_map (put cmp key total row) next (keys was) (values was) kept.stamped);
-  }
-    where
-      rows : values is ≡ map (put cmp key total row) (values was)
-      rows = rows_put stamps was is next row s kept at written
+      pub finds_less : IsOrdered cmp new → Finds cmp key new next
+      finds_less up = record {
+        ordered = up;
+        keyed = rw gone (all_less (λ e. has_key cmp key e.0 e.1.row ≡ true) (is_at (cmp k)) stored.entries kept.keyed);
+        apart = rw left (once_filter nat_cmp stamp_of nat_cmp_total (λ s. not (has_key cmp (key_at cmp key total) k s)) (values stored) kept.apart);
+        below = rw left (all_filter (λ s. not (has_key cmp (key_at cmp key total) k s)) (λ s. s.stamp < next) (values stored) kept.below);
+      }
 
-      keyed : keys is ≡ keys was
-      keyed = ap (λ es. keys_of es) (written ∙ entry_replaced (has_key cmp key (key row)) s was.entries row (sym (kept.found (key row)) ∙ at) kept.stamped.rise) ∙ keys_stay (is_at (nat_cmp s)) was.entries row
+    -- a row in the place of another
+    module _ (new : BTreeMap K (Stamped R)) (k : K) (row : R) (old : Stamped R) (here : k ≡ key row) (found : get cmp stored k ≡ Some old) (written : new.entries ≡ insert_entry cmp stored.entries k (record { stamp = old.stamp; row = row })) where
+      abbrev with_row : Stamped R → Stamped R
+      with_row s = cond (has_key cmp key k s.row) (record { stamp = s.stamp; row = row }) s
+
+      same_stamp : (s : Stamped R) → (with_row s).stamp ≡ s.stamp
+      same_stamp s = elim (cases_Bool (has_key cmp key k s.row)) [ inl t ↦ rw t refl | inr t ↦ rw t refl ]
+
+      same_row : (s : Stamped R) → cond (has_key cmp key k s.row) row s.row ≡ (with_row s).row
+      same_row s = elim (cases_Bool (has_key cmp key k s.row)) [ inl t ↦ rw t refl | inr t ↦ rw t refl ]
+
+      old_here : has_key cmp key k old.row ≡ true
+      old_here = find_passes (has_key cmp (key_at cmp key total) k) old (values stored) (find_entry cmp key total k stored.entries kept.keyed ∙ found)
+
+      replaced : values new ≡ map with_row (values stored)
+      replaced =
+          let same : with_row old ≡ record { stamp = old.stamp; row = row } = rw old_here refl in
+          ap values_of written
+          ∙ (ap (λ s. values_of (insert_entry cmp stored.entries k s)) (sym same)
+          ∙ entry_put cmp key total k with_row (λ s h. rw h refl) old stored.entries kept.ordered kept.keyed (once_key k) found)
+
+      pub rows_put : by_stamp (values new) ≡ map (put cmp key total row) (by_stamp (values stored))
+      rows_put =
+          ap by_stamp replaced
+          ∙ (ap (map row_of) (sym (order_map with_row same_stamp (values stored)))
+          ∙ (sym (map_of row_of (λ r. cond (has_key cmp key k r) row r) with_row same_row (in_order stamp_order (values stored)))
+          ∙ ap (λ q. map (λ r. cond (has_key cmp key q r) row r) (by_stamp (values stored))) here))
+
+      pub finds_put : IsOrdered cmp new → Finds cmp key new next
+      finds_put up = record {
+        ordered = up;
+        keyed = rw written (all_put cmp k (record { stamp = old.stamp; row = row }) (λ e. has_key cmp key e.0 e.1.row ≡ true) (λ q h. rw (← here) (turned cmp total q k ∙ h)) (rw (← here) (itself cmp total k)) stored.entries kept.keyed);
+        apart = rw replaced (apart_put cmp key total with_row same_stamp (values stored) kept.apart);
+        below = rw replaced (all_map (λ s. s.stamp < next) with_row (λ s h. rw (same_stamp s) h) (values stored) kept.below);
+      }

@@ -89,7 +89,7 @@ module _ {R : Type 0} (test : R → Bool) where
     | inr u ↦ or_right (other r) (list_any other rows) (any_filter other rows (elim (cases_Bool (test r)) [ inl t ↦ rw (t, u) at h | inr t ↦ rw t at h ]))
   ]
 
-  none_filtered : (rows : List R) → filter test rows ≡ [] → list_any test rows ≡ false
+  pub none_filtered : (rows : List R) → filter test rows ≡ [] → list_any test rows ≡ false
   none_filtered [] h = refl
   none_filtered (r ∷ rows) h = elim (cases_Bool (test r)) [
     | inl t ↦ absurd (let some : r ∷ filter test rows ≡ [] = rw t at h in let clash : ⊥ = cc in clash)

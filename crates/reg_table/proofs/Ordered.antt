@@ -1,35 +1,19 @@
--- The rows of a part of the map of stamps are rows in the order of their keys.
-use Rattle.std.proofs.Common.{◌≡◌, ◌≤◌, ℕ, suc, List, [], ◌∷◌, Bool, true, false, cond, Option, Some, None, refl, sym, ap, ◌∙◌, filter, length, arith, inl, inr}
+-- Rows in the order of their keys: those that look-ups find, put in order, and a part of them.
+use Rattle.std.proofs.Common.{◌≡◌, List, [], ◌∷◌, Bool, true, false, cond, Option, Some, None, refl, sym, ap, ◌∙◌, filter, inl, inr}
 use Rattle.std.specs.Prelude.{⊤}
-use Rattle.std.specs.Option.{option_and_then, option_or}
-use Rattle.std.specs.List.{AllByRecursion, list_any, find, cons_option}
-use Rattle.std.specs.List.Sorted.{IsStrictlySortedBy}
-use Rattle.std.specs.Ordering.{match_ordering, ordering_reverse, is_eq, nat_cmp}
+use Rattle.std.specs.Option.{option_or}
+use Rattle.std.specs.List.{AllByRecursion, list_any, find}
+use Rattle.std.specs.Ordering.{match_ordering, ordering_reverse, is_eq}
 use Rattle.std.specs.Cmp.{IsTotalOrder}
 use Rattle.std.specs.declared.cmp.Ordering.{Ordering}
 use Rattle.std.specs.declared.cmp.Ordering.TheVariants.{Less, Equal, Greater}
-use Rattle.std.specs.BTreeMap.{BTreeMap, get, is_at, values, IsOrdered}
+use Rattle.std.specs.BTreeMap.{is_at}
 use Rattle.std.specs.BTreeSet.{insert_key}
-use Rattle.std.specs.Map.{keys_of, lookup}
 use Rattle.std.proofs.lemmas.Bool.{cases_Bool, or_parts}
-use Rattle.std.proofs.lemmas.Cmp.{alike_right}
-use Rattle.std.proofs.lemmas.List.Kept.{IsStrictlySortedBy-filter}
-use Rattle.std.proofs.lemmas.Map.Entries.{lookup-filter-keys}
 use Rattle.reg_table.specs.Keyed.{put_into, in_order}
-use Rattle.reg_table.specs.Ranges.{listed, HaveRows}
-use Rattle.reg_table.specs.Finds.{has_key, AreOnce, Finds}
-use Rattle.reg_table.proofs.Found.{none_found, some_found, has_row}
-use Rattle.reg_table.proofs.Keys.{equal, itself, turned, alike_at, same_key, once_filter}
-use Rattle.reg_table.proofs.Stamps.{no_stamp_is, same_stamp}
-
--- no more rows than stamps
-pub listed_short : {K R : Type 0} (rows : BTreeMap ℕ R) (es : List (K × ℕ)) → length (listed rows es) ≤ length es
-listed_short rows [] = omega arith
-listed_short {R = R} rows (e ∷ es) = by_found (lookup (is_at (nat_cmp e.1)) rows.entries) (listed_short rows es)
-  where
-    by_found : (o : Option R) → length (listed rows es) ≤ length es → length (cons_option o (listed rows es)) ≤ suc (length es)
-    by_found None h = omega (arith, h)
-    by_found (Some r) h = omega (arith, h)
+use Rattle.reg_table.specs.Finds.{has_key, AreOnce}
+use Rattle.reg_table.proofs.Keys.{equal, itself, turned, same_key, once_filter}
+use Rattle.reg_table.proofs.Lists.{not_none, same_some}
 
 module _ {K R : Type 0} (cmp : K → K → Ordering) (key : R → K) (total : IsTotalOrder cmp) where
   -- rows above a key, and rows whose keys ascend
@@ -44,7 +28,7 @@ module _ {K R : Type 0} (cmp : K → K → Ordering) (key : R → K) (total : Is
   above_on k q [] h up = tt
   above_on k q (r ∷ rows) h up = (total.trans k q (key r) h up.0, above_on k q rows h up.1)
 
-  above_same : (k q : K) (rows : List R) → is_at (cmp k) q ≡ true → Above q rows → Above k rows
+  pub above_same : (k q : K) (rows : List R) → is_at (cmp k) q ≡ true → Above q rows → Above k rows
   above_same k q [] h up = tt
   above_same k q (r ∷ rows) h up = (total.congr k q (key r) (equal (cmp k q) h) ∙ up.0, above_same k q rows h up.1)
 
@@ -61,8 +45,8 @@ module _ {K R : Type 0} (cmp : K → K → Ordering) (key : R → K) (total : Is
   -- rows in order are those that look-ups find
   pub same_rows : (xs ys : List R) → InOrder xs → InOrder ys → ((k : K) → find (has_key cmp key k) xs ≡ find (has_key cmp key k) ys) → xs ≡ ys
   same_rows [] [] up vp same = refl
-  same_rows [] (y ∷ ys) up vp same = absurd (no_stamp_is y (same (key y) ∙ found_first y ys))
-  same_rows (x ∷ xs) [] up vp same = absurd (no_stamp_is x (sym (same (key x)) ∙ found_first x xs))
+  same_rows [] (y ∷ ys) up vp same = absurd (not_none y (same (key y) ∙ found_first y ys))
+  same_rows (x ∷ xs) [] up vp same = absurd (not_none x (sym (same (key x)) ∙ found_first x xs))
   same_rows (x ∷ xs) (y ∷ ys) up vp same = by_order (cmp (key x) (key y)) refl (λ one. same_rows xs ys up.1 vp.1 (tails one))
     where
       tails : x ≡ y → (k : K) → find (has_key cmp key k) xs ≡ find (has_key cmp key k) ys
@@ -72,15 +56,15 @@ module _ {K R : Type 0} (cmp : K → K → Ordering) (key : R → K) (total : Is
       ]
 
       by_order : (o : Ordering) → cmp (key x) (key y) ≡ o → (x ≡ y → xs ≡ ys) → x ∷ xs ≡ y ∷ ys
-      by_order Less e rest = absurd (no_stamp_is x (sym (same (key x) ∙ above_none (key x) (y ∷ ys) (e, above_on (key x) (key y) ys e vp.0)) ∙ found_first x xs))
+      by_order Less e rest = absurd (not_none x (sym (same (key x) ∙ above_none (key x) (y ∷ ys) (e, above_on (key x) (key y) ys e vp.0)) ∙ found_first x xs))
       by_order Equal e rest =
           let hit : has_key cmp key (key x) y ≡ true = ap is_eq e in
           let first : find (has_key cmp key (key x)) (y ∷ ys) ≡ Some y = rw hit refl in
-          let one : x ≡ y = same_stamp x y (sym (found_first x xs) ∙ (same (key x) ∙ first)) in
+          let one : x ≡ y = same_some x y (sym (found_first x xs) ∙ (same (key x) ∙ first)) in
           rw (one, rest one) refl
       by_order Greater e rest =
           let low = back (key x) (key y) e in
-          absurd (no_stamp_is y (sym (sym (same (key y)) ∙ above_none (key y) (x ∷ xs) (low, above_on (key y) (key x) xs low up.0)) ∙ found_first y ys))
+          absurd (not_none y (sym (sym (same (key y)) ∙ above_none (key y) (x ∷ xs) (low, above_on (key y) (key x) xs low up.0)) ∙ found_first y ys))
 
   -- ---- rows put in order
   abbrev pub order : R → R → Ordering
@@ -111,7 +95,7 @@ module _ {K R : Type 0} (cmp : K → K → Ordering) (key : R → K) (total : Is
       by_order : (o : Ordering) → order r x ≡ o → (find (has_key cmp key (key r)) xs ≡ None → find (has_key cmp key k) (insert_key order xs r) ≡ cond (has_key cmp key k r) (Some r) (find (has_key cmp key k) xs))
           → find (has_key cmp key k) (match_ordering o (r ∷ x ∷ xs) (x ∷ xs) (x ∷ insert_key order xs r)) ≡ cond (has_key cmp key k r) (Some r) (find (has_key cmp key k) (x ∷ xs))
       by_order Less e rest = refl
-      by_order Equal e rest = absurd (no_stamp_is x (sym free ∙ rw (ap is_eq e) refl))
+      by_order Equal e rest = absurd (not_none x (sym free ∙ rw (ap is_eq e) refl))
       by_order Greater e rest =
           let others = rest (rw (ap is_eq e) at free) in
           elim (cases_Bool (has_key cmp key k x)) [
@@ -180,73 +164,5 @@ module _ {K R : Type 0} (cmp : K → K → Ordering) (key : R → K) (total : Is
       ])
     ]
 
-    part_find : (k : K) (rows : List R) → AreOnce cmp key rows → find (has_key cmp key k) (in_order order (filter (λ r. inside (key r)) rows)) ≡ cond (inside k) (find (has_key cmp key k) rows) None
+    pub part_find : (k : K) (rows : List R) → AreOnce cmp key rows → find (has_key cmp key k) (in_order order (filter (λ r. inside (key r)) rows)) ≡ cond (inside k) (find (has_key cmp key k) rows) None
     part_find k rows once = sorted_find k (filter (λ r. inside (key r)) rows) (once_filter cmp key total (λ r. inside (key r)) rows once) ∙ filter_find k rows
-
-  -- ---- the rows of the stamps
-  module _ (stamps : BTreeMap K ℕ) (rows : BTreeMap ℕ R) (next : ℕ) (kept : Finds cmp key stamps rows next) where
-    abbrev Stands : K × ℕ → Type 0
-    Stands e = get cmp stamps e.0 ≡ Some e.1
-
-    stood : (e : K × ℕ) → Stands e → (row : R) × (lookup (is_at (nat_cmp e.1)) rows.entries ≡ Some row) × (has_key cmp key e.0 row ≡ true)
-    stood e at = has_row cmp key total stamps rows next e.0 e.1 kept at
-
-    pub have_rows : (es : List (K × ℕ)) → AllByRecursion Stands es → HaveRows rows es
-    have_rows [] all = tt
-    have_rows (e ∷ es) all = let row = stood e all.0 in (rw row.1 refl, have_rows es all.1)
-
-    listed_above : (k : K) (es : List (K × ℕ)) → AllByRecursion Stands es → AllByRecursion (λ q. cmp k q ≡ Less) (keys_of es) → Above k (listed rows es)
-    listed_above k [] all up = tt
-    listed_above k (e ∷ es) all up =
-        let row = stood e all.0 in
-        rw row.1 (sym (alike_right total e.0 (key row.0) k (equal (cmp e.0 (key row.0)) row.2)) ∙ up.0, listed_above k es all.1 up.1)
-
-    listed_order : (es : List (K × ℕ)) → AllByRecursion Stands es → IsStrictlySortedBy cmp (keys_of es) → InOrder (listed rows es)
-    unfolding IsStrictlySortedBy
-    listed_order [] all up = tt
-    listed_order (e ∷ es) all up =
-        let row = stood e all.0 in
-        let level = sym (eq_turn (key row.0) e.0) ∙ row.2 in
-        rw row.1 (above_same (key row.0) e.0 (listed rows es) level (listed_above e.0 es all.1 up.0), listed_order es all.1 up.1)
-      where
-        eq_turn : (p q : K) → is_at (cmp q) p ≡ is_at (cmp p) q
-        eq_turn p q = turned cmp total q p
-
-    listed_find : (k : K) (es : List (K × ℕ)) → AllByRecursion Stands es → find (has_key cmp key k) (listed rows es) ≡ option_and_then (λ s. lookup (is_at (nat_cmp s)) rows.entries) (lookup (is_at (cmp k)) es)
-    listed_find k [] all = refl
-    listed_find k (e ∷ es) all =
-        let row = stood e all.0 in
-        let level : is_at (cmp k) e.0 ≡ has_key cmp key k row.0 = alike_at cmp total e.0 (key row.0) k row.2 in
-        rw (row.1, level) (elim (cases_Bool (has_key cmp key k row.0)) [
-          | inl t ↦ rw t (sym row.1)
-          | inr t ↦ rw t (listed_find k es all.1)
-        ])
-
-    -- the part of the map within bounds has the rows within them, in order
-    pub part_rows : (inside : K → Bool) → ((p q : K) → is_at (cmp p) q ≡ true → inside p ≡ inside q) → (es : List (K × ℕ)) → AllByRecursion Stands es → IsOrdered cmp stamps → es ≡ filter (λ (e : K × ℕ). inside e.0) stamps.entries
-        → listed rows es ≡ in_order order (filter (λ r. inside (key r)) (values rows))
-    part_rows inside respects es all up is =
-        same_rows (listed rows es) (in_order order (filter (λ r. inside (key r)) (values rows))) (listed_order es all rise) (sorted (filter (λ r. inside (key r)) (values rows)))
-        (λ k. found k ∙ sym (part_find inside respects k (values rows) kept.once))
-      where
-        keys_filtered : (fs : List (K × ℕ)) → keys_of (filter (λ (e : K × ℕ). inside e.0) fs) ≡ filter inside (keys_of fs)
-        keys_filtered [] = refl
-        keys_filtered (f ∷ fs) = elim (cases_Bool (inside f.0)) [
-          | inl t ↦ rw t (ap (λ ks. f.0 ∷ ks) (keys_filtered fs))
-          | inr t ↦ rw t (keys_filtered fs)
-        ]
-
-        rise : IsStrictlySortedBy cmp (keys_of es)
-        rise = rw (is, keys_filtered stamps.entries) (IsStrictlySortedBy-filter cmp inside (keys_of stamps.entries) up)
-
-        through : (k : K) (o : Option ℕ) → get cmp stamps k ≡ o → option_and_then (λ s. lookup (is_at (nat_cmp s)) rows.entries) o ≡ find (has_key cmp key k) (values rows)
-        through k None e = sym (none_found cmp key total stamps rows next k kept e)
-        through k (Some s) e = some_found cmp key total stamps rows next k s kept e
-
-        found : (k : K) → find (has_key cmp key k) (listed rows es) ≡ cond (inside k) (find (has_key cmp key k) (values rows)) None
-        found k =
-            let part : lookup (is_at (cmp k)) es ≡ cond (inside k) (get cmp stamps k) None = rw is (lookup-filter-keys (is_at (cmp k)) inside (inside k) (λ q t. sym (respects k q t)) stamps.entries) in
-            listed_find k es all ∙ rw part (elim (cases_Bool (inside k)) [
-              | inl t ↦ rw t (through k (get cmp stamps k) refl)
-              | inr t ↦ rw t refl
-            ])

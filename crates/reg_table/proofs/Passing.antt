@@ -10,7 +10,7 @@ use Rattle.std.specs.declared.cmp.Ordering.TheVariants.{Less, Equal, Greater}
 use Rattle.reg_table.specs.Keyed.{put_into, in_order}
 use Rattle.reg_table.specs.Finds.{has_key, AreOnce}
 use Rattle.reg_table.proofs.Ordered.{order, InOrder, AreNew, insert_order, all_new, still_new}
-use Rattle.reg_table.proofs.Stamps.{no_stamp_is}
+use Rattle.reg_table.proofs.Lists.{not_none}
 
 swapped : (a b c : Bool) → (a || (b || c)) ≡ (b || (a || c))
 swapped true true c = refl
@@ -31,7 +31,7 @@ module _ {K R : Type 0} (cmp : K → K → Ordering) (key : R → K) (total : Is
       by_order : (o : Ordering) → order cmp key total r x ≡ o → (find (has_key cmp key (key r)) xs ≡ None → list_any test (insert_key (order cmp key total) xs r) ≡ (test r || list_any test xs))
           → list_any test (match_ordering o (r ∷ x ∷ xs) (x ∷ xs) (x ∷ insert_key (order cmp key total) xs r)) ≡ (test r || (test x || list_any test xs))
       by_order Less e rest = refl
-      by_order Equal e rest = absurd (no_stamp_is x (sym free ∙ rw (ap is_eq e) refl))
+      by_order Equal e rest = absurd (not_none x (sym free ∙ rw (ap is_eq e) refl))
       by_order Greater e rest = ap (λ b. test x || b) (rest (rw (ap is_eq e) at free)) ∙ swapped (test x) (test r) (list_any test xs)
 
   into_any : (found rows : List R) → InOrder cmp key total found → AreOnce cmp key rows → AreNew cmp key total found rows → list_any test (put_into (order cmp key total) found rows) ≡ (list_any test found || list_any test rows)

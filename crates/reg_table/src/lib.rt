@@ -7,6 +7,7 @@ mod linked_row;
 mod linked_table;
 mod row;
 mod spot;
+mod stamped;
 mod table;
 
 pub use group_rows::GroupRows;

@@ -1,16 +1,15 @@
 // A list of rows that finds them by their keys, and knows what they name.
 ghost use Rattle.std.specs.Prelude.{Bool, ◌≡◌, ◌++◌, ◌∷◌, ◌<◌, ◌^◌, [], false, not, if◌then◌else◌};
-ghost use Rattle.std.specs.Prelude.{filter, map, length, MatchOption, OnOk, OnErr, true};
+ghost use Rattle.std.specs.Prelude.{filter, map, length, MatchOption, IfOk, OnOk, OnErr, true};
 ghost use Rattle.std.specs.List.{list_any, find};
 ghost use Rattle.std.specs.Option.{option_copied};
-ghost use Rattle.std.specs.Map.Iter.{ShowsInOrder, deref};
+ghost use Rattle.std.specs.Map.Iter.{deref};
 ghost use Rattle.reg_table.specs.Keyed.{is_of, is_row, row_order, in_order};
 ghost use Rattle.reg_table.specs.Links.{has_link};
 
 use crate::linked::{Linked, add_link, remove_link, replace_link};
 use crate::{GroupRows, LinkedRow, Table};
 use std::alloc::{AllocError, Global};
-use std::collections::btree_map::Values;
 use std::marker::Model;
 
 /// Rows, no two of one key. Contracts see the list of them, in the order in which they were added.
@@ -125,12 +124,11 @@ impl<R: LinkedRow> LinkedTable<R> {
         self.rows.replace(row)
     }
 
-    /// The rows, in the order in which they were added.
-    pub fn rows(&self) -> Values<'_, u64, R>
-        ensures rows { result ≡ self.now }
-        ensures runs { ShowsInOrder (deref {X = R}) }
+    /// The rows, in the order in which they were added. They are put in order each time.
+    pub fn rows(&self, alloc: Global) -> Result<Vec<&R>, AllocError>
+        ensures { IfOk result (λ rows. map deref rows.items ≡ self.now) }
     {
-        self.rows.rows()
+        self.rows.rows(alloc)
     }
 
     /// The rows of a group, in the order of their places. It takes no memory.
