@@ -80,8 +80,9 @@ pub(crate) fn held_by<K: Kept>(
         ≡ held_by from (attribute_name machine.now.history machine.now.clock) rows.items) }
 {
     let printed = printed(alloc, machine, rows)?;
+    let days = days_of(&printed.days)?;
     let certified = moments_in(alloc, &printed.certified)?;
-    Ok(Stretch::new(from, days_of(&printed.days), certified))
+    Ok(Stretch::new(from, days, certified))
 }
 
 /// What held of a group from a moment on, until its assignments changed.

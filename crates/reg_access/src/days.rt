@@ -1,9 +1,10 @@
 // For how many days a certification lasts.
-ghost use Rattle.std.specs.Prelude.{◌≡◌, ◌≤◌};
+ghost use Rattle.std.specs.Prelude.{◌≡◌, ◌≤◌, IfOk};
 ghost use Rattle.reg_access.specs.Attested.{days_in};
-ghost use Rattle.reg_access.specs.Assigned.{days_given, days_of};
+ghost use Rattle.reg_access.specs.Assigned.{days_among, days_given, days_of};
 
 use reg_terms::{AssignRow, AttrValue};
+use std::alloc::AllocError;
 use std::marker::Model;
 
 /// The most days for which a certification lasts: ten years.
@@ -60,12 +61,24 @@ fn days_given(value: &AttrValue) -> Option<Days>
     }
 }
 
+/// The days that the first of some values gives.
+fn days_among(values: &[AttrValue]) -> Option<Days>
+    ensures { result ≡ days_among values.now }
+{
+    let value = values.first()?;
+    days_given(value)
+}
+
 /// The days that the first value of the first of some assignments gives. None exactly where there
 /// is no such value, or it gives no days, whatever the others give.
-pub(crate) fn days_of(rows: &[AssignRow]) -> Option<Days>
-    ensures { result ≡ days_of rows.now }
+pub(crate) fn days_of(rows: &[AssignRow]) -> Result<Option<Days>, AllocError>
+    ensures { IfOk result (λ days. days ≡ days_of rows.now) }
 {
-    let row = rows.first()?;
-    let value = row.values.list().first()?;
-    days_given(value)
+    match rows.first() {
+        Some(row) => {
+            let values = row.values.list()?;
+            Ok(days_among(&values))
+        }
+        None => Ok(None),
+    }
 }

@@ -35,7 +35,8 @@ pub(crate) fn moments_in(alloc: Global, rows: &[AssignRow]) -> Result<Vec<Moment
 {
     let mut moments = Vec::new(alloc);
     for row in rows {
-        push_moments(&mut moments, row.values.list())?;
+        let values = row.values.list()?;
+        push_moments(&mut moments, &values)?;
     }
     Ok(moments)
 }

@@ -53,7 +53,10 @@ fn add_row(
         (spoken resource.now action.now facts.now.attributes row.now)) }
 {
     match source_of(facts, resource, row) {
-        Some(source) => add_said(statements, &source, action, row.values.list()),
+        Some(source) => {
+            let values = row.values.list()?;
+            add_said(statements, &source, action, &values)
+        }
         None => Ok(()),
     }
 }

@@ -55,10 +55,11 @@ fn put_assign(out: &mut Writer, assign: &AssignShown) -> Result<(), AllocError>
         ≡ out.old.tokens ++ json_tokens (outline (assign_data assign.now))) }
     ensures before { out.new.before ≡ out.old.before }
 {
+    let values = assign.values.list()?;
     out.begin_object()?;
     put_front(out, assign)?;
     out.key("values")?;
-    put_values(out, assign.values.list())?;
+    put_values(out, &values)?;
     out.end_object()
 }
 

@@ -8,7 +8,7 @@ use Rattle.std.specs.BTreeMap.Range.{entries_between}
 use Rattle.std.specs.Ordering.{nat_cmp, is_le}
 use Rattle.std.specs.declared.ops.Bound.TheVariants.{Included}
 use Rattle.std.specs.declared.cmp.Ordering.{Ordering}
-use Rattle.reg_pit.specs.Spans.{covers, ends_after, looked_at, SpansFrom, AreSpans}
+use Rattle.reg_pit.specs.Spans.{covers, looked_at, SpansFrom, AreSpans}
 use Rattle.reg_pit.specs.Runs.{never, span_of, place_cmp, runs_of, spans_of, RunsFrom, AreRuns}
 use Rattle.reg_pit.proofs.Places.{from_place, run_of}
 

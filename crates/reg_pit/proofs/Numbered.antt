@@ -4,10 +4,11 @@ use Rattle.std.specs.List.{AllByRecursion, find, list_any}
 use Rattle.std.specs.Ordering.{nat_cmp, ordering_then}
 use Rattle.std.specs.declared.cmp.Ordering.{Ordering}
 use Rattle.std.specs.declared.cmp.Ordering.TheVariants.{Equal, Greater}
-use Rattle.std.proofs.lemmas.Bool.{cases_Bool, ne_eqb, eq-eqb, eqb-true, and_parts, and_right}
+use Rattle.std.proofs.lemmas.Bool.{cases_Bool, ne_eqb, eq-eqb, eqb-true, and_parts, and_left, and_right, and_cases, false_from_ne_true}
 use Rattle.std.proofs.lemmas.Bool.Decides.{nat_tests}
 use Rattle.std.proofs.lemmas.Grind.{common_steps}
 use Rattle.reg_table.specs.Keyed.{in_order}
+use Rattle.reg_terms.specs.Digests.{digest}
 use Rattle.reg_terms.specs.Values.{same_value}
 use Rattle.reg_terms.specs.declared.kinds.AttrValue.{AttrValue}
 use Rattle.reg_pit.specs.Lives.{Rising, stood, is_open, values_at, is_numbered, first_open, closed_in, AreValues, standing_of}
@@ -16,8 +17,12 @@ use Rattle.reg_pit.specs.declared.value_lives.Standing.{Standing}
 use Rattle.reg_pit.proofs.Rising.{none_behind, all_above, untouched, rising_push, rising_lower, rising_less, in_order_already}
 use Rattle.reg_pit.proofs.Valued.{same_is, is_first, closed, first_closed}
 
-abbrev pub is_standing : ℕ → ℕ → Standing → Bool
-is_standing a n s = (s.assign == a) && (s.number == n)
+-- whether a value stands in an assignment, by its digest
+abbrev pub is_of : ℕ → ℕ → Standing → Bool
+is_of a d s = (s.assign == a) && (s.digest == d)
+
+abbrev pub is_standing : ℕ → ℕ → ℕ → Standing → Bool
+is_standing a d n s = is_of a d s && (s.number == n)
 
 abbrev numbers : List ValueLife → List ℕ
 numbers values = map (λ (life : ValueLife). suc life.number) values
@@ -34,11 +39,11 @@ pub none_numbered : (a next : ℕ) (values : List ValueLife) → AllByRecursion 
 none_numbered a next [] h = refl
 none_numbered a next (life ∷ values) h = rw (and_right (life.assign == a) (life.number == next) (below_apart life.number next h.0)) (none_numbered a next values h.1)
 
-pub none_standing : (a next : ℕ) (values : List ValueLife) → AllByRecursion (λ (life : ValueLife). life.number < next) values → list_any (is_standing a next) (standings values) ≡ false
-none_standing a next [] h = refl
-none_standing a next (life ∷ values) h = elim (cases_Bool (is_open life)) [
-  | inl t ↦ rw (t, and_right (life.assign == a) (life.number == next) (below_apart life.number next h.0)) (none_standing a next values h.1)
-  | inr t ↦ rw t (none_standing a next values h.1)
+pub none_standing : (a d next : ℕ) (values : List ValueLife) → AllByRecursion (λ (life : ValueLife). life.number < next) values → list_any (is_standing a d next) (standings values) ≡ false
+none_standing a d next [] h = refl
+none_standing a d next (life ∷ values) h = elim (cases_Bool (is_open life)) [
+  | inl t ↦ rw (t, and_right (is_of a d (standing_of life)) (life.number == next) (below_apart life.number next h.0)) (none_standing a d next values h.1)
+  | inr t ↦ rw t (none_standing a d next values h.1)
 ]
 
 all_up : (next : ℕ) (values : List ValueLife) → AllByRecursion (λ (life : ValueLife). life.number < next) values → AllByRecursion (λ (life : ValueLife). suc life.number ≤ next) values
@@ -99,24 +104,31 @@ seek_past a v values s ss life h k = seek_more a v values s ss life h ∙ rw k r
 pub seek_none : (a : ℕ) (v : AttrValue) (values : List ValueLife) (s : Standing) (ss : List Standing) → find (is_numbered a s.number) values ≡ None → seek a v values (s ∷ ss) ≡ seek a v values ss
 seek_none a v values s ss h = rw (h, seek) refl
 
-seek_some : (a : ℕ) (v : AttrValue) (values some : List ValueLife) → Found values some → seek a v values (filter (λ (s : Standing). s.assign == a) (standings some)) ≡ first_open a v some
+-- a value that stands in an assignment and isn't of a digest isn't one that is
+other_digest : (v w : AttrValue) → (digest w == digest v) ≡ false → same_value w v ≡ false
+other_digest v w h = false_from_ne_true (same_value w v) (λ t. let clash : true ≡ false = sym (eq-eqb (digest w) (digest v) (ap digest (same_is w v t))) ∙ h in cc)
+
+seek_some : (a : ℕ) (v : AttrValue) (values some : List ValueLife) → Found values some → seek a v values (filter (is_of a (digest v)) (standings some)) ≡ first_open a v some
 seek_some a v values [] h = refl
 seek_some a v values (life ∷ some) h =
     let rest = seek_some a v values some h.1 in
     elim (cases_Bool (is_open life)) [
       | inl o ↦ elim (cases_Bool (life.assign == a)) [
-        | inl t ↦
-            let found : find (is_numbered a life.number) values ≡ Some life = subst (λ b. find (is_numbered b life.number) values ≡ Some life) (eqb-true life.assign a t) h.0 in
-            elim (cases_Bool (same_value life.value v)) [
-              | inl s ↦ rw (o, t, s) (seek_more a v values (standing_of life) (filter (λ (x : Standing). x.assign == a) (standings some)) life found ∙ rw s refl)
-              | inr s ↦ rw (o, t, s) (seek_more a v values (standing_of life) (filter (λ (x : Standing). x.assign == a) (standings some)) life found ∙ rw s rest)
-            ]
+        | inl t ↦ elim (cases_Bool (digest life.value == digest v)) [
+          | inl d ↦
+              let found : find (is_numbered a life.number) values ≡ Some life = subst (λ b. find (is_numbered b life.number) values ≡ Some life) (eqb-true life.assign a t) h.0 in
+              elim (cases_Bool (same_value life.value v)) [
+                | inl s ↦ rw (o, t, d, s) (seek_more a v values (standing_of life) (filter (is_of a (digest v)) (standings some)) life found ∙ rw s refl)
+                | inr s ↦ rw (o, t, d, s) (seek_more a v values (standing_of life) (filter (is_of a (digest v)) (standings some)) life found ∙ rw s rest)
+              ]
+          | inr d ↦ rw (o, t, d, other_digest v life.value d) rest
+        ]
         | inr t ↦ rw (o, t) rest
       ]
       | inr o ↦ rw (o, and_right (life.assign == a) false refl) rest
     ]
 
-pub first_sought : (a : ℕ) (v : AttrValue) (values : List ValueLife) → Rising 0 (numbers values) → seek a v values (filter (λ (s : Standing). s.assign == a) (standings values)) ≡ first_open a v values
+pub first_sought : (a : ℕ) (v : AttrValue) (values : List ValueLife) → Rising 0 (numbers values) → seek a v values (filter (is_of a (digest v)) (standings values)) ≡ first_open a v values
 first_sought a v values r = seek_some a v values values (all_found 0 values r)
 
 -- ---- in order
@@ -127,15 +139,18 @@ equal_number n = grind (arith, nat_tests, common_steps)
 greater_number : (a b : ℕ) → b < a → nat_cmp a b ≡ Greater
 greater_number a b w = grind (arith, nat_tests, common_steps)
 
--- the orders of the tables: by assignment, and then by number
+-- the orders of the tables: by assignment, of those that stand by digest, and then by number
 abbrev pub standing_order : Standing → Standing → Ordering
-standing_order a b = ordering_then (nat_cmp a.assign b.assign) (nat_cmp a.number b.number)
+standing_order a b = ordering_then (ordering_then (nat_cmp a.assign b.assign) (nat_cmp a.digest b.digest)) (nat_cmp a.number b.number)
 
 abbrev pub value_order : ValueLife → ValueLife → Ordering
 value_order a b = ordering_then (nat_cmp a.assign b.assign) (nat_cmp a.number b.number)
 
-later_standing : (a : ℕ) (x y : Standing) → (x.assign == a) ≡ true → (y.assign == a) ≡ true → suc x.number < suc y.number → standing_order y x ≡ Greater
-later_standing a x y h k w = rw (eqb-true x.assign a h, eqb-true y.assign a k, equal_number a) (greater_number y.number x.number (omega (arith, w)))
+later_standing : (a d : ℕ) (x y : Standing) → is_of a d x ≡ true → is_of a d y ≡ true → suc x.number < suc y.number → standing_order y x ≡ Greater
+later_standing a d x y h k w =
+    let first = and_parts (x.assign == a) (x.digest == d) h in
+    let second = and_parts (y.assign == a) (y.digest == d) k in
+    rw (eqb-true x.assign a first.0, eqb-true y.assign a second.0, eqb-true x.digest d first.1, eqb-true y.digest d second.1, equal_number a, equal_number d) (greater_number y.number x.number (omega (arith, w)))
 
 later_value : (a : ℕ) (x y : ValueLife) → (x.assign == a) ≡ true → (y.assign == a) ≡ true → suc x.number < suc y.number → value_order y x ≡ Greater
 later_value a x y h k w = rw (eqb-true x.assign a h, eqb-true y.assign a k, equal_number a) (greater_number y.number x.number (omega (arith, w)))
@@ -144,10 +159,10 @@ same_numbers : (values : List ValueLife) → map (λ (s : Standing). suc s.numbe
 same_numbers [] = refl
 same_numbers (life ∷ values) = ap (λ ns. suc life.number ∷ ns) (same_numbers values)
 
-pub standing_in_order : (a : ℕ) (values : List ValueLife) → Rising 0 (numbers values)
-    → in_order standing_order (filter (λ (s : Standing). s.assign == a) (standings values)) ≡ filter (λ (s : Standing). s.assign == a) (standings values)
-standing_in_order a values r =
-    in_order_already (λ (s : Standing). suc s.number) standing_order (λ (s : Standing). s.assign == a) (later_standing a) 0 (standings values)
+pub standing_in_order : (a d : ℕ) (values : List ValueLife) → Rising 0 (numbers values)
+    → in_order standing_order (filter (is_of a d) (standings values)) ≡ filter (is_of a d) (standings values)
+standing_in_order a d values r =
+    in_order_already (λ (s : Standing). suc s.number) standing_order (is_of a d) (later_standing a d) 0 (standings values)
     (rw (same_numbers (filter is_open values)) (rising_less (λ (life : ValueLife). suc life.number) is_open 0 values r))
 
 pub values_in_order : (a : ℕ) (values : List ValueLife) → Rising 0 (numbers values)
@@ -249,11 +264,18 @@ module _ (at a : ℕ) (v : AttrValue) where
 
   -- ---- those that stand then
 
-  kept_standing : (n : ℕ) (xs : List ValueLife) → AllByRecursion (λ (y : ValueLife). is_numbered a n y ≡ false) xs → filter (λ (s : Standing). not (is_standing a n s)) (standings xs) ≡ standings xs
-  kept_standing n [] h = refl
-  kept_standing n (x ∷ xs) h = elim (cases_Bool (is_open x)) [
-    | inl o ↦ rw (o, h.0) (ap (λ ss. standing_of x ∷ ss) (kept_standing n xs h.1))
-    | inr o ↦ rw o (kept_standing n xs h.1)
+  -- a life of another number isn't that of a value that stands
+  other_number : (d n : ℕ) (y : ValueLife) → is_numbered a n y ≡ false → is_standing a d n (standing_of y) ≡ false
+  other_number d n y h = elim (and_cases (y.assign == a) (y.number == n) h) [
+    | inl k ↦ and_left (is_of a d (standing_of y)) (y.number == n) (and_left (y.assign == a) (digest y.value == d) k)
+    | inr k ↦ and_right (is_of a d (standing_of y)) (y.number == n) k
+  ]
+
+  kept_standing : (d n : ℕ) (xs : List ValueLife) → AllByRecursion (λ (y : ValueLife). is_numbered a n y ≡ false) xs → filter (λ (s : Standing). not (is_standing a d n s)) (standings xs) ≡ standings xs
+  kept_standing d n [] h = refl
+  kept_standing d n (x ∷ xs) h = elim (cases_Bool (is_open x)) [
+    | inl o ↦ rw (o, other_number d n x h.0) (ap (λ ss. standing_of x ∷ ss) (kept_standing d n xs h.1))
+    | inr o ↦ rw o (kept_standing d n xs h.1)
   ]
 
   closed_stand : (x : ValueLife) (xs : List ValueLife) → standings (closed at x ++ xs) ≡ standings xs
@@ -263,15 +285,21 @@ module _ (at a : ℕ) (v : AttrValue) where
   ]
 
   abbrev left : ValueLife → List ValueLife → List Standing
-  left w values = filter (λ (s : Standing). not (is_standing a w.number s)) (standings values)
+  left w values = filter (λ (s : Standing). not (is_standing a (digest v) w.number s)) (standings values)
+
+  stands_itself : (x : ValueLife) → is_first a v x ≡ true → is_standing a (digest v) x.number (standing_of x) ≡ true
+  stands_itself x t =
+      let parts = and_parts (x.assign == a) (is_open x && same_value x.value v) t in
+      let value = same_is x.value v ((and_parts (is_open x) (same_value x.value v) parts.1).1) in
+      rw (parts.0, eq-eqb (digest x.value) (digest v) (ap digest value), eq-eqb x.number x.number refl) refl
 
   left_here : (floor : ℕ) (x : ValueLife) (xs : List ValueLife) → Rising floor (numbers (x ∷ xs)) → is_first a v x ≡ true → left x (x ∷ xs) ≡ standings (first_closed at a v (x ∷ xs))
   left_here floor x xs r t =
       let open_is : is_open x ≡ true = (and_parts (is_open x) (same_value x.value v) ((and_parts (x.assign == a) (is_open x && same_value x.value v) t).1)).0 in
-      rw (t, open_is, numbered_itself x t) (kept_standing x.number xs (none_numbered_behind floor x xs r) ∙ sym (closed_stand x xs))
+      rw (t, open_is, stands_itself x t) (kept_standing (digest v) x.number xs (none_numbered_behind floor x xs r) ∙ sym (closed_stand x xs))
 
   pub standing_left : (floor : ℕ) (values : List ValueLife) (w : ValueLife) → Rising floor (numbers values) → first_open a v values ≡ Some w
-      → filter (λ (s : Standing). not (is_standing a w.number s)) (standings values) ≡ standings (first_closed at a v values)
+      → filter (λ (s : Standing). not (is_standing a (digest v) w.number s)) (standings values) ≡ standings (first_closed at a v values)
   standing_left floor [] w r found = refl
   standing_left floor (x ∷ xs) w r found = elim (cases_Bool (is_first a v x)) [
     | inl t ↦
@@ -280,7 +308,7 @@ module _ (at a : ℕ) (v : AttrValue) where
         subst (λ (life : ValueLife). left life (x ∷ xs) ≡ standings (first_closed at a v (x ∷ xs))) same (left_here floor x xs r t)
     | inr t ↦
         let behind : first_open a v xs ≡ Some w = rw t at found in
-        let apart = found_behind floor x xs w r behind in
+        let apart = other_number (digest v) w.number x (found_behind floor x xs w r behind) in
         let rest = standing_left (suc x.number) xs w r.1 behind in
         elim (cases_Bool (is_open x)) [
           | inl o ↦ rw (t, o, apart) (ap (λ ss. standing_of x ∷ ss) rest)
@@ -324,11 +352,11 @@ module _ (at a : ℕ) (v : AttrValue) where
   ]
 
   pub values_closed : (values : List ValueLife) (standing : List Standing) (next : ℕ) (w : ValueLife) → AreValues values standing next → first_open a v values ≡ Some w
-      → AreValues (first_closed at a v values) (filter (λ (s : Standing). not (is_standing a w.number s)) standing) next
+      → AreValues (first_closed at a v values) (filter (λ (s : Standing). not (is_standing a (digest v) w.number s)) standing) next
   values_closed values standing next w h found = record {
     rising = rising_closed 0 values h.rising;
     below = below_closed next values h.below;
-    known = ap (λ (ss : List Standing). filter (λ (s : Standing). not (is_standing a w.number s)) ss) h.known ∙ standing_left 0 values w h.rising found;
+    known = ap (λ (ss : List Standing). filter (λ (s : Standing). not (is_standing a (digest v) w.number s)) ss) h.known ∙ standing_left 0 values w h.rising found;
   }
 
 -- ---- one value more

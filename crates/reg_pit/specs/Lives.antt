@@ -5,6 +5,7 @@ use Rattle.std.specs.Prelude.{if◌then◌else◌}
 use Rattle.std.specs.BTreeMap.{BTreeMap, get}
 use Rattle.std.specs.List.{AllByRecursion, find}
 use Rattle.std.specs.Ordering.{nat_cmp}
+use Rattle.reg_terms.specs.Digests.{digest}
 use Rattle.reg_terms.specs.Kinds.{same_object}
 use Rattle.reg_terms.specs.Values.{same_value}
 use Rattle.reg_terms.specs.declared.kinds.AttrValue.{AttrValue}
@@ -114,7 +115,8 @@ AreValuesBy at values =
     AllByRecursion (λ (life : ValueLife). IsBy at (life.from, life.until)) values
 
 abbrev pub standing_of : ValueLife → Standing
-standing_of life = record { assign = life.assign; number = life.number }
+standing_of life =
+    record { assign = life.assign; digest = digest life.value; number = life.number }
 
 -- numbers ascend, all are below the next one, and those that stand are known
 pub record AreValues (values : List ValueLife) (standing : List Standing) (next : ℕ) : Type 0 where

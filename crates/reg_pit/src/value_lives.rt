@@ -89,24 +89,25 @@ pub(crate) fn values_stood(
     Ok(values)
 }
 
-/// A value that stands: its assignment and its number.
+/// A value that stands: its assignment, its digest and its number.
 #[derive(Clone, Copy)]
 pub(crate) struct Standing {
     assign: AssignId,
+    digest: u64,
     number: u64,
 }
 
 impl Row for Standing {
-    type Group = AssignId;
+    type Group = (AssignId, u64);
 
     type Place = u64;
 
-    ghost group_of = { λ standing. standing.assign };
+    ghost group_of = { λ standing. (standing.assign, standing.digest) };
 
     ghost place_of = { λ standing. standing.number };
 
-    fn group(&self) -> AssignId {
-        self.assign
+    fn group(&self) -> (AssignId, u64) {
+        (self.assign, self.digest)
     }
 
     fn place(&self) -> u64 {
@@ -184,8 +185,10 @@ impl ValueLives {
         let Some(later) = next.checked_add(1) else {
             return Err(AllocError);
         };
+        let digest = value.digest();
         standing.push(Standing {
             assign,
+            digest,
             number: next,
         })?;
         values.push(ValueLife {
@@ -203,12 +206,12 @@ impl ValueLives {
         })
     }
 
-    /// The first value that is this one, of those that stand in an assignment. Looks at those
-    /// alone.
+    /// The first value that is this one, of those that stand in an assignment. Looks at those of
+    /// its digest alone.
     fn first(&self, assign: AssignId, value: &AttrValue) -> Option<&ValueLife>
         ensures { option_copied result ≡ first_open assign value.now self.now }
     {
-        for standing in self.standing.rows_of(assign) {
+        for standing in self.standing.rows_of((assign, value.digest())) {
             if let Some(life) = self.values.get(assign, standing.number) {
                 if life.value.is(value) {
                     return Some(life);
@@ -232,6 +235,7 @@ impl ValueLives {
             return;
         };
         let (number, from) = (life.number, life.from);
+        let digest = value.digest();
         let closed = ValueLife {
             assign,
             number,
@@ -240,7 +244,7 @@ impl ValueLives {
             until: Some(at),
         };
         close(&mut self.values, closed, at);
-        self.standing.remove(assign, number);
+        self.standing.remove((assign, digest), number);
     }
 
     /// The values that stood in an assignment at a moment, in the order in which they were added.

@@ -1,8 +1,10 @@
+pub mod Digests
 pub mod EntryWords
 pub mod Kinds
 pub mod Links
 pub mod Limits
 pub mod Pieces
+pub mod Placed
 pub mod Privileges
 pub mod Rules
 pub mod Values

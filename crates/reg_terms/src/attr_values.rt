@@ -4,22 +4,30 @@ ghost use Rattle.std.specs.List.{position};
 ghost use Rattle.reg_terms.specs.Values.{has_value, same_value, without_first};
 
 use crate::AttrValue;
+use crate::many_values::ManyValues;
 use std::alloc::{AllocError, Global};
 use std::marker::Model;
+
+/// How many values stand in a plain list, which is small and is gone over to find one.
+const FEW: usize = 32;
 
 /// A list of values. Contracts see the list.
 #[derive(Drop)]
 pub struct AttrValues {
-    items: Vec<AttrValue>,
+    /// The first of them, up to `FEW`.
+    few: Vec<AttrValue>,
+    /// Those behind.
+    many: ManyValues,
 }
 
 impl Model for AttrValues {
-    ghost use Rattle.std.specs.Prelude.{List};
+    ghost use Rattle.std.specs.Prelude.{List, ◌++◌};
+    ghost use Rattle.reg_terms.specs.Placed.{values_of};
     ghost use Rattle.reg_terms.specs.declared.kinds.AttrValue.{AttrValue};
 
     ghost Value = { List AttrValue };
 
-    ghost view = { λ v. v.items.items };
+    ghost view = { λ v. v.few.items ++ values_of v.many };
 }
 
 /// The place of the first of some values that is this one.
@@ -29,13 +37,30 @@ fn first_equal(values: &[AttrValue], value: &AttrValue) -> Option<usize>
     values.iter().position(|item| item.is(value))
 }
 
+/// Whether a value is among some.
+fn is_among(values: &[AttrValue], value: &AttrValue) -> bool
+    ensures { result ≡ has_value value.now values.now }
+{
+    values.iter().any(|item| item.is(value))
+}
+
+/// Takes the first of some values that is this one away.
+fn remove_first_of(values: &mut Vec<AttrValue>, value: &AttrValue)
+    ensures { values.new.items ≡ without_first value.now values.old.items }
+{
+    if let Some(at) = first_equal(values, value) {
+        values.remove(at);
+    }
+}
+
 impl AttrValues {
     /// The empty list.
     pub fn new(alloc: Global) -> AttrValues
         ensures { result ≡ [] }
     {
         AttrValues {
-            items: Vec::new(alloc),
+            few: Vec::new(alloc),
+            many: ManyValues::new(alloc),
         }
     }
 
@@ -44,37 +69,48 @@ impl AttrValues {
         ensures ok { OnOk result (self.new ≡ self.old ++ item ∷ []) }
         ensures err { OnErr result (self.new ≡ self.old) }
     {
-        self.items.push(item)?;
-        Ok(())
+        if self.few.len() < FEW && self.many.len() == 0 {
+            self.few.push(item)?;
+            return Ok(());
+        }
+        self.many.push(item)
     }
 
-    /// The values.
-    pub fn list(&self) -> &[AttrValue]
-        ensures { result.now ≡ self.now }
+    /// Copies of the values.
+    pub fn list(&self) -> Result<Vec<AttrValue>, AllocError>
+        ensures { IfOk result (λ list. list.items ≡ self.now) }
     {
-        &self.items
+        let alloc = *self.few.allocator();
+        let mut list = Vec::new(alloc);
+        for value in self.few.iter() {
+            list.push(value.copy(alloc)?)?;
+        }
+        self.many.add_to(&mut list, alloc)?;
+        Ok(list)
     }
 
     /// How many values there are.
     pub fn len(&self) -> usize
         ensures { result ≡ length self.now }
     {
-        self.items.len()
+        self.few.len() + self.many.len()
     }
 
     /// Whether a value is among them.
     pub fn has(&self, value: &AttrValue) -> bool
         ensures { result ≡ has_value value.now self.now }
     {
-        self.items.iter().any(|item| item.is(value))
+        is_among(&self.few, value) || self.many.has(value)
     }
 
     /// Takes the first of the values that are this one away. It takes no memory.
     pub fn remove_first(&mut self, value: &AttrValue)
         ensures { self.new ≡ without_first value.now self.old }
     {
-        if let Some(at) = first_equal(&self.items, value) {
-            self.items.remove(at);
+        if is_among(&self.few, value) {
+            remove_first_of(&mut self.few, value);
+        } else {
+            self.many.remove_first(value);
         }
     }
 
@@ -83,8 +119,8 @@ impl AttrValues {
         ensures { IfOk result (λ values. values ≡ self.now) }
     {
         let mut copied = AttrValues::new(alloc);
-        for value in self.items.iter() {
-            copied.push(value.copy(alloc)?)?;
+        for value in self.list()? {
+            copied.push(value)?;
         }
         Ok(copied)
     }

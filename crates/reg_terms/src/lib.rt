@@ -12,6 +12,7 @@ mod keys;
 mod kinds;
 mod limits;
 mod lists;
+mod many_values;
 mod privileges;
 mod query;
 mod refusal;

@@ -1,11 +1,24 @@
 // Values of assignments, as requests give them and as definitions take them.
-ghost use Rattle.std.specs.Prelude.{◌≡◌, IfOk};
+ghost use Rattle.std.specs.Prelude.{◌≡◌, IfOk, true};
+ghost use Rattle.reg_terms.specs.Digests.{digest, text_digest};
 ghost use Rattle.reg_terms.specs.Values.{same_value, taken, suits};
+ghost use Rattle.reg_terms.specs.declared.kinds.AttrValue.{AttrValue};
 ghost use Rattle.reg_terms.specs.declared.kinds.Value.TheVariants as given;
 
 use crate::{AttrValue, DefKind, Object, Owners, Value};
 use reg_base::{Moment, Text};
 use std::alloc::{AllocError, Global};
+
+/// A number of the bytes of a text, which has no more than 41 bits.
+fn text_digest(bytes: &[u8]) -> u64
+    ensures { result ≡ text_digest bytes.now }
+{
+    let mut digest = 0u64;
+    for byte in bytes {
+        digest = digest % 4_294_967_296 * 257 + u64::from(*byte);
+    }
+    digest
+}
 
 impl AttrValue {
     /// Whether the two are one: of one kind, and equal.
@@ -18,6 +31,19 @@ impl AttrValue {
             AttrValue::Moment(a) => {
                 matches!(other, AttrValue::Moment(b) if a.micros() == b.micros())
             }
+        }
+    }
+
+    /// A number of the value, by which values that are one are found: those have one digest.
+    pub fn digest(&self) -> u64
+        ensures is { result ≡ digest self.now }
+        ensures alike { (other : AttrValue) → same_value other self.now ≡ true
+            → digest other ≡ result }
+    {
+        match self {
+            AttrValue::Int(number) => number.unsigned_abs(),
+            AttrValue::Text(text) => text_digest(text.bytes()),
+            AttrValue::Moment(moment) => moment.micros(),
         }
     }
 

@@ -1,4 +1,4 @@
-use Rattle.std.proofs.Common.{◌≡◌, ◌∙◌, sym}
+use Rattle.std.proofs.Common.{◌∙◌, sym}
 use Rattle.reg_pit.proofs.Walking.{begun, before_last, falls, on_more, off_more}
 use Rattle.reg_pit.proofs.intervals.Intervals.on_between.Goals as goal
 

@@ -1,5 +1,6 @@
 use Rattle.std.proofs.Common.{◌≡◌, ◌∙◌, List, Some, None, sym, ap, filter, not, rules}
 use Rattle.std.specs.Option.{option_copied}
+use Rattle.reg_terms.specs.Digests.{digest}
 use Rattle.reg_pit.specs.Lives.{first_open, values_at}
 use Rattle.reg_pit.specs.declared.value_lives.Standing.{Standing}
 use Rattle.reg_pit.specs.declared.value_lives.ValueLife.{ValueLife}
@@ -18,7 +19,7 @@ pub invariant_of-self : goal.invariant_of-self
 invariant_of-self c =
     let found : first_open c.args.assign c.args.value c.self.inside.values ≡ Some c.in-Some.life.now = ap (first_open c.args.assign c.args.value) c.self.view_is ∙ (sym c.first.ensures ∙ ap option_copied c.in-Some.is) in
     let closed : c.close.new.values ≡ first_closed c.args.at c.args.assign c.args.value c.self.inside.values = c.close.ensures ∙ closed_is c.args.at c.args.assign c.args.value c.self.inside.values c.in-Some.life.now c.self.invariant.rising found in
-    let left : c.remove.new.self ≡ filter (λ (s : Standing). not (is_standing c.args.assign c.in-Some.life.now.number s)) c.self.inside.standing = search rules in
+    let left : c.remove.new.self ≡ filter (λ (s : Standing). not (is_standing c.args.assign (digest c.args.value) c.in-Some.life.now.number s)) c.self.inside.standing = search rules in
     rw (closed, left) (values_closed c.args.at c.args.assign c.args.value c.self.inside.values c.self.inside.standing c.self.inside.next c.in-Some.life.now c.self.invariant found)
 
 pub returns-clause-removed : goal.returns-clause-removed

@@ -1,5 +1,7 @@
-use Rattle.std.proofs.Common.{◌≡◌, take}
+use Rattle.std.proofs.Common.{◌≡◌, ◌++◌}
+use Rattle.std.specs.Vec.Iter.{into_iter_items}
 use Rattle.reg_terms.proofs.attr_values.AttrValues.copy.Given as goal
 
+-- the values so far, and those that are left, are all
 abbrev pub invariant-loop-value : goal.invariant-loop-value
-invariant-loop-value l = l.copied ≡ take l.value-index l.value-items
+invariant-loop-value l = l.copied ++ into_iter_items l.value-iterator ≡ into_iter_items l.initial.value-iterator
