@@ -17,6 +17,8 @@ pub mod Totals
 pub mod Starting
 pub mod Rounds
 pub mod Own
+mod NestedFrom
+mod Leaps
 pub mod LiveOf
 pub mod LiveLaws
 pub mod Standing

@@ -69,8 +69,8 @@ rows_given M ((x, Group h) ∷ rows) g s = elim (cases_Bool (x == g)) [
     past false true c = refl
     past false false c = refl
 
-pub by_rows : (M : ℕ → Bool) (L : Live) (g s : ℕ) (found : Option CompositeRow) (direct : Bool) (below : List ℕ) → found ≡ find (λ (d : CompositeRow). d.group == g) L.composites → found ≡ None → direct ≡ has_live_row g (Person s) L.rows → below ≡ nested g L.rows → (direct || list_any M below) ≡ level M L g s
-by_rows M L g s found direct below f e d b = rw (d, b, no_composite g L.composites (sym f ∙ e)) (rows_given M L.rows g s)
+pub by_rows : (M : ℕ → Bool) (L : Live) (g s : ℕ) (found : Option CompositeRow) (direct : Bool) → found ≡ find (λ (d : CompositeRow). d.group == g) L.composites → found ≡ None → direct ≡ has_live_row g (Person s) L.rows → (direct || list_any M (nested g L.rows)) ≡ level M L g s
+by_rows M L g s found direct f e d = rw (d, no_composite g L.composites (sym f ∙ e)) (rows_given M L.rows g s)
 
 pub rows_leaving : (rows : List (ℕ × Member)) (g : ℕ) → length (nested g rows) ≡ leaving (row_edges rows) g
 rows_leaving [] g = refl
@@ -79,12 +79,11 @@ rows_leaving ((x, Group h) ∷ rows) g =
     let r = rows_leaving rows g in
     elim (x == g) as (λ b. length (cond b (h ∷ nested g rows) (nested g rows)) ≡ cond b (1 + leaving (row_edges rows) g) (leaving (row_edges rows) g)) [ true ↦ omega (arith, r) | false ↦ r ]
 
-pub rows_cost : (L : Live) (g : ℕ) (below : List ℕ) → below ≡ nested g L.rows → length below ≤ leaving (edges L) g
-rows_cost L g below e =
-    let l = ap length e in
+pub rows_cost : (L : Live) (g : ℕ) → length (nested g L.rows) ≤ leaving (edges L) g
+rows_cost L g =
     let r = rows_leaving L.rows g in
     let p = leaving_parts L g in
-    omega (arith, l, r, p)
+    omega (arith, r, p)
 
 pub factors_leaving : (g : ℕ) (cs : List CompositeRow) (c : CompositeRow) → find (λ (d : CompositeRow). d.group == g) cs ≡ Some c → 2 ≤ leaving (factor_edges cs) g
 factors_leaving g [] c h = cc

@@ -1,5 +1,5 @@
 -- Rows and composites as ordered maps and sets keep them.
-use Rattle.std.proofs.Common.{◌≡◌, ◌<◌, ◌==◌, ◌&&◌, ◌^◌, ℕ, List, [], ◌∷◌, ◌++◌, Bool, not, true, false, cond, map, filter, Option, Some, None, Bor, arith, refl, sym, ◌∙◌, ap, inl, inr}
+use Rattle.std.proofs.Common.{◌≡◌, ◌==◌, ℕ, List, [], ◌∷◌, Bool, true, false, cond, map, filter, Option, Some, None, Bor, arith, refl, sym, ◌∙◌, ap, inl, inr}
 use Rattle.std.proofs.lemmas.Grind.{common_steps}
 use Rattle.std.proofs.lemmas.Bool.Decides.{nat_tests}
 use Rattle.std.proofs.lemmas.Bool.{cases_Bool, eqb-true, or_left, or_parts}
@@ -11,73 +11,18 @@ use Rattle.std.specs.Map.Iter.{TakesFirst, deref}
 use Rattle.std.specs.BTreeMap.Range.{range_contains}
 use Rattle.std.specs.Set.{remove_key}
 use Rattle.std.specs.Map.{lookup, remove_entry}
-use Rattle.std.specs.Ordering.{nat_cmp, ordering_then, match_ordering, is_eq, is_le, is_lt}
+use Rattle.std.specs.Ordering.{nat_cmp, match_ordering, is_eq}
 use Rattle.std.specs.declared.cmp.Ordering.{Ordering}
 use Rattle.std.specs.declared.cmp.Ordering.TheVariants.{Less, Equal, Greater}
 use Rattle.std.specs.declared.ops.Bound.TheVariants.{Included}
-use Rattle.std.proofs.lemmas.List.{append-nil, append_assoc}
 use Rattle.std.proofs.lemmas.List.Elements.{recursion_from_All}
 use Rattle.reg_terms.specs.declared.kinds.Member.{Member}
 use Rattle.reg_terms.specs.declared.kinds.Member.TheVariants.{Person, Group}
 use Rattle.reg_terms.specs.declared.rows.CompositeRow.{CompositeRow}
-use Rattle.reg_terms.specs.contracts.kinds.MemberOrd.TheImpl.{ghosts}
-use Rattle.reg_terms.specs.Rows.{member_cmp}
 use Rattle.reg_effect.specs.declared.composites.Factors.{Factors}
-use Rattle.reg_effect.specs.Order.{row_cmp, composite_cmp, has_live_rows, nested, IsSmall, HaveSmallIds, groups_of}
+use Rattle.reg_effect.specs.Order.{row_cmp, composite_cmp, has_live_rows, IsSmall, HaveSmallIds}
 use Rattle.reg_effect.specs.Factors.{composite_at}
 use Rattle.reg_terms.specs.Rows.{is_composite}
-
--- ---- the order that is derived for keys is the order of rows
-member_order_is : (m n : Member) → ghosts.cmp m n ≡ member_cmp m n
-member_order_is (Person a) (Person b) = refl
-member_order_is (Person a) (Group b) = refl
-member_order_is (Group a) (Person b) = refl
-member_order_is (Group a) (Group b) = refl
-
-abbrev pub derived_cmp : ℕ × Member → ℕ × Member → Ordering
-derived_cmp a b = ordering_then (nat_cmp a.0 b.0) (ghosts.cmp a.1 b.1)
-
-pub derived_is : (a b : ℕ × Member) → derived_cmp a b ≡ row_cmp a b
-derived_is a b = ap (λ o. ordering_then (nat_cmp a.0 b.0) o) (member_order_is a.1 b.1)
-
--- so a part of them is one part by both
-pub part_is : (low high : ℕ × Member) (rows : List (ℕ × Member)) → filter (range_contains derived_cmp (Included low) (Included high)) rows ≡ filter (range_contains row_cmp (Included low) (Included high)) rows
-part_is low high [] = refl
-part_is low high (r ∷ rs) = rw (derived_is low r, derived_is high r, part_is low high rs) refl
-
--- ---- the groups that a group's rows name
-abbrev pub range_of : ℕ → ℕ × Member → Bool
-range_of g = range_contains row_cmp (Included (g, Group 0)) (Included (g, Group 4294967295))
-
-pub in_range : (g x h : ℕ) → h < 2 ^ 32 → range_of g (x, Group h) ≡ (x == g)
-in_range g x h l = grind (arith, nat_tests, common_steps)
-
-pub out_of_range : (g x p : ℕ) → range_of g (x, Person p) ≡ false
-out_of_range g x p = never (nat_cmp g x)
-  where
-    never : (o : Ordering) → (is_le (ordering_then o Greater) && not (is_lt (ordering_then o Greater))) ≡ false
-    never Less = refl
-    never Equal = refl
-    never Greater = refl
-
--- the groups that rows name
-abbrev pub named : List (ℕ × Member) → List ℕ
-named [] = []
-named (row ∷ rows) = groups_of row.1 ++ named rows
-
-pub nested_by : (g : ℕ) (rows : List (ℕ × Member)) → AllByRecursion (λ (row : ℕ × Member). IsSmall row.1) rows → named (filter (range_of g) rows) ≡ nested g rows
-nested_by g [] h = refl
-nested_by g ((x, Person p) ∷ rs) h = rw (out_of_range g x p) (nested_by g rs h.1)
-nested_by g ((x, Group k) ∷ rs) h = rw (in_range g x k h.0) (elim (x == g) as (λ b. named (cond b ((x, Group k) ∷ filter (range_of g) rs) (filter (range_of g) rs)) ≡ cond b (k ∷ nested g rs) (nested g rs))
-    [ true ↦ ap (λ ys. k ∷ ys) (nested_by g rs h.1) | false ↦ nested_by g rs h.1 ])
-
-pub nested_is : (g : ℕ) (items : List ℕ) (xs keys view : List (ℕ × Member)) → items ≡ named xs → xs ≡ filter (range_of g) keys → HaveSmallIds keys → keys ≡ view → items ≡ nested g view
-nested_is g items xs keys view a b h e = a ∙ ap named b ∙ rw (← e) (nested_by g keys (recursion_from_All (λ (row : ℕ × Member). IsSmall row.1) keys h))
-
--- one more is looked at
-pub named_more : (bs : List (Bor (ℕ × Member))) (b : Bor (ℕ × Member)) → named (map deref (bs ++ b ∷ [])) ≡ named (map deref bs) ++ groups_of b.now.1
-named_more [] b = append-nil (groups_of b.now.1)
-named_more (x ∷ xs) b = ap (λ ys. groups_of x.now.1 ++ ys) (named_more xs b) ∙ sym (append_assoc (groups_of x.now.1) (named (map deref xs)) (groups_of b.now.1))
 
 -- ---- the rows of a group
 abbrev pub range_all : ℕ → ℕ × Member → Bool

@@ -1,9 +1,10 @@
 // Rows of groups, in order.
-ghost use Rattle.std.specs.Prelude.{◌≡◌, ◌++◌, [], IfOk, OnOk, OnErr};
+ghost use Rattle.std.specs.Prelude.{◌≡◌, [], IfOk, OnOk, OnErr};
 ghost use Rattle.std.specs.BTreeSet.{insert_key};
 ghost use Rattle.std.specs.Set.{remove_key};
-ghost use Rattle.reg_effect.specs.Order.{row_cmp, is_live_row, has_live_row, has_live_rows, nested};
-ghost use Rattle.reg_effect.specs.Order.{groups_of};
+ghost use Rattle.reg_terms.specs.declared.kinds.Member.TheVariants.{Group};
+ghost use Rattle.reg_graph.specs.Sets.{IsFirstFrom};
+ghost use Rattle.reg_effect.specs.Order.{row_cmp, is_live_row, has_live_row, has_live_rows};
 
 use reg_base::{GroupId, SubjectId};
 use reg_terms::Member;
@@ -29,16 +30,6 @@ impl Model for Rows {
     ghost view = { λ r. r.rows.keys };
 
     ghost invariant = { λ r. HaveSmallIds r.rows.keys };
-}
-
-/// Adds the group that the member is, if it is one.
-fn add_group(groups: &mut Vec<GroupId>, member: &Member) -> Result<(), AllocError>
-    ensures { OnOk result (groups.new.items ≡ groups.old.items ++ groups_of member.now) }
-{
-    if let Member::Group(group) = member {
-        groups.push(*group)?;
-    }
-    Ok(())
 }
 
 impl Rows {
@@ -84,17 +75,15 @@ impl Rows {
         self.rows.remove(&(group, member));
     }
 
-    /// The groups that the group's rows name, by id.
-    pub fn nested(&self, group: GroupId) -> Result<Vec<GroupId>, AllocError>
-        ensures { IfOk result (λ v. v.items ≡ nested group self.now) }
+    /// The first of the groups that the group's rows name, by id, from an id on, if there is one.
+    /// Takes no memory.
+    pub fn nested_from(&self, group: GroupId, from: GroupId) -> Option<GroupId>
+        ensures { IsFirstFrom (λ h. has_live_row group (Group h) self.now) from result }
     {
-        let first = (group, Member::Group(GroupId::new(0)));
+        let first = (group, Member::Group(from));
         let last = (group, Member::Group(GroupId::new(u32::MAX)));
-        let mut groups = Vec::new(self.alloc);
-        for row in self.rows.range(first..=last) {
-            add_group(&mut groups, &row.1)?;
-        }
-        Ok(groups)
+        let row = self.rows.range(first..=last).next()?;
+        row.1.group()
     }
 
     /// The rows in order.

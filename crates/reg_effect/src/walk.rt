@@ -12,40 +12,44 @@ ghost use Rattle.reg_effect.specs.Bound.{leaving, most_climb};
 ghost use Rattle.reg_effect.specs.Walk.{differ, begins, ends, Passed, Touches};
 ghost use Rattle.reg_effect.specs.Invariant.{IsCounted};
 
-use crate::Live;
 use crate::combine::combine;
 use crate::marks::Marks;
+use crate::{Live, Rows};
 use reg_base::{GroupId, Steps, SubjectId};
 use reg_graph::{Dag, Sets};
 use reg_terms::Member;
 use std::alloc::{AllocError, Global};
 use std::sync::ledger::Ledger;
 
-/// Whether one of the groups has the person.
-fn any_has<L: Ledger>(groups: &[GroupId], sets: &Sets, s: SubjectId, steps: &mut Steps<L>) -> bool
-    ensures value { result ≡ list_any (λ h. holds h s sets.now) groups.now }
-    ensures cost { steps.new ≤ steps.old + length groups.now }
-{
-    for h in groups {
-        if sets.has(*h, s, steps) {
-            return true;
-        }
-    }
-    false
-}
-
-/// Whether the group has the person, by the sets of the groups below it. `below` are the groups
-/// that its rows name.
-#[tactic(auto, using(crate::proofs::Own::by_rows, crate::proofs::Own::by_factors, crate::proofs::Own::rows_cost, crate::proofs::Own::factors_cost))]
-fn test<L: Ledger>(
-    live: &Live,
-    below: &[GroupId],
+/// Whether one of the groups that the group's rows name has the person. The next such group and
+/// the person's next group are sought in turn, each from the other's id on: so of many nested
+/// groups no more are looked at than the person's groups and one.
+fn any_nested<L: Ledger>(
+    rows: &Rows,
     sets: &Sets,
     g: GroupId,
     s: SubjectId,
     steps: &mut Steps<L>,
 ) -> bool
-    requires below { below.now ≡ nested g live.now.rows }
+    ensures value { result ≡ list_any (λ h. holds h s sets.now) (nested g rows.now) }
+    ensures cost { steps.new ≤ steps.old + length (nested g rows.now) }
+{
+    let mut from = GroupId::new(0);
+    while let Some(named) = rows.nested_from(g, from) {
+        let Some(having) = sets.group_from(s, named, steps) else {
+            return false;
+        };
+        if having == named {
+            return true;
+        }
+        from = having;
+    }
+    false
+}
+
+/// Whether the group has the person, by the sets of the groups below it.
+#[tactic(auto, using(crate::proofs::Own::by_rows, crate::proofs::Own::by_factors, crate::proofs::Own::rows_cost, crate::proofs::Own::factors_cost))]
+fn test<L: Ledger>(live: &Live, sets: &Sets, g: GroupId, s: SubjectId, steps: &mut Steps<L>) -> bool
     requires once { Once live.now.composites }
     ensures value { result ≡ level (λ h. holds h s sets.now) live.now g s }
     ensures cost { steps.new ≤ steps.old + leaving (edges live.now) g }
@@ -58,13 +62,12 @@ fn test<L: Ledger>(
     if live.rows.has(g, Member::Person(s)) {
         return true;
     }
-    any_has(below, sets, s, steps)
+    any_nested(&live.rows, sets, g, s, steps)
 }
 
 /// Brings one person's membership of one group up to date, and says whether it changed.
 fn update<L: Ledger>(
     live: &Live,
-    below: &[GroupId],
     sets: &mut Sets,
     began: &mut Marks,
     ended: &mut Marks,
@@ -72,7 +75,6 @@ fn update<L: Ledger>(
     s: SubjectId,
     steps: &mut Steps<L>,
 ) -> Result<bool, AllocError>
-    requires below { below.now ≡ nested g live.now.rows }
     requires once { Once live.now.composites }
     ensures changed { IfOk result (λ b. b
         ≡ differ (holds g s sets.old) (level (λ h. holds h s sets.old) live.now g s)) }
@@ -89,7 +91,7 @@ fn update<L: Ledger>(
         || holds y q ended.old)) }
     ensures cost { steps.new ≤ steps.old + leaving (edges live.now) g + 2 }
 {
-    if test(live, below, sets, g, s, steps) {
+    if test(live, sets, g, s, steps) {
         let lacked = sets.add(g, s, steps)?;
         if lacked {
             began.add(g, s)?;
@@ -136,10 +138,9 @@ fn pass<L: Ledger>(
     ensures cost { OnOk result (steps.new
         ≤ steps.old + length persons.now * (leaving (edges live.now) g + 2)) }
 {
-    let below = live.rows.nested(g)?;
     let mut changed = Vec::new(alloc);
     for s in persons {
-        if update(live, below.as_slice(), sets, began, ended, g, *s, steps)? {
+        if update(live, sets, began, ended, g, *s, steps)? {
             changed.push(*s)?;
         }
     }

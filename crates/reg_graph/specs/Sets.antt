@@ -1,5 +1,6 @@
 -- A set of subjects for each group, as pairs of a group and a subject in order.
-use Rattle.std.specs.Prelude.{◌≡◌, ℕ, ◌==◌, ◌&&◌, ◌<◌, ◌^◌, List, map, filter, Bool}
+use Rattle.std.specs.Prelude.{◌≡◌, ℕ, ◌==◌, ◌&&◌, ◌<◌, ◌≤◌, ◌^◌, List, map, filter, Bool, true, false}
+use Rattle.std.specs.Prelude.{Option, MatchOption}
 use Rattle.std.specs.List.{list_any, All}
 use Rattle.std.specs.List.Sorted.{IsStrictlySortedBy}
 use Rattle.std.specs.Ordering.{nat_cmp, ordering_then}
@@ -16,6 +17,12 @@ subjects_of g pairs = map (λ (p : ℕ × ℕ). p.1) (filter (λ (p : ℕ × ℕ
 -- the groups that have a subject, by id
 abbrev pub groups_of : ℕ → List (ℕ × ℕ) → List ℕ
 groups_of s pairs = map (λ (p : ℕ × ℕ). p.0) (filter (λ (p : ℕ × ℕ). p.1 == s) pairs)
+
+-- the first number that passes a test, from a number on, or none
+abbrev pub IsFirstFrom : (ℕ → Bool) → ℕ → Option ℕ → Type 0
+IsFirstFrom test from found =
+    MatchOption found ((x : ℕ) → from ≤ x → test x ≡ false)
+    (λ k. (from ≤ k) × (test k ≡ true) × ((x : ℕ) → from ≤ x → x < k → test x ≡ false))
 
 -- by group, and then by subject
 abbrev pub pair_cmp : ℕ × ℕ → ℕ × ℕ → Ordering

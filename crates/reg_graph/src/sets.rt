@@ -4,7 +4,7 @@ ghost use Rattle.std.specs.Prelude.{length};
 ghost use Rattle.std.specs.List.{list_any};
 ghost use Rattle.std.specs.List.Sorted.{IsStrictlySortedBy};
 ghost use Rattle.std.specs.Ordering.{nat_cmp};
-ghost use Rattle.reg_graph.specs.Sets.{holds, subjects_of, groups_of};
+ghost use Rattle.reg_graph.specs.Sets.{holds, subjects_of, groups_of, IsFirstFrom};
 
 use reg_base::{GroupId, Steps, SubjectId};
 use std::alloc::{AllocError, Global};
@@ -143,5 +143,23 @@ impl Sets {
             groups.push(pair.1)?;
         }
         Ok(groups)
+    }
+
+    /// The first of the subject's groups, by id, from an id on, if there is one: one step, no
+    /// memory.
+    pub fn group_from<L: Ledger>(
+        &self,
+        s: SubjectId,
+        from: GroupId,
+        steps: &mut Steps<L>,
+    ) -> Option<GroupId>
+        ensures value { IsFirstFrom (λ g. holds g s self.now) from result }
+        ensures cost { steps.new ≡ steps.old + 1 }
+    {
+        steps.tick(); // one group looked up
+        let first = (s, from);
+        let last = (s, GroupId::new(u32::MAX));
+        let pair = self.turned.range(first..=last).next()?;
+        Some(pair.1)
     }
 }
