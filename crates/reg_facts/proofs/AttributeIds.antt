@@ -1,20 +1,28 @@
--- Attributes and assignments by their ids.
-use Rattle.std.proofs.Common.{◌≡◌, ◌<◌, ◌==◌, ◌+◌, ◌++◌, ℕ, List, [], ◌∷◌, false, Some, None, refl, map, arith}
+-- Rows of the next id, and attributes and assignments by their ids.
+use Rattle.std.proofs.Common.{◌≡◌, ◌<◌, ◌==◌, ◌+◌, ◌++◌, ℕ, List, [], ◌∷◌, false, Some, None, IsSome, refl, map, arith}
 use Rattle.std.proofs.lemmas.Bool.{ne_eqb, eqb-true}
 use Rattle.reg_terms.specs.declared.kinds.Object.{Object}
 use Rattle.reg_terms.specs.declared.rows.AssignRow.{AssignRow}
 use Rattle.reg_terms.specs.declared.rows.AttributeRow.{AttributeRow}
-use Rattle.reg_facts.specs.Ascending.{AttributesAscend, AssignsAscend}
+use Rattle.reg_terms.specs.declared.rows.FolderRow.{FolderRow}
+use Rattle.reg_terms.specs.declared.rows.GroupRow.{GroupRow}
+use Rattle.reg_facts.specs.Ascending.{AttributesAscend, AssignsAscend, FoldersAscend, GroupsAscend}
 use Rattle.reg_facts.specs.Assigned.{AreAssigned}
 use Rattle.reg_facts.specs.Attributes.{assign_row, has_assign}
 use Rattle.reg_facts.specs.Lists.{Lists}
 use Rattle.reg_facts.specs.Sound.{AscendFrom, IsSound}
-use Rattle.reg_facts.proofs.Edited.{ascend_push}
+use Rattle.reg_facts.proofs.Edited.{ascend_push, begins_push}
 use Rattle.reg_facts.proofs.Noted.{ascend_top}
 use Rattle.reg_facts.proofs.PlacedRows.{passes}
-use Rattle.reg_facts.proofs.Searched.{ascending}
+use Rattle.reg_facts.proofs.Searched.{ascending, from_root}
 
 -- with one of the next id they ascend still
+pub next_folder : (f : Lists) (row : FolderRow) → IsSound f → row.id ≡ f.made.folders + 1 → IsSome row.parent → FoldersAscend (f.folders ++ row ∷ [])
+next_folder f row s next parent = from_root (f.made.folders + 1) (f.folders ++ row ∷ []) (begins_push f.made.folders f.folders row s.folders next parent)
+
+pub next_group : (f : Lists) (row : GroupRow) → IsSound f → row.id ≡ f.made.groups + 1 → GroupsAscend (f.groups ++ row ∷ [])
+next_group f row s next = ascending 0 (f.made.groups + 1) (map (λ (r : GroupRow). r.id) (f.groups ++ row ∷ [])) (ascend_push (λ (r : GroupRow). r.id) 0 f.made.groups f.groups row s.groups next)
+
 pub next_attribute : (f : Lists) (row : AttributeRow) → IsSound f → row.id ≡ f.made.attributes + 1 → AttributesAscend (f.attributes ++ row ∷ [])
 next_attribute f row s next = ascending 0 (f.made.attributes + 1) (map (λ (r : AttributeRow). r.id) (f.attributes ++ row ∷ [])) (ascend_push (λ (r : AttributeRow). r.id) 0 f.made.attributes f.attributes row s.attributes next)
 

@@ -48,7 +48,7 @@ object_is (object.Subject a) (object.Def b) = refl
 object_is (object.Subject a) (object.Attr b) = refl
 object_is (object.Subject a) (object.Subject b) = refl
 
-holder_is : (a b : Holder) → holder_eq.ghosts.eq a b ≡ same_holder a b
+pub holder_is : (a b : Holder) → holder_eq.ghosts.eq a b ≡ same_holder a b
 holder_is holder.Everyone holder.Everyone = refl
 holder_is holder.Everyone (holder.Person b) = refl
 holder_is holder.Everyone (holder.Group b) = refl
@@ -70,7 +70,7 @@ kind_is kind.Definition kind.Folder = refl
 kind_is kind.Definition kind.Group = refl
 kind_is kind.Definition kind.Definition = refl
 
-scope_is : (a b : Scope) → scope_eq.ghosts.eq a b ≡ same_scope a b
+pub scope_is : (a b : Scope) → scope_eq.ghosts.eq a b ≡ same_scope a b
 scope_is One One = refl
 scope_is One Sub = refl
 scope_is Sub One = refl

@@ -27,8 +27,10 @@ mod memberships;
 mod naming;
 mod nest;
 mod numbered;
+mod rule_forms;
 mod rule_rows;
 mod rules;
+mod slots;
 mod tables;
 mod taking;
 mod text_index;
@@ -46,3 +48,4 @@ pub use reg_terms::{
     Made, Member, MemberRow, Object, Owners, Refusal, RuleForm, RuleKey, RuleRow, Scope, SetOp,
     Stamped, SubjectRow, Texts, Value,
 };
+pub use slots::SlotRows;

@@ -97,7 +97,7 @@ impl MemberRows {
         ensures { IfOk result (λ rows. rows.items ≡ self.now) }
     {
         let mut listed = Vec::new(alloc);
-        for row in self.rows.rows() {
+        for row in self.rows.rows(alloc)? {
             listed.push(*row)?;
         }
         Ok(listed)

@@ -1,5 +1,5 @@
 // The rules as contracts see them.
-ghost use Rattle.std.specs.Prelude.{◌≡◌, ◌==◌, ◌||◌, ◌++◌, ◌∷◌, [], not, filter, IfOk, OnOk};
+ghost use Rattle.std.specs.Prelude.{◌≡◌, ◌==◌, ◌||◌, ◌++◌, ◌∷◌, [], not, filter, map, IfOk, OnOk};
 ghost use Rattle.std.specs.List.{list_any};
 ghost use Rattle.std.specs.Option.{option_copied};
 ghost use Rattle.reg_terms.specs.Kinds.{same_holder};
@@ -9,12 +9,13 @@ ghost use Rattle.reg_terms.specs.declared.rules.RuleKey.TheVariants as key;
 ghost use Rattle.reg_terms.specs.declared.rows.RuleRow.{RuleRow};
 ghost use Rattle.reg_facts.specs.Ascending.{RulesAscend};
 ghost use Rattle.reg_facts.specs.Rules.{rule_by, rules_at, has_rule, is_ruled, is_ruled_folder};
-ghost use Rattle.reg_facts.specs.Ruling.{AreIndexed};
+ghost use Rattle.reg_facts.specs.Ruling.{AreIndexed, by_form};
 
 use crate::numbered::{remove_by_id, row_by_id};
+use crate::rule_forms::{ByForm, formed, says};
 use crate::{Holder, RuleForm, RuleKey, RuleRow};
 use reg_base::{FolderId, GroupId, RuleId};
-use reg_table::{GroupRows, LinkedTable, Row};
+use reg_table::{GroupRows, LinkedTable, Row, Table};
 use std::alloc::{AllocError, Global};
 use std::marker::Model;
 
@@ -24,6 +25,8 @@ pub struct RuleRows {
     list: Vec<RuleRow>,
     /// The same rules by what they are looked up by, and by the groups that they name beside that.
     index: LinkedTable<RuleRow>,
+    /// The same rules by all that they say.
+    forms: Table<ByForm>,
 }
 
 impl Model for RuleRows {
@@ -35,7 +38,7 @@ impl Model for RuleRows {
 
     ghost view = { λ t. t.list.items };
 
-    ghost invariant = { λ t. AreIndexed t.index t.list.items };
+    ghost invariant = { λ t. AreIndexed t.index t.forms t.list.items };
 }
 
 /// Adds a copy of a rule behind the others.
@@ -51,11 +54,23 @@ fn push_copy(list: &mut Vec<RuleRow>, row: &RuleRow) -> Result<(), AllocError>
 
 /// Takes the rule of this id out of the index of a list, if it is there.
 fn unlist(index: &mut LinkedTable<RuleRow>, list: &[RuleRow], id: u32)
-    requires { AreIndexed index.old list.now }
+    requires ascend { RulesAscend list.now }
+    requires same { index.old ≡ list.now }
     ensures { index.new ≡ filter (λ (row : RuleRow). not (row.id == id)) list.now }
 {
     if let Some(row) = row_by_id(list, id) {
         index.remove(row.group(), row.place());
+    }
+}
+
+/// Takes the rule of this id out of those that are found by all that they say, if it is there.
+fn unform(forms: &mut Table<ByForm>, list: &[RuleRow], id: u32)
+    requires ascend { RulesAscend list.now }
+    requires same { forms.old ≡ map by_form list.now }
+    ensures { forms.new ≡ map by_form (filter (λ (row : RuleRow). not (row.id == id)) list.now) }
+{
+    if let Some(row) = row_by_id(list, id) {
+        forms.remove(says(&row.form), row.id);
     }
 }
 
@@ -67,6 +82,7 @@ impl RuleRows {
         RuleRows {
             list: Vec::new(alloc),
             index: LinkedTable::new(alloc),
+            forms: Table::new(alloc),
         }
     }
 
@@ -92,16 +108,11 @@ impl RuleRows {
         self.index.rows_of(key)
     }
 
-    /// Whether a rule says the same. It looks at the rules that watch what this one watches.
+    /// Whether a rule says the same. It takes no memory, and costs a logarithm.
     pub fn has(&self, form: &RuleForm) -> bool
         ensures { result ≡ has_rule form.now self.now }
     {
-        for row in self.at(form.key()) {
-            if row.form.is(form) {
-                return true;
-            }
-        }
-        false
+        self.forms.has_rows(says(form))
     }
 
     /// Whether a group is what a rule watches.
@@ -148,10 +159,12 @@ impl RuleRows {
         let RuleRows {
             mut list,
             mut index,
+            mut forms,
         } = self;
         push_copy(&mut list, &row)?;
+        forms.push(formed(&row))?;
         index.push(row)?;
-        Ok(RuleRows { list, index })
+        Ok(RuleRows { list, index, forms })
     }
 
     /// Takes the rule of this id away. It takes no memory.
@@ -159,6 +172,7 @@ impl RuleRows {
         ensures { self.new ≡ filter (λ (row : RuleRow). not (row.id == id)) self.old }
     {
         unlist(&mut self.index, self.list.as_slice(), id.number());
+        unform(&mut self.forms, self.list.as_slice(), id.number());
         remove_by_id(&mut self.list, id.number());
     }
 }

@@ -39,8 +39,7 @@ impl Facts {
         self.tables.rule_rows.at(key)
     }
 
-    /// Whether a rule says the same. It looks at the rules that watch what this one watches, and
-    /// takes no memory.
+    /// Whether a rule says the same. It takes no memory, and costs a logarithm.
     pub fn has_rule(&self, form: &RuleForm) -> bool
         ensures { result ≡ has_rule form.now self.now.rules }
     {

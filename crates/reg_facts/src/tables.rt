@@ -32,6 +32,7 @@ use crate::inherit_rows::InheritRows;
 use crate::member_rows::MemberRows;
 use crate::numbered::remove_by_id;
 use crate::rule_rows::RuleRows;
+use crate::slots::Slots;
 use crate::{
     AssignRow, AttrValue, AttributeRow, CompositeRow, ConsumerRow, DefinitionRow, FolderRow,
     GrantRow, GroupRow, InheritRow, JobRow, Made, Member, MemberRow, Object, RuleRow, SubjectRow,
@@ -46,8 +47,8 @@ use std::mem;
 /// The lists. Contracts see the record of them.
 #[derive(Drop)]
 pub struct Tables {
-    pub folder_rows: Vec<FolderRow>,
-    pub group_rows: Vec<GroupRow>,
+    pub folder_rows: Slots<FolderRow>,
+    pub group_rows: Slots<GroupRow>,
     pub subject_rows: Vec<SubjectRow>,
     pub member_rows: MemberRows,
     pub composite_rows: Table<CompositeRow>,
@@ -68,8 +69,8 @@ impl Model for Tables {
     ghost Value = { Lists };
 
     ghost view = { λ t. record {
-      folders = t.folder_rows.items;
-      groups = t.group_rows.items;
+      folders = t.folder_rows;
+      groups = t.group_rows;
       subjects = t.subject_rows.items;
       rows = t.member_rows;
       composites = t.composite_rows;
@@ -114,7 +115,7 @@ impl Tables {
     pub fn start(alloc: Global) -> Result<Tables, AllocError>
         ensures { IfOk result (λ t. t ≡ start) }
     {
-        let mut folder_rows = Vec::new(alloc);
+        let mut folder_rows = Slots::new(alloc);
         folder_rows.push(FolderRow {
             id: FolderId::new(0),
             parent: None,
@@ -123,7 +124,7 @@ impl Tables {
         })?;
         Ok(Tables {
             folder_rows,
-            group_rows: Vec::new(alloc),
+            group_rows: Slots::new(alloc),
             subject_rows: Vec::new(alloc),
             member_rows: MemberRows::new(alloc),
             composite_rows: Table::new(alloc),
@@ -141,6 +142,7 @@ impl Tables {
 
     /// Adds a folder of the next id.
     pub fn push_folder(&mut self, row: FolderRow) -> Result<(), AllocError>
+        requires { FoldersAscend (self.old.folders ++ row ∷ []) }
         ensures { OnOk result (self.new ≡ happened (FolderMade row) self.old) }
     {
         let number = row.id.number();
@@ -151,6 +153,7 @@ impl Tables {
 
     /// Adds a group of the next id.
     pub fn push_group(&mut self, row: GroupRow) -> Result<(), AllocError>
+        requires { GroupsAscend (self.old.groups ++ row ∷ []) }
         ensures { OnOk result (self.new ≡ happened (GroupMade row) self.old) }
     {
         let number = row.id.number();
@@ -196,43 +199,38 @@ impl Tables {
 
     /// Gives a folder another extension.
     pub fn rename_folder(&mut self, id: FolderId, extension: Text)
-        requires { FoldersAscend self.old.folders }
         ensures { self.new ≡ happened (FolderRenamed id extension) self.old }
     {
-        list_edits::rename_folder(self.folder_rows.as_mut_slice(), id, extension);
+        list_edits::rename_folder(&mut self.folder_rows, id, extension);
     }
 
     /// Puts a folder into another.
     pub fn move_folder(&mut self, id: FolderId, to: FolderId)
-        requires { FoldersAscend self.old.folders }
         ensures { self.new ≡ happened (FolderMoved id to) self.old }
     {
-        list_edits::move_folder(self.folder_rows.as_mut_slice(), id, to);
+        list_edits::move_folder(&mut self.folder_rows, id, to);
     }
 
     /// Gives a group another extension.
     pub fn rename_group(&mut self, id: GroupId, extension: Text)
-        requires { GroupsAscend self.old.groups }
         ensures { self.new ≡ happened (GroupRenamed id extension) self.old }
     {
-        list_edits::rename_group(self.group_rows.as_mut_slice(), id, extension);
+        list_edits::rename_group(&mut self.group_rows, id, extension);
     }
 
     /// Puts a group into another folder.
     pub fn move_group(&mut self, id: GroupId, to: FolderId)
-        requires { GroupsAscend self.old.groups }
         ensures { self.new ≡ happened (GroupMoved id to) self.old }
     {
-        list_edits::move_group(self.group_rows.as_mut_slice(), id, to);
+        list_edits::move_group(&mut self.group_rows, id, to);
     }
 
     /// Takes away a folder, and the grants, inherits and assignments on it.
     pub fn delete_folder(&mut self, id: FolderId)
-        requires { FoldersAscend self.old.folders }
         ensures { self.new ≡ happened (FolderGone id) self.old }
     {
         let object = Object::Folder(id);
-        remove_by_id(&mut self.folder_rows, id.number());
+        self.folder_rows.remove(id.number());
         self.inherit_rows.remove_on(id);
         self.grant_rows.remove_on(&object);
         self.assign_rows.remove_on(&object);
@@ -240,11 +238,10 @@ impl Tables {
 
     /// Takes away a group, and the grants and assignments on it.
     pub fn delete_group(&mut self, id: GroupId)
-        requires { GroupsAscend self.old.groups }
         ensures { self.new ≡ happened (GroupGone id) self.old }
     {
         let object = Object::Group(id);
-        remove_by_id(&mut self.group_rows, id.number());
+        self.group_rows.remove(id.number());
         self.grant_rows.remove_on(&object);
         self.assign_rows.remove_on(&object);
     }

@@ -1,9 +1,14 @@
-use Rattle.std.proofs.Common.{◌≡◌}
+use Rattle.std.proofs.Common.{◌≡◌, refl}
 use Rattle.reg_terms.specs.declared.event.Event.TheVariants.{FolderMade}
 use Rattle.reg_facts.specs.Events.{happened}
 use Rattle.reg_facts.proofs.Happening.{on_both, on_finished}
 use Rattle.reg_facts.proofs.Indexing.{folder_made_indexed}
+use Rattle.reg_facts.proofs.AttributeIds.{next_folder}
 use Rattle.reg_facts.proofs.facts.Facts.folder_made.Goals as goal
+
+-- the next id is behind the others
+pub push_folder-requires : goal.push_folder-requires
+push_folder-requires c = rw c.deref_mut.ensures.value (next_folder c.self.inside.tables.value c.args.row c.self.invariant.sound (rw c.self.view_is c.requires.0) (rw c.requires.3 refl))
 
 -- the maps find what the lists hold, the new object too
 pub finished-requires : goal.finished-requires

@@ -3,7 +3,12 @@ use Rattle.reg_terms.specs.declared.event.Event.TheVariants.{GroupMade}
 use Rattle.reg_facts.specs.Events.{happened}
 use Rattle.reg_facts.proofs.Happening.{on_both, on_finished}
 use Rattle.reg_facts.proofs.Indexing.{group_made_indexed}
+use Rattle.reg_facts.proofs.AttributeIds.{next_group}
 use Rattle.reg_facts.proofs.facts.Facts.group_made.Goals as goal
+
+-- the next id is behind the others
+pub push_group-requires : goal.push_group-requires
+push_group-requires c = rw c.deref_mut.ensures.value (next_group c.self.inside.tables.value c.args.row c.self.invariant.sound (rw c.self.view_is c.requires.0))
 
 -- the maps find what the lists hold, the new object too
 pub finished-requires : goal.finished-requires

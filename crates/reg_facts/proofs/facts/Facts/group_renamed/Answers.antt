@@ -2,7 +2,6 @@ use Rattle.std.proofs.Common.{◌≡◌}
 use Rattle.reg_terms.specs.declared.event.Event.TheVariants.{GroupRenamed}
 use Rattle.reg_facts.specs.Events.{happened}
 use Rattle.reg_facts.proofs.Happening.{on_ok}
-use Rattle.reg_facts.proofs.Searched.{groups_ascend}
 use Rattle.reg_facts.proofs.Indexing.{group_renamed_indexed}
 use Rattle.reg_facts.proofs.facts.Facts.group_renamed.Goals as goal
 
@@ -12,7 +11,3 @@ finished-requires c = on_ok c.put-done.result c.put-done.ensures (λ put.
     let is : c.rename_group.new.self ≡ happened (GroupRenamed c.args.id c.args.extension) c.args.self = rw (c.deref_mut.ensures.value, c.self.view_is) at c.rename_group.ensures in
     rw is (group_renamed_indexed c.self.inside.subject_index c.self.inside.children c.take.new.self c.put-done.new.self c.args.id c.args.extension _ c.args.self
     (rw c.self.view_is at c.self.invariant) c.requires (rw (c.deref.ensures, c.self.view_is) at c.the_place-place.ensures) (λ x y. rw (← c.number.ensures) (c.take.ensures x y)) (λ x y. rw (← c.number-2.ensures, ← c.as_str.ensures) (put x y))))
-
--- ids of sound facts ascend
-pub rename_group-requires : goal.rename_group-requires
-rename_group-requires c = rw c.deref_mut.ensures.value (groups_ascend _ c.self.invariant.sound)

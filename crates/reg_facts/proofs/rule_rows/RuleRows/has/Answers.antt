@@ -1,16 +1,14 @@
-use Rattle.std.proofs.Common.{◌≡◌, ◌∙◌, ap, rules, true}
-use Rattle.reg_terms.specs.Rules.{key_of, same_form}
-use Rattle.reg_facts.specs.Rules.{has_rule, rules_at}
-use Rattle.reg_facts.proofs.RuleKeys.{has_found, has_none}
+use Rattle.std.proofs.Common.{◌≡◌, ◌∙◌, ap}
+use Rattle.std.specs.List.{list_any}
+use Rattle.reg_facts.specs.Rules.{has_rule}
+use Rattle.reg_facts.specs.Ruling.{says_of}
+use Rattle.reg_facts.specs.declared.rule_forms.ByForm.{ByForm}
+use Rattle.reg_facts.proofs.RuleKeys.{is_said, said_any}
 use Rattle.reg_facts.proofs.rule_rows.RuleRows.has.Goals as goal
-
-pub returns-then-is : goal.returns-then-is
-returns-then-is c =
-    let from : c.into_iter-row-iterator.result ≡ rules_at (key_of c.args.form.now) c.args.self.now = c.into_iter-row-iterator.ensures.into_iter_gives ∙ (rw c.key.ensures at c.at-row-items.ensures) in
-    let same : same_form c.in-Some.row.now.form c.args.form.now ≡ true = search rules in
-    has_found c.args.form.now c.args.self.now c.loop-row.row-iterator c.next.new.self c.in-Some.row.now (c.loop-row.invariant ∙ ap (has_rule c.args.form.now) from) c.in-Some.ensures.steps same
 
 pub returns : goal.returns
 returns c =
-    let from : c.into_iter-row-iterator.result ≡ rules_at (key_of c.args.form.now) c.args.self.now = c.into_iter-row-iterator.ensures.into_iter_gives ∙ (rw c.key.ensures at c.at-row-items.ensures) in
-    has_none c.args.form.now c.args.self.now c.loop-row.row-iterator (c.loop-row.invariant ∙ ap (has_rule c.args.form.now) from) c.in-None.ensures.steps.0
+    let found : c.has_rows.result ≡ list_any (λ (rule : ByForm). is_said (says_of c.args.form.now) rule.says) c.self.inside.forms = rw c.says.ensures at c.has_rows.ensures in
+    found
+    ∙ (ap (list_any (λ (rule : ByForm). is_said (says_of c.args.form.now) rule.says)) c.self.invariant.said
+    ∙ (said_any c.args.form.now c.self.inside.list.items ∙ ap (has_rule c.args.form.now) c.self.view_is))
