@@ -3,6 +3,9 @@ use Rattle.std.proofs.Common.{◌≡◌, ◌&&◌, ◌||◌, List, [], ◌∷◌
 use Rattle.std.specs.BTreeSet.{insert_key}
 use Rattle.std.specs.List.{list_any}
 use Rattle.std.specs.List.Sorted.{IsStrictlySortedBy}
+use Rattle.std.specs.Ordering.{match_ordering}
+use Rattle.std.specs.declared.cmp.Ordering.{Ordering}
+use Rattle.std.specs.declared.cmp.Ordering.TheVariants.{Less, Equal, Greater}
 use Rattle.reg_terms.specs.declared.kinds.Object.{Object}
 use Rattle.reg_terms.specs.declared.kinds.Scope.{Scope}
 use Rattle.reg_terms.specs.declared.rows.GrantRow.{GrantRow}
@@ -13,7 +16,7 @@ use Rattle.reg_facts.specs.Lists.{Lists}
 use Rattle.reg_priv.specs.Filling.{same_grant, is_among, brings}
 use Rattle.reg_priv.specs.Grants.{Grant, written, given, reaches, grants}
 use Rattle.reg_priv.specs.Holders.{grant_cmp, ordered_into, holders}
-use Rattle.reg_priv.proofs.Ordering.{in_put, put_sorted, one_list}
+use Rattle.reg_priv.proofs.Ordering.{in_put, put_sorted, one_list, swapped, twice}
 use Rattle.reg_priv.proofs.Placed.{grant_total, one_place}
 use Rattle.reg_priv.proofs.Scoped.{any_grant}
 
@@ -58,3 +61,21 @@ pub are_holders : (o : Object) (f : Lists) (list : List Grant) → IsStrictlySor
     → ((x : Grant) → is_among x list ≡ (list_any (λ (row : GrantRow). same_grant x (written row)) (grants_on o f.grants) || list_any (λ (row : InheritRow). reaches o f row && same_grant x (given row)) f.inherits))
     → list ≡ holders o f
 are_holders o f list sorted has = one_list grant_total one_place list (holders o f) sorted (ordered_sorted [] (grants o f) none_sorted) (λ x. has x ∙ sym (ordered_in x [] (grants o f) ∙ any_grant o f (same_grant x)))
+
+-- whether some of them pass a test: one put more, and all in order
+any_put : (t : Grant → Bool) (g : Grant) (found : List Grant) → list_any t (insert_key grant_cmp found g) ≡ (t g || list_any t found)
+any_put t g [] = refl
+any_put t g (x ∷ found) = go (grant_cmp g x) refl (any_put t g found)
+  where
+    go : (w : Ordering) → grant_cmp g x ≡ w → list_any t (insert_key grant_cmp found g) ≡ (t g || list_any t found) → list_any t (match_ordering w (g ∷ x ∷ found) (x ∷ found) (x ∷ insert_key grant_cmp found g)) ≡ (t g || list_any t (x ∷ found))
+    go Less e rest = refl
+    go Equal e rest = rw (one_place g x e) (twice (t x) (list_any t found))
+    go Greater e rest = ap (λ b. t x || b) rest ∙ sym (swapped (t g) (t x) (list_any t found))
+
+any_ordered : (t : Grant → Bool) (found gs : List Grant) → list_any t (ordered_into found gs) ≡ (list_any t found || list_any t gs)
+any_ordered t found [] = or_none (list_any t found) false refl
+any_ordered t found (g ∷ gs) = any_ordered t (insert_key grant_cmp found g) gs ∙ (ap (λ b. b || list_any t gs) (any_put t g found) ∙ shifted (t g) (list_any t found) (list_any t gs))
+
+-- whether some holder's grant passes a test is whether some grant does
+pub any_holder : (t : Grant → Bool) (o : Object) (f : Lists) → list_any t (holders o f) ≡ list_any t (grants o f)
+any_holder t o f = any_ordered t [] (grants o f)

@@ -2,6 +2,7 @@ pub mod Anys
 pub mod Scoped
 pub mod Parents
 pub mod Placed
+pub mod Powers
 pub mod Ordering
 pub mod Gathering
 pub mod Homes

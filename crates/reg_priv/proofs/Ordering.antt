@@ -13,11 +13,11 @@ use Rattle.std.specs.declared.cmp.Ordering.TheVariants.{Less, Equal, Greater}
 abbrev pub is_in : {K : Type 0} → (K → K → cmp.Ordering) → K → List K → Bool
 is_in R q xs = list_any (eq_by_cmp R q) xs
 
-twice : (a b : Bool) → (a || b) ≡ (a || (a || b))
+pub twice : (a b : Bool) → (a || b) ≡ (a || (a || b))
 twice true b = refl
 twice false b = refl
 
-swapped : (a b c : Bool) → (a || (b || c)) ≡ (b || (a || c))
+pub swapped : (a b c : Bool) → (a || (b || c)) ≡ (b || (a || c))
 swapped true true c = refl
 swapped true false c = refl
 swapped false b c = refl

@@ -1,15 +1,22 @@
 // What a caller may do.
-ghost use Rattle.std.specs.Prelude.{◌≡◌, IfOk};
+ghost use Rattle.std.specs.Prelude.{◌≡◌, ◌&&◌, ◌||◌, IfOk, filter, map};
+ghost use Rattle.std.specs.List.{list_any};
+ghost use Rattle.reg_terms.specs.Kinds.{is_of_kind};
+ghost use Rattle.reg_terms.specs.Privileges.{all_privileges, gives, line_of};
 ghost use Rattle.reg_terms.specs.declared.kinds.Object.TheVariants.{Attr};
-ghost use Rattle.reg_priv.specs.May.{is_root, granted, judged, may, visible, privileges_of, wheel};
+ghost use Rattle.reg_priv.specs.Grants.{Grant};
+ghost use Rattle.reg_priv.specs.May.{is_root, granted, holds, judged, may, visible};
+ghost use Rattle.reg_priv.specs.May.{privileges_of, wheel};
 
 use crate::Who;
 use crate::climbing::any_inherited;
 use crate::granting::any_written;
+use crate::holding::holders;
+use crate::who::holds;
 use reg_base::{AttrId, GroupId, Privilege};
 use reg_effect::Kept;
-use reg_facts::{Facts, Object};
-use reg_terms::{Privileges, all_privileges, privilege_kind};
+use reg_facts::{Facts, Holder, Object};
+use reg_terms::{Privileges, all_privileges, gives, privilege_kind};
 use std::alloc::{AllocError, Global};
 
 /// The group whose members may do everything.
@@ -100,7 +107,64 @@ pub fn is_visible<K: Kept>(facts: &Facts, kept: &K, who: &Who, object: &Object) 
     }
 }
 
-/// All privileges that a caller has on an object, by code. The only error is out of memory.
+/// The privileges of those of some grants that are the caller's.
+fn held_by<K: Kept>(
+    alloc: Global,
+    kept: &K,
+    who: &Who,
+    grants: &[(Privilege, Holder)],
+) -> Result<Vec<Privilege>, AllocError>
+    ensures { IfOk result (λ held. held.items
+        ≡ map (λ (g : Grant). g.0)
+        (filter (λ (g : Grant). holds (K.held kept.now) who.now g.1) grants.now)) }
+{
+    let mut held = Vec::new(alloc);
+    for grant in grants {
+        if holds(kept, who, &grant.1) {
+            held.push(grant.0)?;
+        }
+    }
+    Ok(held)
+}
+
+/// Whether one of these privileges is the wanted one or gives it.
+fn any_gives(held: &[Privilege], wanted: Privilege) -> bool
+    ensures { result ≡ list_any (λ q. gives q wanted) held.now }
+{
+    held.iter().any(|privilege| gives(*privilege, wanted))
+}
+
+/// Whether a privilege is for objects of this kind, and root asks or one of those held gives it.
+fn is_given(object: &Object, root: bool, held: &[Privilege], privilege: Privilege) -> bool
+    ensures { result ≡ (is_of_kind (line_of privilege).on object.now
+        && (root || list_any (λ q. gives q privilege) held.now)) }
+{
+    object.is_of(privilege_kind(privilege)) && (root || any_gives(held, privilege))
+}
+
+/// The privileges on an object of its kind: all of them for root, else what the held ones give.
+fn privileges_by(
+    alloc: Global,
+    object: &Object,
+    root: bool,
+    held: &[Privilege],
+) -> Result<Privileges, AllocError>
+    ensures { IfOk result (λ list. list ≡ filter
+        (λ p. is_of_kind (line_of p).on object.now
+        && (root || list_any (λ q. gives q p) held.now)) all_privileges) }
+{
+    let mut list = Privileges::new(alloc);
+    for privilege in all_privileges() {
+        if is_given(object, root, held, *privilege) {
+            list.push(*privilege)?;
+        }
+    }
+    Ok(list)
+}
+
+/// All privileges that a caller has on an object, by code. It goes once through the grants on the
+/// object and the inherits on the folders above it, and not at all for root. The only error is out
+/// of memory.
 pub fn privileges_of<K: Kept>(
     alloc: Global,
     facts: &Facts,
@@ -111,11 +175,13 @@ pub fn privileges_of<K: Kept>(
     ensures { IfOk result (λ list. list
         ≡ privileges_of (K.held kept.now) facts.now who.now object.now) }
 {
-    let mut list = Privileges::new(alloc);
-    for privilege in all_privileges() {
-        if may(facts, kept, who, object, *privilege) {
-            list.push(*privilege)?;
-        }
+    let judged = judged(facts, object);
+    if is_root(facts, kept, who) {
+        let all = privileges_by(alloc, &judged, true, &[])?;
+        return Ok(all);
     }
-    Ok(list)
+    let grants = holders(alloc, facts, &judged)?;
+    let held = held_by(alloc, kept, who, &grants)?;
+    let given = privileges_by(alloc, &judged, false, &held)?;
+    Ok(given)
 }
