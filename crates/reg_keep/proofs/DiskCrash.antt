@@ -1,5 +1,5 @@
 -- How runs of disk calls go on, in a crash's eyes.
-use Rattle.std.specs.Prelude.{◌≡◌, ◌⊎◌, ℕ, ◌≤◌, List}
+use Rattle.std.specs.Prelude.{◌⊎◌, ℕ, ◌≤◌, List}
 use Rattle.std.proofs.Common.{inl, inr, ⊎_elim, sym, subst, arith}
 use Rattle.reg_outside.specs.Disk.{Changes, Leaves, After, Same}
 

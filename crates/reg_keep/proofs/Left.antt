@@ -4,12 +4,12 @@ use Rattle.std.proofs.lemmas.Bool.{cases_lt}
 use Rattle.std.proofs.lemmas.Bool.Decides.{nat_tests}
 use Rattle.std.proofs.lemmas.List.{get_or_at, get_or_past, drop_more, drop_all, length-take-le}
 use Rattle.reg_outside.specs.Disk.{Changes, Leaves, After, Same, Only, put}
-use Rattle.reg_keep.specs.Frames.{frame, opened, gate_of, with_frame}
+use Rattle.reg_keep.specs.Frames.{frames_of, opened, gate_of, with_frames}
 use Rattle.reg_keep.proofs.DiskCrash.{all_by}
-use Rattle.reg_keep.specs.Settled.{IsAtRest, IsSettled, IsBeforeOrAfter, ends_as_left, EndsAsLeft}
+use Rattle.reg_keep.specs.Settled.{IsAtRest, IsSettled, IsBeforeOrAll, ends_as_left, EndsAsLeft}
 use Rattle.reg_keep.proofs.Appends.{before_now}
 use Rattle.reg_keep.proofs.Begins.{only_still}
-use Rattle.reg_keep.proofs.Gates.{resting, gate_inside, length-frame}
+use Rattle.reg_keep.proofs.Gates.{resting, gate_inside}
 
 -- by the two numbers that the look reads: the length, and the byte at the gate
 abbrev stands : ℕ → ℕ → ℕ → Bool
@@ -98,11 +98,11 @@ module _ {D : Type 0} (moment : D → ℕ) (may_leave : D → List ℕ → Type 
   }
 
   -- the look leaves the images
-  pub looked : (gate : ℕ) (payload : List ℕ) (held : Option (List ℕ)) (old mid : D) → ((c : List ℕ) → left_since old (moment old) c → may_leave old c) → IsSettled gate held (may_leave old) → Changes moment may_leave left_since Same old mid
-      → Leaves moment left_since (IsBeforeOrAfter held payload) old mid
-  looked gate payload held old mid only_now settled by =
-      let here = before_now gate payload held (may_leave old) settled in
-      all_by moment may_leave left_since (IsBeforeOrAfter held payload) Same old mid only_now here (still_left (IsBeforeOrAfter held payload) (may_leave old) here) by
+  pub looked : (gate : ℕ) (p : List ℕ) (ps : List (List ℕ)) (held : Option (List ℕ)) (old mid : D) → ((c : List ℕ) → left_since old (moment old) c → may_leave old c) → IsSettled gate held (may_leave old) → Changes moment may_leave left_since Same old mid
+      → Leaves moment left_since (IsBeforeOrAll held (p ∷ ps)) old mid
+  looked gate p ps held old mid only_now settled by =
+      let here = before_now gate p ps held (may_leave old) settled in
+      all_by moment may_leave left_since (IsBeforeOrAll held (p ∷ ps)) Same old mid only_now here (still_left (IsBeforeOrAll held (p ∷ ps)) (may_leave old) here) by
 
   -- one run after another
   pub leaves_both : (P : List ℕ → Type 0) (old mid new : D) → Leaves moment left_since P old mid → Leaves moment left_since P mid new → Leaves moment left_since P old new
@@ -116,19 +116,19 @@ length_put : (at : ℕ) (bytes held : List ℕ) → at ≤ length held → lengt
 length_put at bytes held fits =
     omega (arith, length-append (take at held ++ bytes) (drop (at + length bytes) held), length-append (take at held) bytes, length-take-le at held fits, length-drop (at + length bytes) held)
 
--- so long is the file after an append
-pub long_after : (gate size : ℕ) (payload : List ℕ) (held new : Option (List ℕ)) → IfSome held (IsAtRest gate) → EndsAsLeft gate size held → new ≡ option_map (λ file. with_frame file payload) held
-    → IfSome new (λ file. length file ≡ max size (gate + 6 + length payload))
-long_after gate size payload None new rest left is = subst (λ o. IfSome o (λ file. length file ≡ max size (gate + 6 + length payload))) (sym is) tt
-long_after gate size payload (Some held) new rest left is =
-    let more = frame payload ++ 0 ∷ [] in
+-- so long is the file after frames were appended
+pub long_after : (gate size : ℕ) (p : List ℕ) (ps : List (List ℕ)) (n : ℕ) (held new : Option (List ℕ)) → IfSome held (IsAtRest gate) → EndsAsLeft gate size held → n ≡ gate + length (frames_of (p ∷ ps)) → new ≡ option_map (λ file. with_frames file (p ∷ ps)) held
+    → IfSome new (λ file. length file ≡ max size (n + 1))
+long_after gate size p ps n None new rest left next is = subst (λ o. IfSome o (λ file. length file ≡ max size (n + 1))) (sym is) tt
+long_after gate size p ps n (Some held) new rest left next is =
+    let more = frames_of (p ∷ ps) ++ 0 ∷ [] in
     let place : gate_of (opened held) ≡ gate = ap gate_of rest.opens ∙ sym rest.place in
     let inside = gate_inside gate held rest in
-    let whole : length (with_frame held payload) ≡ length (put gate more held) = ap (λ (n : ℕ). length (put n more held)) place in
+    let whole : length (with_frames held (p ∷ ps)) ≡ length (put gate more held) = ap (λ (n : ℕ). length (put n more held)) place in
     let put_long : length (put gate more held) ≡ max (length held) (gate + length more) = length_put gate more held (omega (arith, inside)) in
     let held_long : length held ≡ size = long_stands (length held) size (get_or held gate 1) left in
-    let more_long : length more ≡ 6 + length payload = omega (arith, length-append (frame payload) (0 ∷ []), length-frame payload) in
-    subst (λ o. IfSome o (λ file. length file ≡ max size (gate + 6 + length payload))) (sym is) (omega (arith, whole, put_long, held_long, more_long))
+    let more_long : length more ≡ length (frames_of (p ∷ ps)) + 1 = length-append (frames_of (p ∷ ps)) (0 ∷ []) in
+    subst (λ o. IfSome o (λ file. length file ≡ max size (n + 1))) (sym is) (omega (arith, whole, put_long, held_long, more_long, next))
 
 pub kept_long : (size long : ℕ) (held : Option (List ℕ)) → IfSome held (λ file. length file ≡ size) → size ≡ long → option_map length held ≡ option_map (λ file. long) held
 kept_long size long None is same = refl
