@@ -4,10 +4,11 @@ for them. It is doubled four times, and for each size the processor's seconds of
 opening what was ready. The exponent is that of the last two doublings: 1 is in proportion, 2 is quadratic. Ends with
 status 1 where one is past 1.3.
 
-    bench/growth.py [--size N] [--seconds S] [SHAPE ..]
+    bench/growth.py [--size N] [--seconds S] [--instructions] [SHAPE ..]
 
 N (4,000) is the size of the first run of most shapes, some have a part of it. A shape whose run takes more than S (15)
-seconds isn't doubled again. The registry lies in memory (/dev/shm). Build the program first (./quickstart.sh).
+seconds isn't doubled again. With --instructions valgrind counts those in place of seconds, in thousands of millions: whatever else
+the machine does, the exponents are the same; take a size of some hundreds. The registry lies in memory (/dev/shm). Build the program first (./quickstart.sh).
 
 Shapes: changes
     groups-in-a-folder folders-in-a-folder persons groups-come-and-go groups-deleted-oldest-first
@@ -27,6 +28,8 @@ loads, the log and questions
 import argparse
 import math
 import os
+import re
+import subprocess
 import sys
 import tempfile
 
@@ -208,10 +211,21 @@ SHAPES = {
 }
 
 
+class Counted:
+    """One run of a command as `Measured` is one, with its instructions in place of the processor's seconds."""
+
+    def __init__(self, words, into, out):
+        with open(into, "rb") as source, open(out, "wb") as sink:
+            run = subprocess.run(["valgrind", "--tool=callgrind", "--callgrind-out-file=/dev/null", *words],
+                                 stdin=source, stdout=sink, stderr=subprocess.PIPE)
+        self.status = run.returncode
+        self.processor = int(re.search(rb"Collected : (\d+)", run.stderr).group(1)) / 1e9
+
+
 def ran(words, source, place):
     """A run that has to end with 0 and refuse nothing."""
     out = os.path.join(place, "out")
-    run = Measured([PROGRAM, os.path.join(place, "journal"), *words], source, out)
+    run = MEASURE([PROGRAM, os.path.join(place, "journal"), *words], source, out)
     with open(out, "rb") as replies:
         refused = next((line for line in replies if b'"refused"' in line or b'"fault"' in line), None)
     if run.status != 0 or refused:
@@ -234,7 +248,7 @@ def cost(shape, size):
         ran(["apply"], written(place, ready(size)), place)
         before = ran(["check"], os.devnull, place)
         whole = ran(["apply"], written(place, measured(size)), place)
-        return max(whole - before, 0.001), ran(["check"], os.devnull, place)
+        return max(whole - before, 1e-6), ran(["check"], os.devnull, place)
 
 
 def exponent(costs):
@@ -243,12 +257,18 @@ def exponent(costs):
     return math.log2(costs[-1] / costs[-1 - steps]) / steps if steps else math.nan
 
 
+MEASURE = Measured
+
+
 def main():
+    global MEASURE
     options = argparse.ArgumentParser()
     options.add_argument("--size", type=int, default=4_000)
     options.add_argument("--seconds", type=float, default=15)
+    options.add_argument("--instructions", action="store_true")
     options.add_argument("shapes", nargs="*")
     chosen = options.parse_args()
+    MEASURE = Counted if chosen.instructions else Measured
     bad = []
     print("%-32s %8s %9s %9s %8s" % ("shape", "size", "seconds", "opening", "exponent"))
     for shape in chosen.shapes or SHAPES:
