@@ -1,5 +1,6 @@
 // For how many days a certification lasts.
-ghost use Rattle.std.specs.Prelude.{◌≡◌, ◌≤◌, IfOk};
+ghost use Rattle.std.specs.Prelude.{◌≡◌, ◌≤◌, map, IfOk};
+ghost use Rattle.std.specs.Map.Iter.{deref};
 ghost use Rattle.reg_access.specs.Attested.{days_in};
 ghost use Rattle.reg_access.specs.Assigned.{days_among, days_given, days_of};
 
@@ -62,11 +63,11 @@ fn days_given(value: &AttrValue) -> Option<Days>
 }
 
 /// The days that the first of some values gives.
-fn days_among(values: &[AttrValue]) -> Option<Days>
-    ensures { result ≡ days_among values.now }
+fn days_among(values: &[&AttrValue]) -> Option<Days>
+    ensures { result ≡ days_among (map deref values.now) }
 {
     let value = values.first()?;
-    days_given(value)
+    days_given(*value)
 }
 
 /// The days that the first value of the first of some assignments gives. None exactly where there

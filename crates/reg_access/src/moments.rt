@@ -1,5 +1,6 @@
 // The moments at which a group was certified.
-ghost use Rattle.std.specs.Prelude.{◌≡◌, ◌++◌, filter_map, IfOk, OnOk};
+ghost use Rattle.std.specs.Prelude.{◌≡◌, ◌++◌, filter_map, map, IfOk, OnOk};
+ghost use Rattle.std.specs.Map.Iter.{deref};
 ghost use Rattle.reg_access.specs.Assigned.{moment_given, moments_in};
 
 use reg_base::Moment;
@@ -17,12 +18,12 @@ fn moment_given(value: &AttrValue) -> Option<Moment>
 }
 
 /// Adds the moments among some values.
-fn push_moments(moments: &mut Vec<Moment>, values: &[AttrValue]) -> Result<(), AllocError>
+fn push_moments(moments: &mut Vec<Moment>, values: &[&AttrValue]) -> Result<(), AllocError>
     ensures { OnOk result (moments.new.items
-        ≡ moments.old.items ++ filter_map moment_given values.now) }
+        ≡ moments.old.items ++ filter_map moment_given (map deref values.now)) }
 {
     for value in values {
-        if let Some(moment) = moment_given(value) {
+        if let Some(moment) = moment_given(*value) {
             moments.push(moment)?;
         }
     }

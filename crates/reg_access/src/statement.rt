@@ -1,7 +1,8 @@
 // Statements, and their order.
-ghost use Rattle.std.specs.Prelude.{◌≡◌, Some, refl, OnOk};
+ghost use Rattle.std.specs.Prelude.{◌≡◌, Some, map, refl, OnOk};
 ghost use Rattle.std.specs.Cmp.{partial_equiv_from_equiv, partial_order_from_agreeing_total};
 ghost use Rattle.std.specs.Cmp.{eq_by_cmp_equiv};
+ghost use Rattle.std.specs.Map.Iter.{deref};
 ghost use Rattle.std.specs.Ordering.{eq_by_cmp};
 ghost use Rattle.reg_table.specs.Keyed.{put_into};
 ghost use Rattle.reg_access.specs.Orders.{statement_total};
@@ -103,13 +104,14 @@ pub(crate) fn add_said(
     statements: &mut BTreeSet<Statement>,
     source: &Source,
     action: &[u8],
-    values: &[AttrValue],
+    values: &[&AttrValue],
 ) -> Result<(), AllocError>
     ensures { OnOk result (statements.new.keys
-        ≡ put_into statement_cmp statements.old.keys (said source.now action.now 0 values.now)) }
+        ≡ put_into statement_cmp statements.old.keys
+        (said source.now action.now 0 (map deref values.now))) }
 {
     for (place, value) in values.iter().enumerate() {
-        add_stated(statements, source, place, value_says(action, value))?;
+        add_stated(statements, source, place, value_says(action, *value))?;
     }
     Ok(())
 }

@@ -1,5 +1,6 @@
 // Assignments of attributes as JSON.
-ghost use Rattle.std.specs.Prelude.{◌≡◌, ◌++◌, ◌∷◌, [], OnOk, codes, decimal};
+ghost use Rattle.std.specs.Prelude.{◌≡◌, ◌++◌, ◌∷◌, [], OnOk, codes, decimal, map};
+ghost use Rattle.std.specs.Map.Iter.{deref};
 ghost use Rattle.json.specs.Token.{key, number, string};
 ghost use Rattle.json.specs.Tree.{json_tokens};
 ghost use Rattle.serde_json.specs.Data.{array};
@@ -24,14 +25,14 @@ fn put_value(out: &mut Writer, value: &AttrValue) -> Result<(), AllocError>
     }
 }
 
-fn put_values(out: &mut Writer, values: &[AttrValue]) -> Result<(), AllocError>
+fn put_values(out: &mut Writer, values: &[&AttrValue]) -> Result<(), AllocError>
     ensures ok { OnOk result (out.new.tokens
-        ≡ out.old.tokens ++ json_tokens (outline (array (value_items values.now)))) }
+        ≡ out.old.tokens ++ json_tokens (outline (array (value_items (map deref values.now))))) }
     ensures before { out.new.before ≡ out.old.before }
 {
     out.begin_array()?;
     for value in values {
-        put_value(out, value)?;
+        put_value(out, *value)?;
     }
     out.end_array()
 }

@@ -1,6 +1,7 @@
 // The values of an assignment.
-ghost use Rattle.std.specs.Prelude.{◌≡◌, [], ◌∷◌, ◌++◌, length, IfOk, OnOk, OnErr};
+ghost use Rattle.std.specs.Prelude.{◌≡◌, [], ◌∷◌, ◌++◌, length, map, IfOk, OnOk, OnErr};
 ghost use Rattle.std.specs.List.{position};
+ghost use Rattle.std.specs.Map.Iter.{deref};
 ghost use Rattle.reg_terms.specs.Values.{has_value, same_value, without_first};
 
 use crate::AttrValue;
@@ -76,16 +77,15 @@ impl AttrValues {
         self.many.push(item)
     }
 
-    /// Copies of the values.
-    pub fn list(&self) -> Result<Vec<AttrValue>, AllocError>
-        ensures { IfOk result (λ list. list.items ≡ self.now) }
+    /// The values, in order.
+    pub fn list(&self) -> Result<Vec<&AttrValue>, AllocError>
+        ensures { IfOk result (λ list. map deref list.items ≡ self.now) }
     {
-        let alloc = *self.few.allocator();
-        let mut list = Vec::new(alloc);
+        let mut list = Vec::with_capacity(*self.few.allocator(), self.len())?;
         for value in self.few.iter() {
-            list.push(value.copy(alloc)?)?;
+            list.push(value)?;
         }
-        self.many.add_to(&mut list, alloc)?;
+        self.many.add_to(&mut list)?;
         Ok(list)
     }
 
@@ -120,7 +120,7 @@ impl AttrValues {
     {
         let mut copied = AttrValues::new(alloc);
         for value in self.list()? {
-            copied.push(value)?;
+            copied.push(value.copy(alloc)?)?;
         }
         Ok(copied)
     }

@@ -1,6 +1,6 @@
 // What rows speak of.
 ghost use Rattle.std.specs.Prelude.{◌≡◌};
-ghost use Rattle.reg_terms.specs.Kinds.{same_member, same_object, same_holder, same_scope};
+ghost use Rattle.reg_terms.specs.Kinds.{same_object, same_scope};
 ghost use Rattle.reg_terms.specs.Kinds.{same_kind, is_of_kind, member_group, holder_group};
 ghost use Rattle.reg_terms.specs.Kinds.{as_folder, as_group, as_definition, as_attribute};
 
@@ -99,16 +99,6 @@ impl Member {
             Member::Group(id) => Some(*id),
         }
     }
-
-    /// Whether the two are one.
-    pub fn is(&self, other: &Member) -> bool
-        ensures { result ≡ same_member self.now other.now }
-    {
-        match self {
-            Member::Person(a) => matches!(other, Member::Person(b) if a.number() == b.number()),
-            Member::Group(a) => matches!(other, Member::Group(b) if a.number() == b.number()),
-        }
-    }
 }
 
 /// Who holds a privilege.
@@ -127,17 +117,6 @@ impl Holder {
         match self {
             Holder::Everyone | Holder::Person(_) => None,
             Holder::Group(id) => Some(*id),
-        }
-    }
-
-    /// Whether the two are one.
-    pub fn is(&self, other: &Holder) -> bool
-        ensures { result ≡ same_holder self.now other.now }
-    {
-        match self {
-            Holder::Everyone => matches!(other, Holder::Everyone),
-            Holder::Person(a) => matches!(other, Holder::Person(b) if a.number() == b.number()),
-            Holder::Group(a) => matches!(other, Holder::Group(b) if a.number() == b.number()),
         }
     }
 }

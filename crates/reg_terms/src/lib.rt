@@ -45,7 +45,7 @@ pub use limits::{
 pub use lists::{LoadRow, LoadRows, Names};
 pub use privileges::{
     all_privileges, gives, privilege_code, privilege_coded, privilege_kind, privilege_name,
-    privilege_named, same_privilege,
+    privilege_named,
 };
 pub use query::{Answer, Query};
 pub use refusal::Refusal;

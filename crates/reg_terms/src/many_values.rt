@@ -1,6 +1,7 @@
 // The values of an assignment that has many: each is found by its digest.
-ghost use Rattle.std.specs.Prelude.{◌≡◌, ◌≤◌, ◌^◌, [], ◌∷◌, ◌++◌, length, OnOk, OnErr};
+ghost use Rattle.std.specs.Prelude.{◌≡◌, ◌≤◌, ◌^◌, [], ◌∷◌, ◌++◌, length, map, OnOk, OnErr};
 ghost use Rattle.std.specs.List.{find};
+ghost use Rattle.std.specs.Map.Iter.{deref};
 ghost use Rattle.std.specs.Option.{option_copied};
 ghost use Rattle.reg_terms.specs.Placed.{values_of};
 ghost use Rattle.reg_terms.specs.Values.{has_value, same_value, without_first};
@@ -10,8 +11,8 @@ use reg_table::{Row, Table};
 use std::alloc::{AllocError, Global};
 use std::marker::Model;
 
-/// How many numbers there are for the values of one assignment: 2^62.
-const MOST_NUMBERS: u64 = 4_611_686_018_427_387_904;
+/// How many numbers there are for the values of one assignment.
+const MOST_NUMBERS: u64 = 1 << 62;
 
 /// A value and its digest.
 #[derive(Drop)]
@@ -99,12 +100,16 @@ impl ManyValues {
         Ok(())
     }
 
-    /// Adds copies of the values to a list, in order.
-    pub(crate) fn add_to(&self, list: &mut Vec<AttrValue>, alloc: Global) -> Result<(), AllocError>
-        ensures { OnOk result (list.new.items ≡ list.old.items ++ values_of self.now) }
+    /// Adds the values to a list, in order.
+    pub(crate) fn add_to<'a>(&'a self, list: &mut Vec<&'a AttrValue>) -> Result<(), AllocError>
+        ensures { OnOk result (map deref list.new.items
+            ≡ map deref list.old.items ++ values_of self.now) }
     {
-        for placed in self.rows.rows(alloc)? {
-            list.push(placed.value.copy(alloc)?)?;
+        if self.rows.len() == 0 {
+            return Ok(());
+        }
+        for placed in self.rows.rows(*list.allocator())? {
+            list.push(&placed.value)?;
         }
         Ok(())
     }

@@ -1,6 +1,6 @@
 // The privileges: codes, names, the kinds of object that they are of, and which gives which.
 ghost use Rattle.std.specs.Prelude.{◌≡◌};
-ghost use Rattle.reg_terms.specs.Privileges.{line_of, code, same_privilege, gives, all_privileges};
+ghost use Rattle.reg_terms.specs.Privileges.{line_of, code, gives, all_privileges};
 ghost use Rattle.reg_terms.specs.Privileges.{privilege_coded, privilege_named};
 
 use crate::InheritKind;
@@ -94,13 +94,6 @@ pub fn privilege_kind(privilege: Privilege) -> InheritKind
         Privilege::AttrAdmin | Privilege::AttrUpdate | Privilege::AttrRead | Privilege::AttrView =>
             InheritKind::Definition,
     }
-}
-
-/// Whether the two are one.
-pub fn same_privilege(one: Privilege, other: Privilege) -> bool
-    ensures { result ≡ same_privilege one other }
-{
-    privilege_code(one) == privilege_code(other)
 }
 
 /// Whether a privilege is another, or gives it.
