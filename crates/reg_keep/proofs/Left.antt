@@ -112,7 +112,7 @@ module _ {D : Type 0} (moment : D → ℕ) (may_leave : D → List ℕ → Type 
     since = λ t c le left. ⊎_elim (one.since t c le) (λ is. inr is) (two.since t c (omega (arith, le, one.later)) left);
   }
 
-length_put : (at : ℕ) (bytes held : List ℕ) → at ≤ length held → length (put at bytes held) ≡ max (length held) (at + length bytes)
+pub length_put : (at : ℕ) (bytes held : List ℕ) → at ≤ length held → length (put at bytes held) ≡ max (length held) (at + length bytes)
 length_put at bytes held fits =
     omega (arith, length-append (take at held ++ bytes) (drop (at + length bytes) held), length-append (take at held) bytes, length-take-le at held fits, length-drop (at + length bytes) held)
 

@@ -12,7 +12,7 @@ use reg_base::Bytes;
 use reg_outside::{Disk, Failed};
 
 #[tactic(auto, unfolding(crate::specs::Frames::length_bytes))]
-fn four_bytes(n: u32) -> [u8; 4]
+pub fn four_bytes(n: u32) -> [u8; 4]
     ensures bytes { result ≡ length_bytes n }
     ensures length { length result ≡ 4 }
 {
@@ -20,7 +20,7 @@ fn four_bytes(n: u32) -> [u8; 4]
 }
 
 // An open gate and a length.
-fn five_bytes(n: u32) -> [u8; 5]
+pub fn five_bytes(n: u32) -> [u8; 5]
     ensures bytes { result ≡ 1 ∷ length_bytes n }
     ensures length { length result ≡ 5 }
 {
@@ -29,7 +29,7 @@ fn five_bytes(n: u32) -> [u8; 5]
 }
 
 // Two pieces, one behind the other, and the place behind them.
-fn write_both<D: Disk>(disk: &mut D, at: u64, one: &[u8], two: &[u8]) -> Result<u64, Failed>
+pub fn write_both<D: Disk>(disk: &mut D, at: u64, one: &[u8], two: &[u8]) -> Result<u64, Failed>
     requires place { IfSome (D.contents disk.old) (λ held. at ≤ length held) }
     ensures next { IfOk result (λ n. n ≡ at + length (one.now ++ two.now)) }
     ensures small { IfOk result (λ n. n < 2 ^ 63) }
@@ -101,7 +101,7 @@ fn prepare<D: Disk>(disk: &mut D, gate: u64, first: &[u8], rest: &[Bytes]) -> Re
 }
 
 // The open gate, on the disk.
-fn open_gate<D: Disk>(disk: &mut D, gate: u64) -> Result<(), Failed>
+pub fn open_gate<D: Disk>(disk: &mut D, gate: u64) -> Result<(), Failed>
     requires place { IfSome (D.contents disk.old) (λ held. gate < length held) }
     ensures written { OnOk result (D.contents disk.new
         ≡ option_map (put gate (1 ∷ [])) (D.contents disk.old)) }
