@@ -9,4 +9,5 @@ mod Attributes
 mod LoadLists
 mod Commands
 pub mod Payloads
+pub mod OldPayloads
 mod Worked

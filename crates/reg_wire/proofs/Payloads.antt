@@ -1,11 +1,13 @@
 -- Each stamped command that is writable has one payload, and each payload is of one stamped command.
-use Rattle.std.proofs.Common.{◌≡◌, ℕ, ◌+◌, ◌*◌, ◌^◌, ◌<◌, ◌≤◌, true, cond, eqb, List, [], ◌∷◌, ◌++◌, length, Option, Some, None, refl, sym, ap, subst, ◌∙◌, append-nil, arith, lit≤}
+use Rattle.std.proofs.Common.{◌≡◌, ℕ, ◌+◌, ◌*◌, ◌^◌, ◌<◌, ◌≤◌, zero, suc, true, cond, List, [], ◌∷◌, ◌++◌, length, Option, Some, None, refl, sym, ap, subst, ◌∙◌, arith, lit≤}
 use Rattle.std.specs.List.{list_all, flat_map}
-use Rattle.std.proofs.lemmas.Bool.{and_parts, eqb-true}
-use Rattle.std.proofs.lemmas.List.{nil_from_length, length-append}
-use Rattle.std.proofs.lemmas.Option.{cond_some}
+use Rattle.std.specs.Str.{bytes_eq}
+use Rattle.std.proofs.lemmas.Bool.{and_parts}
+use Rattle.std.proofs.lemmas.List.{length-append}
+use Rattle.std.proofs.lemmas.Option.{cond_some, same_Some}
+use Rattle.std.proofs.lemmas.Slice.Eq.{bytes_eq-Decides}
 use Rattle.reg_terms.specs.declared.command.Command.{Command}
-use Rattle.reg_terms.specs.declared.command.Command.TheVariants.{Load}
+use Rattle.reg_terms.specs.declared.command.Command.TheVariants.{GrantAdd, Load}
 use Rattle.reg_terms.specs.declared.command.Stamped.{Stamped}
 use Rattle.reg_terms.specs.declared.kinds.DefKind.{DefKind}
 use Rattle.reg_terms.specs.declared.kinds.DefKind.TheVariants.{Marker, Integer, Text, Timestamp}
@@ -23,8 +25,8 @@ use Rattle.reg_ops.specs.Forms.{is_moment, is_entity, is_field, is_value, has_fo
 use Rattle.reg_ops.specs.Parts.{◌>>=◌}
 use Rattle.reg_ops.specs.Table.{fields_of, code_of}
 use Rattle.reg_wire.specs.Fields.{entity_text, moment_bytes, field_bytes}
-use Rattle.reg_wire.specs.Reading.{moment_at, entity_at, command_of}
-use Rattle.reg_wire.specs.Payload.{listed, AreFew, fields_bytes, command_bytes, IsWritable, payload, stamped_at, stamped_of}
+use Rattle.reg_wire.specs.Reading.{moment_at, entity_at, no_key_at, command_of}
+use Rattle.reg_wire.specs.Payload.{listed, AreFew, fields_bytes, command_bytes, dates_left_out, IsWritable, payload, whole_command_of, stamped_at, stamped_of}
 use Rattle.reg_wire.proofs.Texts.{name_short, folder_short, extension_short, source_short, display_short}
 use Rattle.reg_wire.proofs.Exact.{bind_some, moment_exact}
 use Rattle.reg_wire.proofs.Entities.{entity_short, entity_bytes, entity_exact}
@@ -34,23 +36,31 @@ use Rattle.reg_wire.proofs.Commands.{TableMakes, TableParts, command_takes, comm
 
 -- ---- a payload is read again
 
-stamped_again : TableParts → (stamped : Stamped) → is_entity stamped.by ≡ true → has_form stamped.command ≡ true → stamped_at stamped.at (entity_bytes stamped.by ++ command_bytes stamped.command) ≡ Some stamped
-unfolding stamped_at
+-- what stands behind the byte for no key
+abbrev whole_bytes : Command → List ℕ
+whole_bytes command = command_bytes command ++ dates_left_out command
+
+whole_again : TableParts → (command : Command) → has_form command ≡ true → whole_command_of (whole_bytes command) ≡ Some command
+unfolding whole_command_of
+whole_again table command form =
+    rw (command_again table command (dates_left_out command) form, (bytes_eq-Decides (dates_left_out command) (dates_left_out command)).1 refl) refl
+
+stamped_again : TableParts → (stamped : Stamped) → is_entity stamped.by ≡ true → has_form stamped.command ≡ true → stamped_at stamped.at (entity_bytes stamped.by ++ 0 ∷ whole_bytes stamped.command) ≡ Some stamped
+unfolding stamped_at no_key_at
 stamped_again table stamped by form =
-    let behind : command_of (command_bytes stamped.command) ≡ Some (stamped.command, []) = ap command_of (sym (append-nil (command_bytes stamped.command))) ∙ command_again table stamped.command [] form in
-    rw (entity_exact.again stamped.by (command_bytes stamped.command) by, behind) refl
+    rw (entity_exact.again stamped.by (0 ∷ whole_bytes stamped.command) by, whole_again table stamped.command form) refl
 
 -- the payload of a writable command reads back as that command
 pub reads_back : TableParts → (stamped : Stamped) → IsWritable stamped → stamped_of (payload stamped) ≡ Some stamped
 unfolding payload stamped_of
 reads_back table stamped h =
-    rw (moment_exact.again stamped.at (entity_bytes stamped.by ++ command_bytes stamped.command) h.0) (stamped_again table stamped h.1 h.2)
+    rw (moment_exact.again stamped.at (entity_bytes stamped.by ++ 0 ∷ whole_bytes stamped.command) h.0) (stamped_again table stamped h.1 h.2)
 
 -- ---- what is read is a payload
 
 -- what stands behind the moment of a stamped command
 abbrev behind_bytes : Stamped → List ℕ
-behind_bytes stamped = entity_bytes stamped.by ++ command_bytes stamped.command
+behind_bytes stamped = entity_bytes stamped.by ++ 0 ∷ whole_bytes stamped.command
 
 record IsBehind (moment : ℕ) (bytes : List ℕ) (stamped : Stamped) : Type 0 where
   pub at_moment : stamped.at ≡ moment
@@ -58,18 +68,33 @@ record IsBehind (moment : ℕ) (bytes : List ℕ) (stamped : Stamped) : Type 0 w
   pub by : is_entity stamped.by ≡ true
   pub form : has_form stamped.command ≡ true
 
+no_key_takes : (bytes rest : List ℕ) → no_key_at bytes ≡ Some rest → bytes ≡ 0 ∷ rest
+unfolding no_key_at
+no_key_takes [] rest e = absurd cc
+no_key_takes (zero ∷ behind) rest e = ap (λ (l : List ℕ). 0 ∷ l) (same_Some behind rest e)
+no_key_takes (suc b ∷ behind) rest e = absurd cc
+
+whole_takes : TableMakes → (bytes : List ℕ) (command : Command) → whole_command_of bytes ≡ Some command → (bytes ≡ whole_bytes command) × (has_form command ≡ true)
+unfolding whole_command_of
+whole_takes table bytes command e =
+    let c = bind_some (command_of bytes) (λ found. cond (bytes_eq found.1 (dates_left_out found.0)) (Some found.0) None) command e in
+    let g = cond_some (bytes_eq c.0.1 (dates_left_out c.0.0)) c.0.0 command c.2 in
+    let dates : c.0.1 ≡ dates_left_out c.0.0 = (bytes_eq-Decides c.0.1 (dates_left_out c.0.0)).0 g.0 in
+    let r = command_takes table bytes c.0 c.1 in
+    let parts : bytes ≡ whole_bytes c.0.0 = r.0 ∙ ap (λ (l : List ℕ). command_bytes c.0.0 ++ l) dates in
+    subst (λ (found : Command). (bytes ≡ whole_bytes found) × (has_form found ≡ true)) g.1 (parts, r.1)
+
 stamped_takes : TableMakes → (moment : ℕ) (bytes : List ℕ) (stamped : Stamped) → stamped_at moment bytes ≡ Some stamped → IsBehind moment bytes stamped
 unfolding stamped_at
 stamped_takes table moment bytes stamped e =
-    let a = bind_some (entity_at bytes) (λ by. command_of by.1 >>= λ command. cond (eqb (length command.1) 0) (Some (record { at = moment; by = by.0; command = command.0 })) None) stamped e in
-    let c = bind_some (command_of a.0.1) (λ command. cond (eqb (length command.1) 0) (Some (record { at = moment; by = a.0.0; command = command.0 })) None) stamped a.2 in
-    let found : Stamped = record { at = moment; by = a.0.0; command = c.0.0 } in
-    let g = cond_some (eqb (length c.0.1) 0) found stamped c.2 in
-    let nothing : c.0.1 ≡ [] = nil_from_length c.0.1 (eqb-true _ _ g.0) in
+    let a = bind_some (entity_at bytes) (λ by. no_key_at by.1 >>= λ behind. whole_command_of behind >>= λ command. Some (record { at = moment; by = by.0; command = command })) stamped e in
+    let k = bind_some (no_key_at a.0.1) (λ behind. whole_command_of behind >>= λ command. Some (record { at = moment; by = a.0.0; command = command })) stamped a.2 in
+    let c = bind_some (whole_command_of k.0) (λ command. Some (record { at = moment; by = a.0.0; command = command })) stamped k.2 in
+    let found : Stamped = record { at = moment; by = a.0.0; command = c.0 } in
     let p = entity_exact.takes bytes a.0 a.1 in
-    let r = command_takes table a.0.1 c.0 c.1 in
-    let last : a.0.1 ≡ command_bytes c.0.0 = r.0 ∙ ap (λ (l : List ℕ). command_bytes c.0.0 ++ l) nothing ∙ append-nil (command_bytes c.0.0) in
-    subst (IsBehind moment bytes) g.1 (record {
+    let r = whole_takes table k.0 c.0 c.1 in
+    let last : a.0.1 ≡ 0 ∷ whole_bytes c.0 = no_key_takes a.0.1 k.0 k.1 ∙ ap (λ (l : List ℕ). 0 ∷ l) r.0 in
+    subst (IsBehind moment bytes) (same_Some found stamped c.2) (record {
       at_moment = refl;
       parts = p.0 ∙ ap (λ (l : List ℕ). entity_bytes a.0.0 ++ l) last;
       by = p.1;
@@ -167,9 +192,14 @@ fields_list : (c : Command) → items_of (fields_of c) ≡ listed c
 fields_list (Load job created removed added) = omega arith
 fields_list _ = refl
 
+dates_short : (c : Command) → length (dates_left_out c) ≤ 2
+dates_short (GrantAdd object privilege holder) = lit≤ tt
+dates_short _ = lit≤ tt
+
 -- a payload has fewer than 2 ^ 32 bytes, where no load in it lists more than there may be
 pub payload_short : TableParts → (stamped : Stamped) → IsWritable stamped → AreFew stamped.command → length (payload stamped) < 2 ^ 32
 unfolding payload command_bytes fields_bytes has_form
 payload_short table stamped h few =
     let fields = flat_map field_bytes (fields_of stamped.command) in
-    omega (arith, few, entity_short stamped.by h.1, fields_short (fields_of stamped.command) h.2, fields_list stamped.command, (table stamped.command).few, length-append (entity_text stamped.by) (code_of stamped.command ∷ fields))
+    let behind = 0 ∷ code_of stamped.command ∷ (fields ++ dates_left_out stamped.command) in
+    omega (arith, few, entity_short stamped.by h.1, fields_short (fields_of stamped.command) h.2, fields_list stamped.command, (table stamped.command).few, length-append (entity_text stamped.by) behind, length-append fields (dates_left_out stamped.command), dates_short stamped.command)

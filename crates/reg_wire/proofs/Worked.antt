@@ -1,10 +1,12 @@
--- A payload of a load worked by hand, byte by byte.
+-- Payloads of a load and of a grant worked by hand, byte by byte, in both formats.
 use Rattle.std.proofs.Common.{◌≡◌, ℕ, List, [], ◌∷◌, ◌++◌, codes, refl}
-use Rattle.reg_base.specs.declared.entity.Entity.TheVariants.{System}
-use Rattle.reg_terms.specs.declared.command.Command.TheVariants.{Load}
+use Rattle.reg_base.specs.declared.entity.Entity.TheVariants.{Person, System}
+use Rattle.reg_base.specs.declared.privilege.Privilege.TheVariants.{Create}
+use Rattle.reg_terms.specs.declared.command.Command.TheVariants.{GrantAdd, Load}
 use Rattle.reg_terms.specs.declared.command.Stamped.{Stamped}
 use Rattle.reg_terms.specs.declared.lists.LoadRow.{LoadRow}
 use Rattle.reg_wire.specs.Payload.{fields_bytes, command_bytes, payload}
+use Rattle.reg_wire.specs.OldPayload.{old_payload}
 
 row : List ℕ → List ℕ → LoadRow
 row group person = record { group = group; person = person }
@@ -17,9 +19,13 @@ load = record {
   command = Load (codes "nightly") (codes "app:x" ∷ []) (row (codes "app:y") (codes "uni/bob") ∷ []) (row (codes "app:x") (codes "uni/ann") ∷ row (codes "app:y") (codes "uni/ann") ∷ []);
 }
 
--- the moment and who gave the command, the code and the job
-front : List ℕ
-front = 0 ∷ 128 ∷ 124 ∷ 13 ∷ 178 ∷ 61 ∷ 6 ∷ 0 ∷ 19 ∷ 0 ∷ codes "g:isa/GrouperSystem" ++ 35 ∷ 7 ∷ 0 ∷ codes "nightly"
+-- the moment and who gave the command
+stamp : List ℕ
+stamp = 0 ∷ 128 ∷ 124 ∷ 13 ∷ 178 ∷ 61 ∷ 6 ∷ 0 ∷ 19 ∷ 0 ∷ codes "g:isa/GrouperSystem"
+
+-- the code and the job
+job : List ℕ
+job = 35 ∷ 7 ∷ 0 ∷ codes "nightly"
 
 -- the lists, each behind its count
 created : List ℕ
@@ -31,6 +37,31 @@ removed = 1 ∷ 0 ∷ 0 ∷ 0 ∷ 5 ∷ 0 ∷ codes "app:y" ++ 7 ∷ 0 ∷ codes
 added : List ℕ
 added = 2 ∷ 0 ∷ 0 ∷ 0 ∷ 5 ∷ 0 ∷ codes "app:x" ++ 7 ∷ 0 ∷ codes "uni/ann" ++ 5 ∷ 0 ∷ codes "app:y" ++ 7 ∷ 0 ∷ codes "uni/ann"
 
-load_written : payload load ≡ front ++ created ++ removed ++ added
-unfolding payload command_bytes fields_bytes load row front created removed added
+load_written : payload load ≡ stamp ++ 0 ∷ job ++ created ++ removed ++ added
+unfolding payload command_bytes fields_bytes load row stamp job created removed added
 load_written = refl
+
+load_in_format_1 : old_payload load ≡ stamp ++ job ++ created ++ removed ++ added
+unfolding old_payload command_bytes fields_bytes load row stamp job created removed added
+load_in_format_1 = refl
+
+-- ann may make what is in the folder app, from the same moment on
+grant : Stamped
+grant = record {
+  at = 1756684800000000;
+  by = System;
+  command = GrantAdd (codes "app") Create (Person (codes "uni/ann"));
+}
+
+-- the code, the folder, the privilege and its holder
+given : List ℕ
+given = 15 ∷ 3 ∷ 0 ∷ codes "app" ++ 10 ∷ 7 ∷ 0 ∷ codes "uni/ann"
+
+-- no key, and two dates that are left out
+grant_written : payload grant ≡ stamp ++ 0 ∷ given ++ 0 ∷ 0 ∷ []
+unfolding payload command_bytes fields_bytes grant stamp given
+grant_written = refl
+
+grant_in_format_1 : old_payload grant ≡ stamp ++ given
+unfolding old_payload command_bytes fields_bytes grant stamp given
+grant_in_format_1 = refl

@@ -2,3 +2,4 @@ pub mod Steps
 pub mod Fields
 pub mod Reading
 pub mod Payload
+pub mod OldPayload

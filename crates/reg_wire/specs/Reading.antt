@@ -47,6 +47,12 @@ number_at w bytes =
     if nat_le (byte_len w) (length bytes) && list_all is_byte (take (byte_len w) bytes)
     then Some (from_le_bytes w (take (byte_len w) bytes), drop (byte_len w) bytes) else None
 
+-- the byte 0: the command has no key
+unfoldable pub no_key_at : List ℕ → Option (List ℕ)
+no_key_at [] = None
+no_key_at (zero ∷ rest) = Some rest
+no_key_at (suc b ∷ rest) = None
+
 -- a text: two bytes of length, and that many bytes
 unfoldable pub text_at : List ℕ → Option (List ℕ × List ℕ)
 text_at bytes = do

@@ -1,31 +1,44 @@
 // Stamped commands from their payloads.
 ghost use Rattle.std.specs.Prelude.{◌≡◌, IfOk, IfSome, IfNone};
 ghost use Rattle.reg_wire.specs.Steps.{Gives};
-ghost use Rattle.reg_wire.specs.Payload.{payload, stamped_at, stamped_of, IsWritable};
+ghost use Rattle.reg_wire.specs.Payload.{payload, stamped_at, stamped_of, whole_command_of};
+ghost use Rattle.reg_wire.specs.Payload.{IsWritable};
 ghost use Rattle.reg_terms.specs.declared.command.Stamped.{Stamped};
 
+use crate::encoding::dates_left_out;
 use crate::fault::ReadFault;
-use crate::fields::{entity_at, moment_at};
+use crate::fields::{entity_at, moment_at, no_key_at};
 use crate::reading::command_of;
 use reg_base::Moment;
 use reg_ops::law_commands;
-use reg_terms::Stamped;
+use reg_terms::{Command, Stamped};
 use std::alloc::{AllocError, Global};
+
+#[tactic(auto, unfolding(crate::specs::Payload::whole_command_of))]
+fn whole_command_of(alloc: Global, bytes: &[u8]) -> Result<Command, ReadFault>
+    ensures { Gives (λ command. command) result (whole_command_of bytes.now) }
+{
+    let (command, rest) = match command_of(alloc, bytes) {
+        Ok(found) => found,
+        Err(fault) => return Err(fault),
+    };
+    if rest != dates_left_out(&command) {
+        drop(command);
+        return Err(ReadFault::Malformed);
+    }
+    Ok(command)
+}
 
 #[tactic(auto, unfolding(crate::specs::Payload::stamped_at))]
 fn stamped_at(alloc: Global, at: Moment, bytes: &[u8]) -> Result<Stamped, ReadFault>
     ensures { Gives (λ stamped. stamped) result (stamped_at at bytes.now) }
 {
     let (by, rest) = entity_at(alloc, bytes)?;
-    let (command, rest) = match command_of(alloc, rest) {
-        Ok(found) => found,
-        Err(fault) => return Err(fault),
-    };
-    if !rest.is_empty() {
-        drop(command);
-        return Err(ReadFault::Malformed);
+    let rest = no_key_at(rest)?;
+    match whole_command_of(alloc, rest) {
+        Ok(command) => Ok(Stamped { at, by, command }),
+        Err(fault) => Err(fault),
     }
-    Ok(Stamped { at, by, command })
 }
 
 #[tactic(auto, unfolding(crate::specs::Payload::stamped_of))]
@@ -38,8 +51,8 @@ fn stamped_of(alloc: Global, bytes: &[u8]) -> Result<Stamped, ReadFault>
     }
 }
 
-/// The stamped command whose payload the bytes are. None exactly where they are the payload of no
-/// stamped command; the only error is out of memory.
+/// The stamped command whose payload the bytes are in format 2. None exactly where they are the
+/// payload of no stamped command; the only error is out of memory.
 pub fn decode(alloc: Global, bytes: &[u8]) -> Result<Option<Stamped>, AllocError>
     ensures value { IfOk result (λ found. found ≡ stamped_of bytes.now) }
 

@@ -11,11 +11,12 @@ ghost use Rattle.reg_wire.specs.Fields.{number_bytes, optional_moment_bytes, set
 ghost use Rattle.reg_wire.specs.Fields.{inherit_kind_bytes, scope_bytes, privilege_bytes};
 ghost use Rattle.reg_wire.specs.Fields.{owners_code, owners_bytes, flag_bytes, def_kind_bytes};
 ghost use Rattle.reg_wire.specs.Fields.{int_bytes, value_bytes, list_bytes, load_row_bytes};
-ghost use Rattle.reg_wire.specs.Payload.{fields_bytes, command_bytes, payload, IsWritable, AreFew};
+ghost use Rattle.reg_wire.specs.Payload.{fields_bytes, command_bytes, dates_left_out};
+ghost use Rattle.reg_wire.specs.Payload.{payload, IsWritable, AreFew};
 
 use crate::fields::{
-    COMPLEMENT, DEFINITION, FOLDER, GROUP, INT_VALUE, INTEGERS, INTERSECTION, MARKERS, ONE, SUB,
-    TEXT_VALUE, TEXTS, TIMESTAMPS,
+    COMPLEMENT, DEFINITION, FOLDER, GROUP, INT_VALUE, INTEGERS, INTERSECTION, MARKERS, NO_KEY, ONE,
+    SUB, TEXT_VALUE, TEXTS, TIMESTAMPS,
 };
 use reg_base::{Entity, Moment, Name, Privilege};
 use reg_ops::{FieldRef, command_row, fields_of, kind_of, law_commands};
@@ -299,6 +300,16 @@ fn put_command(out: &mut Vec<u8>, command: &Command) -> Result<(), AllocError>
     put_fields_of(out, command)
 }
 
+/// The two dates behind the fields of a grant, each left out; nothing behind those of others.
+pub fn dates_left_out(command: &Command) -> &'static [u8]
+    ensures { result.now ≡ dates_left_out command.now }
+{
+    match command {
+        Command::GrantAdd { .. } => b"\0\0",
+        _ => b"",
+    }
+}
+
 #[tactic(auto, unfolding(crate::specs::Payload::payload))]
 fn payload(alloc: Global, stamped: &Stamped) -> Result<Vec<u8>, AllocError>
     requires { IsWritable stamped.now }
@@ -307,12 +318,14 @@ fn payload(alloc: Global, stamped: &Stamped) -> Result<Vec<u8>, AllocError>
     let mut out = Vec::new(alloc);
     put_moment(&mut out, stamped.at)?;
     put_entity(&mut out, &stamped.by)?;
+    out.push(NO_KEY)?;
     put_command(&mut out, &stamped.command)?;
+    out.extend_from_slice(dates_left_out(&stamped.command))?;
     Ok(out)
 }
 
-/// The payload of a stamped command; `is_writable` says which have one. It is shorter than 2^32
-/// bytes where no load in it lists more than may stand. The only error is out of memory.
+/// The payload of a stamped command in format 2; `is_writable` says which have one. It is shorter
+/// than 2^32 bytes where no load in it lists more than may stand. The only error is out of memory.
 #[tactic(auto, using(crate::proofs::Payloads::payload_short))]
 pub fn encode(alloc: Global, stamped: &Stamped) -> Result<Vec<u8>, AllocError>
     requires { IsWritable stamped.now }

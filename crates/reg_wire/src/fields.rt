@@ -3,7 +3,8 @@
 ghost use Rattle.std.specs.Prelude.{◌≡◌};
 ghost use Rattle.std.specs.Int.{w16, w32, w64};
 ghost use Rattle.reg_wire.specs.Steps.{Gives};
-ghost use Rattle.reg_wire.specs.Reading.{byte_at, number_at, text_at, name_at, folder_at};
+ghost use Rattle.reg_wire.specs.Reading.{byte_at, no_key_at, number_at, text_at};
+ghost use Rattle.reg_wire.specs.Reading.{name_at, folder_at};
 ghost use Rattle.reg_wire.specs.Reading.{extension_at, source_at, person_at, display_at, entity_at};
 ghost use Rattle.reg_wire.specs.Reading.{moment_at, ranged_at, object_at, optional_moment_at};
 ghost use Rattle.reg_wire.specs.Reading.{set_op_at, inherit_kind_at, scope_at, privilege_at};
@@ -15,6 +16,10 @@ use reg_base::{Entity, Moment, Name, Privilege, Text, is_extension, is_person, i
 use reg_ops::{is_folder_text, is_object_text};
 use reg_terms::{DefKind, InheritKind, MAX_DISPLAY, Owners, Scope, SetOp, Value, privilege_coded};
 use std::alloc::Global;
+
+// behind who gave a command
+
+pub const NO_KEY: u8 = 0;
 
 // how composites are made, one byte each
 
@@ -59,6 +64,17 @@ pub fn byte_at(bytes: &[u8]) -> Result<(u8, &[u8]), ReadFault>
     match bytes {
         [] => Err(ReadFault::Malformed),
         [byte, rest @ ..] => Ok((*byte, rest)),
+    }
+}
+
+/// What stands behind the byte for no key.
+#[tactic(auto, unfolding(crate::specs::Reading::no_key_at))]
+pub fn no_key_at(bytes: &[u8]) -> Result<&[u8], ReadFault>
+    ensures { Gives (λ rest. rest.now) result (no_key_at bytes.now) }
+{
+    match bytes {
+        [NO_KEY, rest @ ..] => Ok(rest),
+        _ => Err(ReadFault::Malformed),
     }
 }
 
