@@ -1,0 +1,3 @@
+mod Shorts
+mod Says
+mod Images
