@@ -63,7 +63,7 @@ kept_same g s k served now only = record {
     crash None e = tt
     crash (Some ps) e = record { later = omega arith; each = one; since = λ t x le left. inl left }
 
-leaves_by : {K X : Type 0} (moment : K → ℕ) (since : K → ℕ → X → Type 0) (P Q : X → Type 0) (old new : K) → ((x : X) → P x → Q x) → Leaves moment since P old new → Leaves moment since Q old new
+pub leaves_by : {K X : Type 0} (moment : K → ℕ) (since : K → ℕ → X → Type 0) (P Q : X → Type 0) (old new : K) → ((x : X) → P x → Q x) → Leaves moment since P old new → Leaves moment since Q old new
 leaves_by moment since P Q old new h l = record { later = l.later; each = λ x left. h x (l.each x left); since = λ t x le left. either (l.since t x le left) }
   where
     either : {A : Type 0} {x : _} → A ⊎ P x → A ⊎ Q x

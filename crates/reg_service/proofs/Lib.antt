@@ -5,4 +5,5 @@ pub mod LoadStanding
 pub mod LoadsPass
 pub mod LoadsFull
 pub mod Loads
+pub mod Migrating
 pub mod Opens

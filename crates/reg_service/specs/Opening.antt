@@ -1,5 +1,5 @@
--- What a journal opens to: the history of its payloads, where each reads back as a command that is
--- accepted there.
+-- What a journal opens to, in either format: the history of its payloads, where each reads back as a
+-- command that is accepted there.
 use Rattle.std.specs.Prelude.{◌≡◌, ℕ, ◌≤◌, List, [], ◌∷◌, Bool, false, Option, Some, None, Result}
 use Rattle.std.specs.Prelude.{Ok, Err, map, nat_lt, if◌then◌else◌, IfSome, length, take}
 use Rattle.reg_terms.specs.declared.command.Stamped.{Stamped}
@@ -7,7 +7,8 @@ use Rattle.reg_terms.specs.declared.refusal.Refusal.{Refusal}
 use Rattle.reg_machine.specs.History.{State, start, appended}
 use Rattle.reg_machine.specs.Refusals.{refusal}
 use Rattle.reg_wire.specs.Payload.{payload, stamped_of}
-use Rattle.reg_keep.specs.Frames.{opened}
+use Rattle.reg_wire.specs.OldPayload.{stamped_of_old}
+use Rattle.reg_keep.specs.Frames.{opened, opened_old}
 
 -- the payloads of a history
 abbrev pub payloads_of : List Stamped → List (List ℕ)
@@ -39,6 +40,10 @@ after_stamped s (Some stamped) =
 unfoldable pub after_payload : State → List ℕ → Option State
 after_payload s bytes = after_stamped s (stamped_of bytes)
 
+-- the state after a payload of format 1
+unfoldable pub after_old_payload : State → List ℕ → Option State
+after_old_payload s bytes = after_stamped s (stamped_of_old bytes)
+
 -- the same, or the payload's place
 abbrev pub or_place : ℕ → Option State → Result State ℕ
 or_place place None = Err place
@@ -49,20 +54,39 @@ abbrev pub and_then : Result State ℕ → (State → Result State ℕ) → Resu
 and_then (Ok s) more = more s
 and_then (Err place) more = Err place
 
--- the state after these records, or the place of the first whose payload is no command's, falls in
--- time, or is refused
+-- the state after these records, of which each payload is taken so, or the place of the first whose
+-- payload is no command's, falls in time, or is refused
+abbrev pub judged_by : (State → List ℕ → Option State) → State → List (ℕ × List ℕ)
+    → Result State ℕ
+judged_by take_one s [] = Ok s
+judged_by take_one s (r ∷ rs) =
+    and_then (or_place r.0 (take_one s r.1)) (λ after. judged_by take_one after rs)
+
+-- the same of payloads of format 2
 abbrev pub judged : State → List (ℕ × List ℕ) → Result State ℕ
-judged s [] = Ok s
-judged s (r ∷ rs) = and_then (or_place r.0 (after_payload s r.1)) (λ after. judged after rs)
+judged s records = judged_by after_payload s records
+
+-- the same of payloads of format 1
+abbrev pub judged_old : State → List (ℕ × List ℕ) → Result State ℕ
+judged_old s records = judged_by after_old_payload s records
 
 -- the records of a file, judged from the empty history on
 abbrev pub judged_all : Result (List (ℕ × List ℕ)) ℕ → Result State ℕ
 judged_all (Ok records) = judged start records
 judged_all (Err place) = Err place
 
+-- the same of a file of format 1
+abbrev pub judged_all_old : Result (List (ℕ × List ℕ)) ℕ → Result State ℕ
+judged_all_old (Ok records) = judged_old start records
+judged_all_old (Err place) = Err place
+
 -- what a file opens to: a history with its clock, or the place of the damage
 abbrev pub opens : List ℕ → Result State ℕ
 opens file = judged_all (opened file)
+
+-- what a file of format 1 opens to
+abbrev pub opens_old : List ℕ → Result State ℕ
+opens_old file = judged_all_old (opened_old file)
 
 -- what has this history's payloads opens to it
 abbrev pub Reopens : List Stamped → Type 0

@@ -161,6 +161,7 @@ fn take_record(
     ensures ok { IfOk result (λ m. or_place place (after_payload machine bytes.now) ≡ Ok m) }
     ensures damaged { IfErr result (λ e. (at : ℕ) → e ≡ Damaged at
         → or_place place (after_payload machine bytes.now) ≡ Err at) }
+    ensures other { IsErrOf result OpenFault.OtherFormat → ⊥ }
     ensures fault { IsErrOf result OpenFault.Fault → ⊥ }
 {
     match take_payload(alloc, machine, bytes) {
@@ -175,6 +176,7 @@ pub fn replay(alloc: Global, records: Records) -> Result<Machine<Incremental>, O
     ensures ok { IfOk result (λ m. judged start records ≡ Ok m) }
     ensures damaged { IfErr result (λ e. (at : ℕ) → e ≡ Damaged at
         → judged start records ≡ Err at) }
+    ensures other { IsErrOf result OpenFault.OtherFormat → ⊥ }
     ensures fault { IsErrOf result OpenFault.Fault → ⊥ }
 {
     let Ok(mut machine) = Machine::start(alloc) else {

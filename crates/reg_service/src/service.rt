@@ -364,6 +364,7 @@ impl<K: Keeper> Service<K> {
         ensures keeper { IfOk result (λ s. s.keeper ≡ keeper) }
         ensures damaged { IfErr result (λ e. (at : ℕ) → e.0 ≡ Damaged at
             → judged start records ≡ Err at) }
+        ensures other { IfErr result (λ e. e.0 ≡ OpenFault.OtherFormat → ⊥) }
         ensures fault { IfErr result (λ e. e.0 ≡ OpenFault.Fault → ⊥) }
         ensures given_back { IfErr result (λ e. e.1 ≡ keeper) }
     {
