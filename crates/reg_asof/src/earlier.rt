@@ -77,6 +77,7 @@ impl Earlier {
             → e ≡ state_at s.history at) }
         ensures damaged { IfErr result (λ e. (place : ℕ) → e ≡ Damaged place
             → judged start records ≡ Err place) }
+        ensures other { IsErrOf result OpenFault.OtherFormat → ⊥ }
         ensures fault { IsErrOf result OpenFault.Fault → ⊥ }
     {
         let Ok(front) = front_to(alloc, records, at) else {

@@ -1,11 +1,11 @@
 -- The registry as it was at a moment: how it is found, and asked.
-use Rattle.std.proofs.Common.{◌≡◌, List, ℕ, Option, Some, None, Result, Ok, Err, refl, ap, sym, subst, ◌∙◌, inl, inr}
+use Rattle.std.proofs.Common.{true, ◌≡◌, List, ℕ, Option, Some, None, Result, Ok, Err, refl, ap, sym, subst, ◌∙◌, inl, inr}
 use Rattle.std.specs.Prelude.{IfSome, IsErr}
 use Rattle.reg_outside.specs.Faults.{Rose}
 use Rattle.reg_terms.specs.declared.refusal.Refusal.{Refusal}
 use Rattle.reg_terms.specs.declared.reply.Reply.TheVariants as reply
 use Rattle.reg_machine.specs.History.{State, start}
-use Rattle.reg_keep.specs.Frames.{opened}
+use Rattle.reg_keep.specs.Frames.{begins_old, opened}
 use Rattle.reg_keep.specs.declared.open.OpenFault.{OpenFault}
 use Rattle.reg_keep.specs.declared.open.OpenFault.TheVariants as fault
 use Rattle.reg_service.specs.Opening.{judged, judged_all}
@@ -28,6 +28,7 @@ use Rattle.reg_run.specs.declared.earlier.Unasked.TheVariants as unasked
 use Rattle.reg_run.specs.declared.status.End.{End}
 use Rattle.reg_run.specs.declared.status.End.TheVariants as the_end
 use Rattle.reg_run.proofs.Gathering.{Records}
+use Rattle.reg_run.proofs.Opened.{opens_new}
 
 -- ---- finding it
 
@@ -42,10 +43,11 @@ undamaged (Some file) r last place is opens = let both : Err place ≡ Ok last =
 
 -- there was no memory for it
 pub not_replayed : (last : State) (held : Option (List ℕ)) (faults later : ℕ) (records : Records) (f : OpenFault) → ((place : ℕ) → f ≡ fault.Damaged place → judged start records ≡ Err place) → (f ≡ fault.Fault → ⊥)
-    → IfSome held (λ file. judged start records ≡ Ok last) → NotReread (end_of_open f) held faults later
-not_replayed last held faults later records (fault.Damaged place) damaged never opens = undamaged held (judged start records) last place (damaged place refl) opens
-not_replayed last held faults later records fault.Fault damaged never opens = absurd (never refl)
-not_replayed last held faults later records fault.NoMemory damaged never opens = tt
+    → (f ≡ fault.OtherFormat → ⊥) → IfSome held (λ file. judged start records ≡ Ok last) → NotReread (end_of_open f) held faults later
+not_replayed last held faults later records (fault.Damaged place) damaged never none opens = undamaged held (judged start records) last place (damaged place refl) opens
+not_replayed last held faults later records fault.Fault damaged never none opens = absurd (never refl)
+not_replayed last held faults later records fault.NoMemory damaged never none opens = tt
+not_replayed last held faults later records fault.OtherFormat damaged never none opens = absurd (none refl)
 
 -- the records of a file that opens are judged as it is
 pub judged_again : (held : Option (List ℕ)) (records : Records) (last : State) → OpensTo held (Ok last) → IfSome held (λ file. opened file ≡ Ok records) → IfSome held (λ file. judged start records ≡ Ok last)
@@ -56,12 +58,17 @@ no_damage : (held : Option (List ℕ)) (last : State) (place : ℕ) → IfSome h
 no_damage None last place read opens = tt
 no_damage (Some file) last place read opens = let both : Err place ≡ Ok last = ap judged_all (sym read) ∙ opens in absurd (cc)
 
+no_other : (held : Option (List ℕ)) (last : State) → IfSome held (λ file. begins_old file ≡ true) → OpensTo held (Ok last) → IfSome held (λ file. ⊥)
+no_other None last old opens = tt
+no_other (Some file) last old opens = opens_new file last opens old
+
 -- the file wasn't read once more
 pub not_reread : (last : State) (held : Option (List ℕ)) (faults later : ℕ) (f : OpenFault) → ((place : ℕ) → f ≡ fault.Damaged place → IfSome held (λ file. opened file ≡ Err place)) → (f ≡ fault.Fault → Rose faults later)
-    → OpensTo held (Ok last) → NotReread (end_of_open f) held faults later
-not_reread last held faults later (fault.Damaged place) damaged rose opens = no_damage held last place (damaged place refl) opens
-not_reread last held faults later fault.Fault damaged rose opens = rose refl
-not_reread last held faults later fault.NoMemory damaged rose opens = tt
+    → (f ≡ fault.OtherFormat → IfSome held (λ file. begins_old file ≡ true)) → OpensTo held (Ok last) → NotReread (end_of_open f) held faults later
+not_reread last held faults later (fault.Damaged place) damaged rose other opens = no_damage held last place (damaged place refl) opens
+not_reread last held faults later fault.Fault damaged rose other opens = rose refl
+not_reread last held faults later fault.NoMemory damaged rose other opens = tt
+not_reread last held faults later fault.OtherFormat damaged rose other opens = no_other held last (other refl) opens
 
 -- there is a moment to find it at
 pub found_at : (due : Result ℕ Refusal) (at : ℕ) (last : State) (held : Option (List ℕ)) (faults later : ℕ) (found : Result State Unasked) → due ≡ Ok at → FindsAt (Ok at) last held faults later found → FindsAt due last held faults later found

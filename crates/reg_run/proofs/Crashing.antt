@@ -8,7 +8,7 @@ use Rattle.reg_terms.specs.declared.command.Stamped.{Stamped}
 use Rattle.reg_machine.specs.History.{State, start}
 use Rattle.reg_outside.specs.declared.disk.Disk.{Ghosts}
 use Rattle.reg_keep.specs.Begin.{is_taken, Begun}
-use Rattle.reg_keep.specs.Frames.{opened, payloads_in, journal_bytes}
+use Rattle.reg_keep.specs.Frames.{opened, opened_old, payloads_in, journal_bytes}
 use Rattle.reg_keep.specs.Keeping.{kept_in}
 use Rattle.reg_keep.specs.JournalWords.{disk_of}
 use Rattle.reg_keep.specs.declared.journal.Journal.{Journal}
@@ -241,13 +241,14 @@ ok_taken : (file : List ℕ) (from : State) (o : Result (List (ℕ × List ℕ))
 ok_taken file from (Ok records) is opens_as = ap is_ok is
 ok_taken file from (Err place) is opens_as = absurd (cc)
 
-either_taken : (long ok : Bool) → ok ≡ true → (long || ok) ≡ true
-either_taken true ok is = refl
-either_taken false ok is = is
+either_taken : (long ok other : Bool) → ok ≡ true → (long || ok || other) ≡ true
+either_taken true true other is = refl
+either_taken false true other is = refl
+either_taken long false other is = absurd (cc)
 
 -- a file that opens is taken
 opens_taken : (file : List ℕ) (from : State) → opens file ≡ Ok from → is_taken file ≡ true
-opens_taken file from is = either_taken (nat_lt 9 (length file)) (is_ok (opened file)) (ok_taken file from (opened file) refl is)
+opens_taken file from is = either_taken (nat_lt 9 (length file)) (is_ok (opened file)) (is_ok (opened_old file)) (ok_taken file from (opened file) refl is)
 
 -- over a file that is taken nothing was written
 abbrev pub LeavesTaken : {D : Type 0} (g : Ghosts D) → D → D → Type 0

@@ -193,6 +193,7 @@ too_much_of the_end.TooMuch from taken before after accepted answered input same
 }
 too_much_of the_end.Exists from taken before after accepted answered input same e = elim e [ ]
 too_much_of the_end.Refused from taken before after accepted answered input same e = elim e [ ]
+too_much_of the_end.OtherFormat from taken before after accepted answered input same e = elim e [ ]
 
 -- what `apply` did, from how it ended and what it left
 pub did_apply : (d : Seen) (end : End) (before after : World) (from : State) (taken : List ℕ) → Takes before.left taken after.left → length taken ≤ 2 ^ 32 → IsCutAtLineFeeds (lines taken) taken

@@ -7,6 +7,7 @@ pub mod Gathering
 pub mod Ids
 pub mod KeepingUp
 pub mod Loading
+pub mod Migrating
 pub mod Naming
 pub mod Opened
 pub mod Providing

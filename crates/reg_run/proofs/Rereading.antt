@@ -10,7 +10,7 @@ use Rattle.reg_terms.specs.declared.refusal.Refusal.{Refusal}
 use Rattle.reg_machine.specs.History.{State, start}
 use Rattle.reg_machine.specs.Refusals.{refusal}
 use Rattle.reg_wire.specs.Payload.{stamped_of}
-use Rattle.reg_keep.specs.Frames.{opened}
+use Rattle.reg_keep.specs.Frames.{begins_old, opened}
 use Rattle.reg_keep.specs.declared.open.OpenFault.{OpenFault}
 use Rattle.reg_keep.specs.declared.open.OpenFault.TheVariants as fault
 use Rattle.reg_service.specs.Opening.{accepted, after_payload, after_stamped, and_then, at_last, judged, judged_all, opens, or_place}
@@ -24,6 +24,7 @@ use Rattle.reg_run.specs.World.{Out}
 use Rattle.reg_run.specs.declared.status.End.{End}
 use Rattle.reg_run.specs.declared.status.End.TheVariants as the_end
 use Rattle.reg_run.proofs.Gathering.{Records, no_front}
+use Rattle.reg_run.proofs.Opened.{opens_new}
 
 -- ---- records that are judged are commands
 
@@ -96,12 +97,17 @@ nothing_written : (due : Option (List ℕ)) (w : Option (List ℕ)) → IfSome d
 nothing_written None w = tt
 nothing_written (Some bytes) w = no_front w bytes
 
--- and it isn't damaged
+not_other : (places : Places) (held : Option (List ℕ)) (from : State) → IfSome held (λ file. begins_old file ≡ true) → OpensTo held (Ok from) → IfSome (due_lines places held from.history) (λ bytes. ⊥)
+not_other places None from old opens_to = tt
+not_other places (Some file) from old opens_to = opens_new file from opens_to old
+
+-- and it isn't damaged, nor of the other format
 pub not_reread : (places : Places) (held : Option (List ℕ)) (before later : ℕ) (out : Out) (f : OpenFault) (from : State) → ((at : ℕ) → f ≡ fault.Damaged at → IfSome held (λ file. opened file ≡ Err at)) → (f ≡ fault.Fault → Rose before later)
-    → OpensTo held (Ok from) → PrintsLines (due_lines places held from.history) (end_of_open f) before later out out
-not_reread places held before later out (fault.Damaged at) from damaged rose opens_to = inl (undamaged places held from at (damaged at refl) opens_to, refl)
-not_reread places held before later out fault.Fault from damaged rose opens_to = inr (refl, rose refl, refl)
-not_reread places held before later out fault.NoMemory from damaged rose opens_to = inl (nothing_written (due_lines places held from.history) out.written, refl)
+    → (f ≡ fault.OtherFormat → IfSome held (λ file. begins_old file ≡ true)) → OpensTo held (Ok from) → PrintsLines (due_lines places held from.history) (end_of_open f) before later out out
+not_reread places held before later out (fault.Damaged at) from damaged rose other opens_to = inl (undamaged places held from at (damaged at refl) opens_to, refl)
+not_reread places held before later out fault.Fault from damaged rose other opens_to = inr (refl, rose refl, refl)
+not_reread places held before later out fault.NoMemory from damaged rose other opens_to = inl (nothing_written (due_lines places held from.history) out.written, refl)
+not_reread places held before later out fault.OtherFormat from damaged rose other opens_to = inl (not_other places held from (other refl) opens_to, refl)
 
 -- faults since an earlier moment
 pub prints_since : (due : Option (List ℕ)) (end : End) (before mid later : ℕ) (old new : Out) → before ≤ mid → PrintsLines due end mid later old new → PrintsLines due end before later old new

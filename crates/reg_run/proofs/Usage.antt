@@ -16,7 +16,7 @@ use Rattle.reg_terms.specs.declared.reply.Reply.{Reply}
 use Rattle.reg_terms.specs.declared.reply.Reply.TheVariants as reply
 use Rattle.reg_run.specs.AsOf.{AsOfEnds, In, PrintsReport, input}
 use Rattle.reg_run.specs.Due.{Due, Told, due_of, end_of_due}
-use Rattle.reg_run.specs.Ends.{Did, IsIdle, IsUsage, LoadAsked, LoadBroke, RunDid}
+use Rattle.reg_run.specs.Ends.{Did, DidBoth, IsIdle, IsUsage, LoadAsked, LoadBroke, RunDid}
 use Rattle.reg_run.specs.Listing.{PrintsLines, due_lines}
 use Rattle.reg_run.specs.Once.{Printed, end_of_reply}
 use Rattle.reg_run.specs.Providing.{Provides}
@@ -35,6 +35,7 @@ status_two the_end.Listener e = absurd (omega arith)
 status_two the_end.TooMuch e = absurd (omega arith)
 status_two the_end.Exists e = absurd (omega arith)
 status_two the_end.Refused e = absurd (omega arith)
+status_two the_end.OtherFormat e = absurd (omega arith)
 
 print_is_use : (bytes : List ℕ) (old new : Out) → Printed the_end.Done bytes the_end.Usage old new → ⊥
 print_is_use bytes old new (inl (inl p)) = let is : the_end.Usage ≡ the_end.Done = p.0 in absurd (cc)
@@ -116,21 +117,26 @@ task_is_use d (task.ReportAsOf asked at) before after (inr p) =
 task_is_use d (task.Provision asked) before after (inl not) = not.cause
 task_is_use d (task.Provision asked) before after (inr p) = provision_is_use asked _ p.2.at _ _ _ _ p.2.ends
 task_is_use d (task.Sample seed size) before after did = print_is_use _ _ _ did.printed
+task_is_use d task.Migrate before after did = elim did [ ]
 
-words_are_use : {D : Type 0} (g : Ghosts D) (t : Task) (end : End) (before after : World) (old new : D) → end ≡ the_end.Usage
-    → Did (seen g old new) t end before after ⊎ ((end ≡ the_end.Memory) × IsIdle before after old new) → ⊥
-words_are_use g t end before after old new is (inl did) = task_is_use (seen g old new) t before after (subst (λ (x : End). Did (seen g old new) t x before after) is did)
-words_are_use g t end before after old new is (inr none) = let both : the_end.Usage ≡ the_end.Memory = sym is ∙ none.0 in absurd (cc)
+both_are_use : {E : Type 0} (e : Ghosts E) (d : Seen) (t : Task) (before after : World) (second filled : E) → DidBoth e d t the_end.Usage before after second filled → ⊥
+both_are_use e d task.Migrate before after second filled did = did.ends
+both_are_use e d t before after second filled did = task_is_use d t before after did.0
+
+words_are_use : {D E : Type 0} (g : Ghosts D) (e : Ghosts E) (t : Task) (end : End) (before after : World) (old new : D) (second filled : E) → end ≡ the_end.Usage
+    → DidBoth e (seen g old new) t end before after second filled ⊎ ((end ≡ the_end.Memory) × IsIdle before after old new second filled) → ⊥
+words_are_use g e t end before after old new second filled is (inl did) = both_are_use e (seen g old new) t before after second filled (subst (λ (x : End). DidBoth e (seen g old new) t x before after second filled) is did)
+words_are_use g e t end before after old new second filled is (inr none) = let both : the_end.Usage ≡ the_end.Memory = sym is ∙ none.0 in absurd (cc)
 
 idle_status : (end : End) → (end ≡ the_end.Usage) ⊎ (end ≡ the_end.Memory) → (status_of end ≡ 2) ⊎ (status_of end ≡ 3)
 idle_status end (inl is) = inl (ap status_of is)
 idle_status end (inr is) = inr (ap status_of is)
 
-pub is_usage : {D : Type 0} (g : Ghosts D) (asked : Option Task) (end : End) (before after : World) (old new : D) → RunDid g asked end before after old new → IsUsage asked (status_of end)
-is_usage g None end before after old new did = (λ two. refl, λ none. idle_status end did.0)
-is_usage g (Some t) end before after old new did = (λ two. absurd (words_are_use g t end before after old new (status_two end two) did), λ none. absurd (cc))
+pub is_usage : {D E : Type 0} (g : Ghosts D) (e : Ghosts E) (asked : Option Task) (end : End) (before after : World) (old new : D) (second filled : E) → RunDid g e asked end before after old new second filled → IsUsage asked (status_of end)
+is_usage g e None end before after old new second filled did = (λ two. refl, λ none. idle_status end did.0)
+is_usage g e (Some t) end before after old new second filled did = (λ two. absurd (words_are_use g e t end before after old new second filled (status_two end two) did), λ none. absurd (cc))
 
 -- where there was no memory to read the words
-pub idle_did : {D : Type 0} (g : Ghosts D) (asked : Option Task) (w : World) (d : D) → RunDid g asked the_end.Memory w w d d
-idle_did g None w d = (inr refl, (refl, refl))
-idle_did g (Some t) w d = inr (refl, (refl, refl))
+pub idle_did : {D E : Type 0} (g : Ghosts D) (e : Ghosts E) (asked : Option Task) (w : World) (d : D) (second : E) → RunDid g e asked the_end.Memory w w d d second second
+idle_did g e None w d second = (inr refl, (refl, refl, refl))
+idle_did g e (Some t) w d second = inr (refl, (refl, refl, refl))

@@ -56,13 +56,15 @@ AnswersLines s the_end.TooMuch from to old new =
     StopsTelling s from.left to.left old.written new.written new.flushed stop.TooMuch
 AnswersLines s the_end.Exists from to old new = ⊥
 AnswersLines s the_end.Refused from to old new = ⊥
+AnswersLines s the_end.OtherFormat from to old new = ⊥
 
 -- how printing a report of the registry of a state ends, for which no line is taken
 abbrev pub PrintsReport : Report → State → End → In → In → Out → Out → Type 0
 PrintsReport asked s end from to old new = (to ≡ from) × Told (TellsReport asked s) end old new
 
 -- Why there is no registry to ask of a file that opened: there was no memory for it, or the disk
--- failed when the file was read once more. A damage ends it only where the file isn't told.
+-- failed when the file was read once more. A damage, or the other format, ends it only where the file
+-- isn't told.
 abbrev pub NotReread : End → Option (List ℕ) → (faults later : ℕ) → Type 0
 NotReread the_end.Done held faults later = ⊥
 NotReread the_end.Usage held faults later = ⊥
@@ -75,6 +77,7 @@ NotReread the_end.Listener held faults later = ⊥
 NotReread the_end.TooMuch held faults later = ⊥
 NotReread the_end.Exists held faults later = ⊥
 NotReread the_end.Refused held faults later = ⊥
+NotReread the_end.OtherFormat held faults later = IfSome held (λ file. ⊥)
 
 -- The registry of a history as it was at a moment was asked, where the file is told; or there was
 -- none to ask, and nothing was taken or written.

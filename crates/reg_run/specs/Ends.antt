@@ -13,7 +13,7 @@ use Rattle.reg_terms.specs.declared.reply.Reply.{Reply}
 use Rattle.reg_terms.specs.declared.reply.Reply.TheVariants as reply
 use Rattle.reg_machine.specs.History.{State}
 use Rattle.reg_keep.specs.Begin.{is_taken}
-use Rattle.reg_keep.specs.Frames.{journal_bytes}
+use Rattle.reg_keep.specs.Frames.{begins_old, journal_bytes}
 use Rattle.reg_keep.specs.declared.open.OpenFault.{OpenFault}
 use Rattle.reg_keep.specs.declared.open.OpenFault.TheVariants as fault
 use Rattle.reg_service.specs.Opening.{at_last}
@@ -36,14 +36,15 @@ use Rattle.reg_run.specs.Due.{Due, Replied, RepliedFront, AnswersTo, ReportsAt}
 use Rattle.reg_run.specs.Providing.{DidProvision}
 use Rattle.reg_run.specs.AsOf.{AnswersLines, DidAsOf, PrintsReport}
 use Rattle.reg_run.specs.Listing.{DidCommands}
+use Rattle.reg_run.specs.Migrating.{DidMigrate}
 use Rattle.reg_run.specs.Questions.{asked_by}
 use Rattle.reg_words.specs.declared.task.Task.{Task}
 use Rattle.reg_words.specs.declared.task.Task.TheVariants as task
 use Rattle.reg_run.specs.declared.status.End.{End}
 use Rattle.reg_run.specs.declared.status.End.TheVariants as the_end
 
--- why the journal wasn't opened: there was no memory, the disk failed, or the file is damaged; the
--- disk's count of faults changes only where it failed
+-- why the journal wasn't opened: there was no memory, the disk failed, the file is of format 1, or
+-- it isn't and is damaged; the disk's count of faults changes only where it failed
 abbrev pub OpenCaused : End → Option (List ℕ) → ℕ → ℕ → Type 0
 OpenCaused the_end.Done held before after = ⊥
 OpenCaused the_end.Usage held before after = ⊥
@@ -52,11 +53,13 @@ OpenCaused the_end.Disk held before after = Rose before after
 OpenCaused the_end.Input held before after = ⊥
 OpenCaused the_end.Output held before after = ⊥
 OpenCaused (the_end.Damaged at) held before after =
-    OpensTo held (Err at) × (after ≡ before)
+    OpensTo held (Err at) × IfSome held (λ file. begins_old file ≡ false) × (after ≡ before)
 OpenCaused the_end.Listener held before after = ⊥
 OpenCaused the_end.TooMuch held before after = ⊥
 OpenCaused the_end.Exists held before after = ⊥
 OpenCaused the_end.Refused held before after = ⊥
+OpenCaused the_end.OtherFormat held before after =
+    IfSome held (λ file. begins_old file ≡ true) × (after ≡ before)
 
 -- The journal wasn't opened: nothing was read but the disk, nothing was written, the clock not
 -- looked at, and the listener not asked.
@@ -90,6 +93,7 @@ InitEnds the_end.TooMuch held before new after = ⊥
 InitEnds the_end.Exists held before new after =
     IfSome held (λ file. is_taken file ≡ true) × (after ≡ before)
 InitEnds the_end.Refused held before new after = ⊥
+InitEnds the_end.OtherFormat held before new after = ⊥
 
 -- `init`: a journal was begun or not; beside the disk all is as it was
 pub record DidInit (d : Seen) (end : End) (before after : World) : Type 0 where
@@ -146,6 +150,7 @@ ApplyEnds the_end.TooMuch from taken before after accepted answered =
     (Rose before.writes after.writes) answered (from.history ++ accepted) stop.TooMuch
 ApplyEnds the_end.Exists from taken before after accepted answered = ⊥
 ApplyEnds the_end.Refused from taken before after accepted answered = ⊥
+ApplyEnds the_end.OtherFormat from taken before after accepted answered = ⊥
 
 -- no call of the input, of the output and of the disk was counted as a fault
 pub record NoFault (before after : World) : Type 0 where
@@ -196,6 +201,7 @@ abbrev pub end_of_open : OpenFault → End
 end_of_open (fault.Damaged at) = the_end.Damaged at
 end_of_open fault.Fault = the_end.Disk
 end_of_open fault.NoMemory = the_end.Memory
+end_of_open fault.OtherFormat = the_end.OtherFormat
 
 -- why a run stopped, as its end
 abbrev pub end_of_stop : Stop → End
@@ -227,6 +233,7 @@ AskEnds IsDue the_end.TooMuch before after = ⊥
 AskEnds IsDue the_end.Exists before after = ⊥
 AskEnds IsDue the_end.Refused before after =
     Replied IsDue true before after × IsFlushed after × (after.writes ≡ before.writes)
+AskEnds IsDue the_end.OtherFormat before after = ⊥
 
 -- what is due was asked from the state that the file opened to; the clock was looked at once, and
 -- the disk only read
@@ -285,7 +292,7 @@ pub record DidSample (d : Seen) (seed size : ℕ) (end : End) (before after : Wo
   pub held : (after.held ≡ before.held) × (after.faults ≡ before.faults)
   pub disk : IsUntouched d
 
--- what a run of a task did
+-- what a run of a task did that has to do with one disk; `migrate` has to do with two
 abbrev pub Did : Seen → Task → End → World → World → Type 0
 Did d task.Init end before after = DidInit d end before after
 Did d task.Apply end before after = OverJournal d (DidApply d end before after) end before after
@@ -307,19 +314,30 @@ Did d (task.ReportAsOf asked at) end before after =
 Did d (task.Provision asked) end before after =
     OverJournal d (DidProvision d asked end before after) end before after
 Did d (task.Sample seed size) end before after = DidSample d seed size end before after
+Did d task.Migrate end before after = ⊥
+
+-- what a run of a task did to its disk and to a second one: `migrate` fills the second, and every
+-- other task leaves it as it was
+abbrev pub DidBoth : {E : Type 0} → Ghosts E → Seen → Task → End → World → World → E → E → Type 0
+DidBoth e d task.Migrate end before after second filled =
+    DidMigrate e d end before after second filled
+DidBoth e d asked end before after second filled =
+    Did d asked end before after × (filled ≡ second)
 
 -- nothing was done
-abbrev pub IsIdle : {D : Type 0} → World → World → D → D → Type 0
-IsIdle before after old new = (after ≡ before) × (new ≡ old)
+abbrev pub IsIdle : {D E : Type 0} → World → World → D → D → E → E → Type 0
+IsIdle before after old new second filled =
+    (after ≡ before) × (new ≡ old) × (filled ≡ second)
 
--- what a run of these words did; words that ask for nothing leave all as it was, and so do words
--- for which there was no memory
-abbrev pub RunDid : {D : Type 0} → Ghosts D → Option Task → End → World → World → D → D → Type 0
-RunDid g None end before after old new =
-    ((end ≡ the_end.Usage) ⊎ (end ≡ the_end.Memory)) × IsIdle before after old new
-RunDid g (Some asked) end before after old new =
-    Did (seen g old new) asked end before after
-    ⊎ ((end ≡ the_end.Memory) × IsIdle before after old new)
+-- what a run of these words did, over a disk and a second one; words that ask for nothing leave all
+-- as it was, and so do words for which there was no memory
+abbrev pub RunDid : {D E : Type 0} → Ghosts D → Ghosts E → Option Task → End → World → World
+    → (old new : D) → (second filled : E) → Type 0
+RunDid g e None end before after old new second filled =
+    ((end ≡ the_end.Usage) ⊎ (end ≡ the_end.Memory)) × IsIdle before after old new second filled
+RunDid g e (Some asked) end before after old new second filled =
+    DidBoth e (seen g old new) asked end before after second filled
+    ⊎ ((end ≡ the_end.Memory) × IsIdle before after old new second filled)
 
 -- status 2 comes only where the words ask for nothing; and there it comes, unless there was no
 -- memory to read them

@@ -5,6 +5,7 @@ pub mod Earlier
 pub mod Ends
 pub mod KeepsUp
 pub mod Listing
+pub mod Migrating
 pub mod Once
 pub mod Providing
 pub mod Questions

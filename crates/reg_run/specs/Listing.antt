@@ -19,7 +19,7 @@ use Rattle.reg_run.specs.declared.status.End.TheVariants as the_end
 
 -- How printing bytes ends, where it is known which: they were written and flushed; or there was no
 -- memory, or the output failed, and a front of them stands there and isn't flushed. A payload that
--- is no command's ends it only where they aren't known.
+-- is no command's, or a file of the other format, ends it only where they aren't known.
 abbrev pub Lists : Option (List ℕ) → End → Out → Out → Type 0
 Lists due the_end.Done old new =
     IfSome due (λ bytes. new.written ≡ append_known old.written bytes)
@@ -37,6 +37,7 @@ Lists due the_end.Listener old new = ⊥
 Lists due the_end.TooMuch old new = ⊥
 Lists due the_end.Exists old new = ⊥
 Lists due the_end.Refused old new = ⊥
+Lists due the_end.OtherFormat old new = IfSome due (λ bytes. ⊥) × (new.flushed ≡ old.flushed)
 
 -- The same where a file is read for them: or the disk failed, and nothing was written.
 abbrev pub PrintsLines : Option (List ℕ) → End → (faults later : ℕ) → Out → Out → Type 0

@@ -59,6 +59,7 @@ ServeEnds the_end.Listener from port limit before after accepted answered =
 ServeEnds the_end.TooMuch from port limit before after accepted answered = ⊥
 ServeEnds the_end.Exists from port limit before after accepted answered = ⊥
 ServeEnds the_end.Refused from port limit before after accepted answered = ⊥
+ServeEnds the_end.OtherFormat from port limit before after accepted answered = ⊥
 
 -- What was written to each connection that was given back, from its coming on, keeps up with the
 -- disk, where the disk tells its bytes.

@@ -22,6 +22,7 @@ status_of the_end.Listener = 8
 status_of the_end.TooMuch = 9
 status_of the_end.Exists = 10
 status_of the_end.Refused = 11
+status_of the_end.OtherFormat = 12
 
 -- the note of a run that ended so
 abbrev pub note_of : End → List ℕ
@@ -36,6 +37,7 @@ note_of the_end.Listener = codes "listener\n"
 note_of the_end.TooMuch = codes "too much input\n"
 note_of the_end.Exists = codes "exists\n"
 note_of the_end.Refused = []
+note_of the_end.OtherFormat = codes "other format\n"
 
 -- the note was written; or the sink failed, and some front of it was
 abbrev pub NotesOnce : End → Option (List ℕ) → ℕ → Option (List ℕ) → ℕ → Type 0
@@ -46,7 +48,7 @@ NotesOnce end old before new after =
 abbrev pub IsStatus : ℕ → Type 0
 IsStatus n =
     (n ≡ 0) ⊎ (n ≡ 2) ⊎ (n ≡ 3) ⊎ (n ≡ 4) ⊎ (n ≡ 5) ⊎ (n ≡ 6) ⊎ (n ≡ 7) ⊎ (n ≡ 8) ⊎ (n ≡ 9)
-    ⊎ (n ≡ 10) ⊎ (n ≡ 11)
+    ⊎ (n ≡ 10) ⊎ (n ≡ 11) ⊎ (n ≡ 12)
 
 -- what `check` prints: how many commands there are, and the last one's moment, or moment 0, at
 -- which the journal opens

@@ -6,6 +6,7 @@ mod as_of;
 mod earlier;
 mod listing;
 mod load;
+mod migrate;
 mod perform;
 mod program;
 mod provision;

@@ -10,7 +10,7 @@ ghost use Rattle.reg_service.specs.Opening.{opens, at_last, FrontsReopen};
 ghost use Rattle.reg_session.specs.Replies.{line_of};
 ghost use Rattle.reg_run.specs.Crash.{seen};
 ghost use Rattle.reg_run.specs.Due.{ToldOnce, AnswersTo};
-ghost use Rattle.reg_run.specs.Ends.{Did, DidInit, OpenCaused, end_of_stop, end_of_open};
+ghost use Rattle.reg_run.specs.Ends.{Did, DidBoth, DidInit, OpenCaused, end_of_stop, end_of_open};
 ghost use Rattle.reg_run.specs.Once.{Printed, Put, end_of_reply, is_constant};
 ghost use Rattle.reg_run.specs.Questions.{asked_by};
 ghost use Rattle.reg_run.specs.Status.{check_line};
@@ -20,6 +20,7 @@ ghost use Rattle.reg_run.specs.World.{out_of};
 use crate::as_of::{as_of_over, report_as_of_over};
 use crate::listing::commands_over;
 use crate::load::load_over;
+use crate::migrate::migrate_over;
 use crate::provision::provision_over;
 use crate::question::asked_by;
 use crate::report::report_over;
@@ -44,6 +45,7 @@ pub(crate) fn end_of_open(fault: OpenFault) -> End
         OpenFault::Damaged(at) => End::Damaged(at),
         OpenFault::Fault => End::Disk,
         OpenFault::NoMemory => End::Memory,
+        OpenFault::OtherFormat => End::OtherFormat,
     }
 }
 
@@ -297,23 +299,25 @@ fn ask_over<K: Sink, D: Disk, C: Clock>(
     }
 }
 
-/// Does a task.
-pub fn perform<S: Source, K: Sink, D: Disk, C: Clock, L: Listener>(
+/// Does a task. The second disk is for `migrate` alone.
+pub fn perform<S: Source, K: Sink, D: Disk, E: Disk, C: Clock, L: Listener>(
     alloc: Global,
     task: &Task,
     input: &mut S,
     out: &mut K,
     disk: D,
+    second: &mut E,
     clock: &mut C,
     net: &mut L,
 ) -> (End, D)
-    ensures did { Did (seen ⟦<D as Disk>⟧ disk result.1) task.now result.0
+    ensures did { DidBoth ⟦<E as Disk>⟧ (seen ⟦<D as Disk>⟧ disk result.1) task.now result.0
         (world ⟦<S as Source>⟧ ⟦<K as Sink>⟧ ⟦<D as Disk>⟧ ⟦<C as Clock>⟧ input.old out.old disk
         clock.old (net_of ⟦<L as Listener>⟧ net.old))
         (world ⟦<S as Source>⟧ ⟦<K as Sink>⟧ ⟦<D as Disk>⟧ ⟦<C as Clock>⟧ input.new out.new result.1
-        clock.new (net_of ⟦<L as Listener>⟧ net.new)) }
+        clock.new (net_of ⟦<L as Listener>⟧ net.new)) second.old second.new }
     ensures object { D.name result.1 ≡ D.name disk }
     ensures later { D.faults disk ≤ D.faults result.1 }
+    ensures later_second { E.faults second.old ≤ E.faults second.new }
 {
     match task {
         Task::Init => init(disk),
@@ -332,5 +336,6 @@ pub fn perform<S: Source, K: Sink, D: Disk, C: Clock, L: Listener>(
         Task::AsOf { at } => as_of_over(alloc, at, input, out, disk, clock),
         Task::Provision(asked) => provision_over(alloc, asked, out, disk, clock),
         Task::Sample { seed, size } => (print_sample(alloc, *seed, *size, out), disk),
+        Task::Migrate => migrate_over(alloc, disk, second),
     }
 }

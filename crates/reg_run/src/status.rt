@@ -31,6 +31,8 @@ pub enum End {
     Exists,
     /// The query was refused.
     Refused,
+    /// The journal is of the other format than the one that was to be read.
+    OtherFormat,
 }
 
 /// The exit status of a run that ended so.
@@ -49,6 +51,7 @@ pub fn status_of(end: End) -> u8
         End::TooMuch => 9,
         End::Exists => 10,
         End::Refused => 11,
+        End::OtherFormat => 12,
     }
 }
 
@@ -110,6 +113,7 @@ fn note_of(end: End, buffer: &mut [u8; LONGEST]) -> &[u8]
         End::Listener => b"listener\n",
         End::TooMuch => b"too much input\n",
         End::Exists => b"exists\n",
+        End::OtherFormat => b"other format\n",
     }
 }
 

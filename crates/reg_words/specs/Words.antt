@@ -238,7 +238,8 @@ task_by word words =
     else (if bytes_eq word (codes "commands") then read_by commands commands_in words
     else (if bytes_eq word (codes "as-of") then read_by as_of as_of_in words
     else (if bytes_eq word (codes "why") then read_by why why_in words
-    else None))))))))))))))))
+    else (if bytes_eq word (codes "migrate") then read_bare (codes "migrate") task.Migrate words
+    else None)))))))))))))))))
 
 -- this names a command
 abbrev pub is_command : Text → Bool
@@ -247,7 +248,7 @@ is_command word =
     (codes "init" ∷ codes "apply" ∷ codes "serve" ∷ codes "check" ∷ codes "members"
     ∷ codes "history" ∷ codes "load" ∷ codes "sample" ∷ codes "permit" ∷ codes "permitted"
     ∷ codes "attested" ∷ codes "attestation" ∷ codes "reminders" ∷ codes "provision"
-    ∷ codes "commands" ∷ codes "as-of" ∷ codes "why" ∷ [])
+    ∷ codes "commands" ∷ codes "as-of" ∷ codes "why" ∷ codes "migrate" ∷ [])
 
 -- the first of the words does
 abbrev pub name_command : List Text → Bool

@@ -138,4 +138,6 @@ pub enum Task {
     Provision(Provision),
     /// Put the requests of a seed and a size to a registry that keeps nothing.
     Sample { seed: u64, size: Size },
+    /// Write the journal, which is of format 1, anew as one of format 2.
+    Migrate,
 }

@@ -425,6 +425,7 @@ fn task_by(alloc: Global, word: &str, words: &[String]) -> Result<Option<Task>, 
         "commands" => read_commands(alloc, words),
         "as-of" => read_as_of(alloc, words),
         "why" => read_why(alloc, words),
+        "migrate" => read_bare(alloc, "migrate", Task::Migrate, words),
         _ => Ok(None),
     }
 }

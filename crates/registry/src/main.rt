@@ -37,12 +37,13 @@ fn tell_reason(rt: &HostRuntime, path: &str, reason: Option<ErrorKind>) {
     };
 }
 
-/// Runs the program over a file.
-fn over(rt: &HostRuntime, path: &str, words: &[String]) -> u8 {
+/// Runs the program over a file, and a second one that `migrate` alone opens, and makes.
+fn over(rt: &HostRuntime, path: &str, second_path: &str, words: &[String]) -> u8 {
     let mut input = StdSource::new(rt.stdin());
     let mut out = StdSink::new(rt.stdout());
     let mut notes = StdSink::new(rt.stderr());
     let mut disk = FileDisk::new(rt, path, access(words));
+    let mut second = FileDisk::new(rt, second_path, Access::Make);
     let mut clock = SystemClock::new(rt);
     let mut net = TcpPort::new(rt);
     let status = run(
@@ -52,43 +53,53 @@ fn over(rt: &HostRuntime, path: &str, words: &[String]) -> u8 {
         &mut out,
         &mut notes,
         &mut disk,
+        &mut second,
         &mut clock,
         &mut net,
     );
     tell_reason(rt, path, disk.reason());
+    tell_reason(rt, second_path, second.reason());
     status
 }
 
-/// Ends the program before it has its words: writes the note, and gives the exit status.
-fn give_up(rt: &HostRuntime, end: End) -> ExitCode {
+/// Ends the program before it began: writes the note, and gives the exit status.
+fn give_up(rt: &HostRuntime, end: End) -> u8 {
     let mut notes = StdSink::new(rt.stderr());
     write_note(&mut notes, end);
-    ExitCode::from(status_of(end))
+    status_of(end)
 }
 
-/// The first word is the journal file; the others say what to do. Without a first word there are
-/// no others, and no file is touched.
+/// Runs the program over a file and the one of its name with `.v2` behind it.
+fn over_two(rt: &HostRuntime, path: &str, words: &[String]) -> u8 {
+    match format!(in rt.alloc(); "{path}.v2") {
+        Ok(second_path) => over(rt, path, second_path.as_str(), words),
+        Err(_) => give_up(rt, End::Memory),
+    }
+}
+
+/// The first word is the journal file; the others say what to do. Without a first word there are no
+/// others, and no file is touched.
 fn main(rt: HostRuntime) -> ExitCode {
     let arguments = match env::args(&rt) {
         Ok(arguments) => arguments,
         Err(error) => {
             // That one of them isn't UTF-8, or that there was no memory for them.
             if error.kind() == ErrorKind::InvalidData {
-                return give_up(&rt, End::Usage);
+                return ExitCode::from(give_up(&rt, End::Usage));
             }
-            return give_up(&rt, End::Memory);
+            return ExitCode::from(give_up(&rt, End::Memory));
         }
     };
     let mut words = Vec::new(rt.alloc());
     for word in arguments.skip(1) {
         if words.push(word).is_err() {
-            return give_up(&rt, End::Memory);
+            return ExitCode::from(give_up(&rt, End::Memory));
         }
     }
     let _streams = (null(&rt), null(&rt), null(&rt));
     let status = match words.as_slice() {
-        [path, rest @ ..] => over(&rt, path.as_str(), rest),
-        [] => over(&rt, "", &[]),
+        [path, rest @ ..] => over_two(&rt, path.as_str(), rest),
+        [] => over_two(&rt, "", &[]),
     };
     ExitCode::from(status)
 }

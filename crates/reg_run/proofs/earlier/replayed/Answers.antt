@@ -8,4 +8,4 @@ returns-in-Ok c held last faults later opens = as_then held c.args.records last 
 
 -- there was no memory for it
 pub returns-in-Err : goal.returns-in-Err
-returns-in-Err c held last faults later opens = rw c.end_of_open.ensures (not_replayed last held faults later c.args.records c.in-Err.fault c.in-Err.ensures.damaged (λ is. c.in-Err.ensures.fault (ap Err is)) opens)
+returns-in-Err c held last faults later opens = rw c.end_of_open.ensures (not_replayed last held faults later c.args.records c.in-Err.fault c.in-Err.ensures.damaged (λ is. c.in-Err.ensures.fault (ap Err is)) (λ is. c.in-Err.ensures.other (ap Err is)) opens)

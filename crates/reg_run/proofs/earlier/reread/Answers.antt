@@ -9,4 +9,4 @@ returns-in-Ok-clause-finds g c last opens =
 -- the file isn't damaged
 pub returns-in-Err-clause-finds : goal.returns-in-Err-clause-finds
 returns-in-Err-clause-finds g c last opens =
-    rw c.end_of_open.ensures (not_reread last (g.D.Disk.contents c.args.disk) (g.D.Disk.faults c.args.disk) (g.D.Disk.faults c.in-Err.disk) c.in-Err.fault c.in-Err.ensures.damaged c.in-Err.ensures.fault opens)
+    rw c.end_of_open.ensures (not_reread last (g.D.Disk.contents c.args.disk) (g.D.Disk.faults c.args.disk) (g.D.Disk.faults c.in-Err.disk) c.in-Err.fault c.in-Err.ensures.damaged c.in-Err.ensures.fault c.in-Err.ensures.other opens)

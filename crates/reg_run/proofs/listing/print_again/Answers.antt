@@ -9,7 +9,7 @@ returns-in-Ok-clause-printed g c from opens =
     inl (prints_due c.args.places.now held c.in-Ok.records from _ _ _ opens c.in-Ok.ensures.records
     (c.print_records-end.ensures held from.history (reread held c.in-Ok.records from opens c.in-Ok.ensures.records)))
 
--- the file isn't damaged
+-- the file is neither damaged nor of the other format
 pub returns-in-Err-clause-printed : goal.returns-in-Err-clause-printed
 returns-in-Err-clause-printed g c from opens =
-    rw c.end_of_open.ensures (not_reread c.args.places.now (g.D.Disk.contents c.args.disk) (g.D.Disk.faults c.args.disk) (g.D.Disk.faults c.in-Err.disk) _ c.in-Err.fault from c.in-Err.ensures.damaged c.in-Err.ensures.fault opens)
+    rw c.end_of_open.ensures (not_reread c.args.places.now (g.D.Disk.contents c.args.disk) (g.D.Disk.faults c.args.disk) (g.D.Disk.faults c.in-Err.disk) _ c.in-Err.fault from c.in-Err.ensures.damaged c.in-Err.ensures.fault c.in-Err.ensures.other opens)

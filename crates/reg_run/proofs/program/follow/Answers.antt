@@ -13,7 +13,7 @@ returns-in-Ok-Some-clause-did g c =
 pub returns-in-Ok-None-clause-did : goal.returns-in-Ok-None-clause-did
 returns-in-Ok-None-clause-did g c =
     let is : task_of (map string_bytes c.args.words.now) ≡ None = sym c.in-Ok-None.ensures.asked ∙ c.in-Ok-None.field-0-is in
-    rw is (inl refl, (refl, refl))
+    rw is (inl refl, (refl, refl, refl))
 
 -- words that name no command ask for nothing
 pub returns-in-Ok-Some-clause-unknown : goal.returns-in-Ok-Some-clause-unknown
@@ -29,4 +29,4 @@ returns-in-Err-clause-unknown g c unknown =
 
 -- there was no memory to read them
 pub returns-in-Err-clause-did : goal.returns-in-Err-clause-did
-returns-in-Err-clause-did g c = idle_did g.D.Disk _ _ _
+returns-in-Err-clause-did g c = idle_did g.D.Disk g.E.Disk _ _ _ _
