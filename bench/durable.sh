@@ -32,8 +32,8 @@ def removed(path):
 # over the file as it stands, or over none
 def own_rate(path):
     file = os.open(path, os.O_RDWR | os.O_CREAT)
-    at, payload = 9, b"x" * 45
-    os.pwrite(file, b"GRPREG1\n\0", 0)
+    at, payload = 9, b"x" * 46
+    os.pwrite(file, b"GRPREG2\n\0", 0)
     os.fdatasync(file)
     before = time.time()
     for n in range(COUNT):
@@ -108,10 +108,10 @@ caller = b"g:isa/GrouperSystem"
 frames = []
 for n in range(MANY):
     subject = b"uni/p%d" % n
-    payload = struct.pack("<Q", 1756684800000000 + n) + struct.pack("<H", len(caller)) + caller + b"\5" + struct.pack("<H", len(subject)) + subject + struct.pack("<H", 0)
+    payload = struct.pack("<Q", 1756684800000000 + n) + struct.pack("<H", len(caller)) + caller + b"\0\5" + struct.pack("<H", len(subject)) + subject + struct.pack("<H", 0)
     frames.append(b"\1" + struct.pack("<I", len(payload)) + payload)
 with open(folder + "/many", "wb") as file:
-    file.write(b"GRPREG1\n" + b"".join(frames) + b"\0")
+    file.write(b"GRPREG2\n" + b"".join(frames) + b"\0")
 before = time.time()
 done = subprocess.run([program, folder + "/many", "check"], stdout=subprocess.PIPE, check=True)
 seconds = time.time() - before

@@ -186,7 +186,8 @@ def persons_in(journal: str) -> list[str]:
 def person_of(payload: bytes) -> str:
     """The person of a payload that adds one; else nobody."""
     try:
-        code = 10 + struct.unpack_from("<H", payload, 8)[0]
+        # behind the caller stands a byte 0
+        code = 11 + struct.unpack_from("<H", payload, 8)[0]
         text = code + 3
         if payload[code] != CODES["subject.add"]:
             return ""

@@ -123,7 +123,7 @@ from serving import SYSTEM, Answers, connect, free_port, message
 
 program, folder = sys.argv[1:]
 MEMORY, DISK = b'{"fault":"memory"}', b'{"fault":"disk"}'
-EMPTY = b"GRPREG1\n\0"
+EMPTY = b"GRPREG2\n\0"
 # 2026-01-01T00:00:00Z: what is there before a run is made from then on, and the run a day later
 BEFORE, DURING = 1767225600, 1767312000
 # in the place of a request that was answered that there was no memory: it is refused, and reads the clock once

@@ -184,16 +184,35 @@ FIELDS = {
 }
 
 
+HEADER, OLD_HEADER = b"GRPREG2\n", b"GRPREG1\n"
+# what stands behind the caller, and behind the fields of a grant
+NO_KEY, NO_DATES = b"\0", b"\0\0"
+
+
+def command_bytes(command):
+    """The code of a command and its fields."""
+    left_out = {"display": "", "from": None, "until": None}
+    op = command["op"]
+    return bytes([CODES[op]]) + b"".join(write(command.get(name, left_out.get(name))) for name, write in FIELDS[op])
+
+
 def payload(at, command, by=SYSTEM):
     """The payload of a command at a moment's text."""
-    op = command["op"]
-    left_out = {"display": "", "from": None, "until": None}
-    fields = b"".join(write(command.get(name, left_out.get(name))) for name, write in FIELDS[op])
-    return struct.pack("<Q", micros(at)) + text(by) + bytes([CODES[op]]) + fields
+    behind = NO_DATES if command["op"] == "grant.add" else b""
+    return struct.pack("<Q", micros(at)) + text(by) + NO_KEY + command_bytes(command) + behind
+
+
+def old_payload(at, command, by=SYSTEM):
+    """The same in format 1."""
+    return struct.pack("<Q", micros(at)) + text(by) + command_bytes(command)
+
+
+def framed(payload):
+    """A payload behind an open gate and its length."""
+    return b"\1" + struct.pack("<I", len(payload)) + payload
 
 
 def write_journal(path, commands):
     """Writes a journal of commands, each with its moment under `at`."""
-    payloads = [payload(command["at"], command) for command in commands]
     with open(path, "wb") as file:
-        file.write(b"GRPREG1\n" + b"".join(b"\1" + struct.pack("<I", len(p)) + p for p in payloads) + b"\0")
+        file.write(HEADER + b"".join(framed(payload(command["at"], command)) for command in commands) + b"\0")

@@ -37,7 +37,7 @@ import sys
 program, folder, document = sys.argv[1:]
 EXAMPLE = "Who loses a group by a rule may lose another by the next"
 JOURNAL, IMAGE = folder + "/journal", folder + "/image"
-HEADER = b"GRPREG1\n"
+HEADER = b"GRPREG2\n"
 # what a call may do to the journal without changing it
 READS = ("read", "pread64", "flock", "fstat", "newfstatat", "statx", "lseek", "fcntl", "close")
 

@@ -30,7 +30,7 @@ from dataclasses import dataclass, field
 from typing import Any, Iterator
 
 from applying import Measured, encoded, peak_of
-from serving import PROGRAM, SYSTEM, Server, ask, init, message, needs_program, payload, text
+from serving import NO_KEY, PROGRAM, SYSTEM, Server, ask, init, message, needs_program, payload, text
 
 EACH, NIGHTLY, TERM, INTAKE = 8, 0.001, 0.6, 0.2
 # the first night; with it the fourth is that of the first of March
@@ -144,7 +144,7 @@ class Journal:
     def __init__(self, place: str) -> None:
         self.path, self.commands, self.changes, self.persons, self.loads = place, 0, 0, 0, 0
         self.file = open(place, "wb")
-        self.file.write(b"GRPREG1\n")
+        self.file.write(b"GRPREG2\n")
 
     def add(self, at: int, rest: bytes) -> None:
         """A command by what is behind its moment."""
@@ -160,7 +160,7 @@ class Journal:
             self.persons += 1
 
     def load(self, at: int, folder: int, gone: bytes, come: bytes, changes: int) -> None:
-        self.add(at, text(SYSTEM) + bytes([LOAD]) + text("unit%02d" % folder) + struct.pack("<I", 0) + gone + come)
+        self.add(at, text(SYSTEM) + NO_KEY + bytes([LOAD]) + text("unit%02d" % folder) + struct.pack("<I", 0) + gone + come)
         self.loads, self.changes = self.loads + 1, self.changes + changes
 
     def close_gate(self) -> int:

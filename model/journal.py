@@ -1,4 +1,5 @@
-"""The journal: the bytes of its file, from the accepted commands."""
+"""The journal: the bytes of its file, from the accepted commands, in the format of today and in the
+first one, and what migrating makes of a file of the first."""
 
 from typing import Dict, List
 
@@ -7,8 +8,10 @@ import fields
 import requests
 from registry import Accepted
 
-HEADER = b"GRPREG1\n"
+HEADER, OLD_HEADER = b"GRPREG2\n", b"GRPREG1\n"
 CLOSED, OPEN = b"\0", b"\1"
+# Behind the caller, and behind the fields of `grant.add`: there is nothing there yet.
+NO_KEY, NO_DATES = b"\0", b"\0\0"
 
 # A command's code is its place here, from 1 on.
 CODES = """
@@ -63,20 +66,45 @@ def load_bytes(did: Dict[str, list]) -> bytes:
     return found
 
 
-def payload(command: Accepted) -> bytes:
-    """What is kept of a command: the moment, the caller, the code, and the fields in order."""
+def command_bytes(command: Accepted) -> bytes:
+    """A command's code, and its fields in order."""
     request = requests.read(command.line)
     op = request.operation
-    found = number(command.moment, 8) + text(request.by) + number(1 + CODES.index(op.name), 1)
+    code = number(1 + CODES.index(op.name), 1)
     if op.name == "load":
-        return found + text(request.values[0]) + load_bytes(command.did)
-    return found + b"".join(map(field_bytes, op.fields, request.values))
+        return code + text(request.values[0]) + load_bytes(command.did)
+    return code + b"".join(map(field_bytes, op.fields, request.values))
+
+
+def stamp(command: Accepted) -> bytes:
+    """The moment and the caller."""
+    return number(command.moment, 8) + text(requests.read(command.line).by)
+
+
+def payload(command: Accepted) -> bytes:
+    """What is kept of a command."""
+    return completed(stamp(command), command_bytes(command))
+
+
+def completed(stamped: bytes, kept: bytes) -> bytes:
+    """A payload of a stamp and of a command's bytes as the first format has them."""
+    is_grant = kept[0] == 1 + CODES.index("grant.add")
+    return stamped + NO_KEY + kept + (NO_DATES if is_grant else b"")
+
+
+def old_payload(command: Accepted) -> bytes:
+    """What the first format keeps of a command."""
+    return stamp(command) + command_bytes(command)
+
+
+def framed(kept: bytes) -> bytes:
+    """A payload behind an open gate and its length."""
+    return OPEN + number(len(kept), 4) + kept
 
 
 def frame(command: Accepted) -> bytes:
-    """A payload behind an open gate and its length."""
-    kept = payload(command)
-    return OPEN + number(len(kept), 4) + kept
+    """A command's frame."""
+    return framed(payload(command))
 
 
 def places(accepted: List[Accepted]) -> List[int]:
@@ -91,3 +119,27 @@ def places(accepted: List[Accepted]) -> List[int]:
 def content(accepted: List[Accepted]) -> bytes:
     """The whole file."""
     return HEADER + b"".join(map(frame, accepted)) + CLOSED
+
+
+def old_content(accepted: List[Accepted]) -> bytes:
+    """The whole file in the first format."""
+    return OLD_HEADER + b"".join(framed(old_payload(each)) for each in accepted) + CLOSED
+
+
+def payloads(content: bytes) -> List[bytes]:
+    """The payloads of a whole file, up to the first gate that isn't open."""
+    found, place = [], len(HEADER)
+    while content[place:place + 1] == OPEN:
+        length = int.from_bytes(content[place + 1:place + 5], "little")
+        found.append(content[place + 5:place + 5 + length])
+        place += 5 + length
+    return found
+
+
+def migrated(old: bytes) -> bytes:
+    """What migrating makes of a whole file of the first format."""
+    found = HEADER
+    for kept in payloads(old):
+        behind = 10 + int.from_bytes(kept[8:10], "little")  # the caller's text
+        found += framed(completed(kept[:behind], kept[behind:]))
+    return found + CLOSED

@@ -15,7 +15,7 @@ import struct
 import sys
 import time
 
-HEADER = b"GRPREG1\n"
+HEADER = b"GRPREG2\n"
 OPEN = b"\1"
 # how much of COPY's end is compared with JOURNAL's, each time
 TAIL = 1 << 16

@@ -28,12 +28,13 @@ SHOWN = 20
 
 
 class Command:
-    """A command: its place, its moment in microseconds, its caller, its op, and the bytes of its fields."""
+    """A command: its place, its moment in microseconds, its caller, its op, and the bytes of its fields. Behind the caller
+    stands a byte 0."""
 
     def __init__(self, place: int, payload: bytes) -> None:
         self.place, (self.moment, length) = place, struct.unpack_from("<QH", payload)
         self.caller = payload[10:10 + length].decode()
-        self.op, self.fields = OPS[payload[10 + length] - 1], payload[11 + length:]
+        self.op, self.fields = OPS[payload[11 + length] - 1], payload[12 + length:]
 
     def created(self) -> int:
         """How many groups a load made."""
@@ -44,7 +45,7 @@ class Command:
 def commands(file: BinaryIO, damages: list[int]) -> Iterator[Command]:
     """The commands of a journal up to its closed gate, or to the place where it is cut off, which is noted."""
     place = 8
-    if file.read(8) != b"GRPREG1\n":
+    if file.read(8) != b"GRPREG2\n":
         damages.append(0)
         return
     gate = file.read(1)

@@ -6,7 +6,8 @@ After each aimed history, and each of HISTORIES random ones (60 by itself, from 
 journal's bytes are compared, then the list of its commands and parts of it, and the replies of
 `as-of` at some moments to questions of all kinds by anybody. Of each moment some questions are also
 asked in two ways, as of it and now with its `at`: the answers have to say the same of what stood
-then and stands now. The status is 1 where there is a difference.
+then and stands now. At last the history's journal of the first format is migrated. The status is 1
+where there is a difference.
 """
 
 import json
@@ -179,6 +180,24 @@ class Trial:
             self.as_of()
         kept_now = (self.program.folder / "journal").read_bytes()
         self.hold("journals", "the journal afterwards", kept, kept_now)
+        self.migrated()
+
+    def migrated(self) -> None:
+        """The journal of the first format, which `check` refuses and `migrate` carries over."""
+        file, second = (self.program.folder / name for name in ("journal", "journal.v2"))
+        accepted = self.registry.accepted
+        old, wanted = journal.old_content(accepted), journal.content(accepted)
+        file.write_bytes(old)
+        if second.exists():
+            second.unlink()
+        refused = told(self.program, ["check"], self.reading)
+        self.hold("migrations", "check of the old format", ("", 12), refused)
+        found = told(self.program, ["migrate"], self.reading)
+        self.hold("migrations", "migrate", ("", 0), found)
+        made = second.read_bytes() if second.exists() else b""
+        self.hold("migrations", "the second file", wanted, made)
+        self.hold("migrations", "the first file", old, file.read_bytes())
+        self.hold("migrations", "what the model migrates", wanted, journal.migrated(old))
 
     def ranges(self) -> Iterator[List[str]]:
         """Words behind `commands`."""

@@ -1,19 +1,20 @@
-// One example: its disk, and its runs one after another.
+// One example: its disks, and its runs one after another.
 use crate::bytes::add_hex;
-use crate::objects::play;
+use crate::migrations::play_migration;
+use crate::objects::{Disks, play};
 use crate::run::Run;
 use crate::stops::play_stops;
 use std::alloc::{AllocError, Global};
 
-/// An example as far as it was read. Its runs share a disk, which begins empty.
+/// An example as far as it was read. Its runs share the disks, which begin empty.
 #[derive(Drop)]
 pub struct Example {
     title: String,
     /// What came out otherwise than it is written.
     faults: String,
-    disk: Vec<u8>,
-    /// The disk as the last run found it.
-    before: Vec<u8>,
+    disks: Disks,
+    /// The disks as the last run found them.
+    before: Disks,
     run: Option<Run>,
     last: Option<Run>,
 }
@@ -52,13 +53,19 @@ fn add_run(
     faults.push_str(line.as_str())
 }
 
+/// At most so many bytes of a disk, from its front on.
+fn front_of(disk: &[u8], length: usize) -> &[u8] {
+    let (front, _) = disk.split_at(length.min(disk.len()));
+    front
+}
+
 impl Example {
     pub fn new(alloc: Global, title: &str) -> Result<Example, AllocError> {
         Ok(Example {
             title: String::from_str(alloc, title)?,
             faults: String::new(alloc),
-            disk: Vec::new(alloc),
-            before: Vec::new(alloc),
+            disks: Disks::new(alloc),
+            before: Disks::new(alloc),
             run: None,
             last: None,
         })
@@ -88,28 +95,28 @@ impl Example {
         &mut self,
         alloc: Global,
         run: &Run,
-        disk: &[u8],
+        disks: &Disks,
         piece: usize,
     ) -> Result<(), AllocError> {
         if !self.faults.is_empty() {
             return Ok(());
         }
-        let outcome = play(alloc, run, disk, piece)?;
+        let outcome = play(alloc, run, disks, piece)?;
         if outcome.lines.as_str() != run.wanted.as_str() {
-            add_run(alloc, &mut self.faults, run, piece, disk.len())?;
+            add_run(alloc, &mut self.faults, run, piece, disks.first.len())?;
             add_difference(
                 &mut self.faults,
                 run.wanted.as_str(),
                 outcome.lines.as_str(),
             )?;
         }
-        self.disk = outcome.disk;
+        self.disks = outcome.disks;
         Ok(())
     }
 
-    fn play_pieces(&mut self, alloc: Global, run: &Run, disk: &[u8]) -> Result<(), AllocError> {
+    fn play_pieces(&mut self, alloc: Global, run: &Run, disks: &Disks) -> Result<(), AllocError> {
         for piece in run.first_piece..=run.last_piece {
-            self.play_once(alloc, run, disk, piece)?;
+            self.play_once(alloc, run, disks, piece)?;
         }
         Ok(())
     }
@@ -118,36 +125,63 @@ impl Example {
         &mut self,
         alloc: Global,
         run: &Run,
-        disk: &[u8],
+        disks: &Disks,
         cuts: (usize, usize),
     ) -> Result<(), AllocError> {
         let (first, last) = cuts;
         for length in first..=last {
-            let (front, _) = disk.split_at(length.min(disk.len()));
-            self.play_pieces(alloc, run, front)?;
+            let cut = Disks::of(alloc, front_of(&disks.first, length), &disks.second)?;
+            self.play_pieces(alloc, run, &cut)?;
         }
         Ok(())
     }
 
-    /// Stops a run at each call of the disk that it found, and notes what a stop leaves otherwise.
+    fn play_second_cuts(
+        &mut self,
+        alloc: Global,
+        run: &Run,
+        disks: &Disks,
+        cuts: (usize, usize),
+    ) -> Result<(), AllocError> {
+        let (first, last) = cuts;
+        for length in first..=last {
+            let cut = Disks::of(alloc, &disks.first, front_of(&disks.second, length))?;
+            self.play_pieces(alloc, run, &cut)?;
+        }
+        Ok(())
+    }
+
+    /// Does a run over each length of a disk that it names, or over the disks as they are.
+    fn play_all(&mut self, alloc: Global, run: &Run, disks: &Disks) -> Result<(), AllocError> {
+        if let Some(cuts) = run.second_cuts {
+            return self.play_second_cuts(alloc, run, disks, cuts);
+        }
+        match run.cuts {
+            Some(cuts) => self.play_cuts(alloc, run, disks, cuts),
+            None => self.play_pieces(alloc, run, disks),
+        }
+    }
+
+    /// Stops a run at each call of a disk that it found, and notes what a stop leaves otherwise.
     /// After a run that came out otherwise it does nothing.
-    fn stop(&mut self, alloc: Global, run: &Run, disk: &[u8]) -> Result<(), AllocError> {
+    fn stop(&mut self, alloc: Global, run: &Run, disks: &Disks) -> Result<(), AllocError> {
         if !run.has_stops || !self.faults.is_empty() {
             return Ok(());
         }
-        play_stops(alloc, run, disk, &mut self.faults)
+        let words = run.words.join(alloc, " ")?;
+        if words.as_str() == "migrate" {
+            return play_migration(alloc, run, disks, &mut self.faults);
+        }
+        play_stops(alloc, run, &disks.first, &mut self.faults)
     }
 
     /// Does the run that was read last, if there is one.
     fn finish(&mut self, alloc: Global) -> Result<(), AllocError> {
         if let Some(run) = self.run.take() {
-            let disk = self.disk.to_vec(alloc)?;
-            match run.cuts {
-                Some(cuts) => self.play_cuts(alloc, &run, &disk, cuts)?,
-                None => self.play_pieces(alloc, &run, &disk)?,
-            }
-            self.stop(alloc, &run, &disk)?;
-            self.before = disk;
+            let disks = self.disks.again(alloc)?;
+            self.play_all(alloc, &run, &disks)?;
+            self.stop(alloc, &run, &disks)?;
+            self.before = disks;
             self.last = Some(run);
         }
         Ok(())
@@ -159,7 +193,7 @@ impl Example {
         Ok(true)
     }
 
-    /// Begins the last run anew, over the disk that it found. False where there was none.
+    /// Begins the last run anew, over the disks that it found. False where there was none.
     fn begin_again(&mut self, alloc: Global) -> Result<bool, AllocError> {
         self.finish(alloc)?;
         let run = match &self.last {
@@ -167,17 +201,33 @@ impl Example {
             None => return Ok(false),
         };
         self.run = Some(run);
-        self.disk = self.before.to_vec(alloc)?;
+        self.disks = self.before.again(alloc)?;
         Ok(true)
     }
 
     fn set_disk(&mut self, alloc: Global, text: &str) -> Result<bool, AllocError> {
         self.finish(alloc)?;
-        self.disk = Vec::new(alloc);
-        add_hex(alloc, &mut self.disk, text)
+        self.disks.first = Vec::new(alloc);
+        add_hex(alloc, &mut self.disks.first, text)
+    }
+
+    fn set_second(&mut self, alloc: Global, text: &str) -> Result<bool, AllocError> {
+        self.disks.second = Vec::new(alloc);
+        add_hex(alloc, &mut self.disks.second, text)
+    }
+
+    /// Takes a line that stands before a run.
+    fn take_before_run(&mut self, alloc: Global, line: &str) -> Result<bool, AllocError> {
+        match line.strip_prefix("second ") {
+            Some(text) => self.set_second(alloc, text),
+            None => Ok(false),
+        }
     }
 
     fn take_of_run(&mut self, alloc: Global, line: &str) -> Result<bool, AllocError> {
+        if self.run.is_none() {
+            return self.take_before_run(alloc, line);
+        }
         match &mut self.run {
             Some(run) => run.take(alloc, line),
             None => Ok(false),

@@ -7,6 +7,7 @@ mod bytes;
 mod connection;
 mod document;
 mod example;
+mod migrations;
 mod objects;
 mod responses;
 mod run;

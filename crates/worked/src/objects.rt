@@ -6,11 +6,49 @@ use reg_outside::{ListClock, MemoryConn, MemoryDisk, MemoryListener, MemorySink,
 use reg_run::run;
 use std::alloc::{AllocError, Global};
 
-/// What a run came to: its lines, and the bytes of its disk.
+/// The bytes of the disk, and of the second one.
+#[derive(Drop)]
+pub struct Disks {
+    pub first: Vec<u8>,
+    pub second: Vec<u8>,
+}
+
+impl Disks {
+    /// Both are empty.
+    pub fn new(alloc: Global) -> Disks {
+        Disks {
+            first: Vec::new(alloc),
+            second: Vec::new(alloc),
+        }
+    }
+
+    /// Disks of these bytes.
+    pub fn of(alloc: Global, first: &[u8], second: &[u8]) -> Result<Disks, AllocError> {
+        Ok(Disks {
+            first: first.to_vec(alloc)?,
+            second: second.to_vec(alloc)?,
+        })
+    }
+
+    /// A disk of these bytes, and an empty second one.
+    pub fn of_first(alloc: Global, first: &[u8]) -> Result<Disks, AllocError> {
+        Ok(Disks {
+            first: first.to_vec(alloc)?,
+            second: Vec::new(alloc),
+        })
+    }
+
+    /// Disks of the same bytes.
+    pub fn again(&self, alloc: Global) -> Result<Disks, AllocError> {
+        Disks::of(alloc, &self.first, &self.second)
+    }
+}
+
+/// What a run came to: its lines, and the bytes of its disks.
 #[derive(Drop)]
 pub struct Outcome {
     pub lines: String,
-    pub disk: Vec<u8>,
+    pub disks: Disks,
 }
 
 /// The objects that a run is handed.
@@ -20,6 +58,7 @@ pub struct Objects {
     pub out: MemorySink,
     notes: MemorySink,
     pub disk: MemoryDisk,
+    pub second: MemoryDisk,
     clock: ListClock,
     net: MemoryListener,
 }
@@ -65,15 +104,16 @@ fn listener_of(alloc: Global, given: &Run, piece: usize) -> Result<MemoryListene
 }
 
 impl Objects {
-    /// The objects of a run over a disk with these bytes, with so many bytes of input in a read at
+    /// The objects of a run over disks with these bytes, with so many bytes of input in a read at
     /// most. Nothing is done yet.
     pub fn new(
         alloc: Global,
         given: &Run,
-        disk: &[u8],
+        disks: &Disks,
         piece: usize,
     ) -> Result<Objects, AllocError> {
-        let disk = disk_of(alloc, disk, &given.fail_disk)?;
+        let disk = disk_of(alloc, &disks.first, &given.fail_disk)?;
+        let second = disk_of(alloc, &disks.second, &given.fail_second)?;
         let clock = clock_of(alloc, given)?;
         let input = source_of(alloc, given, piece)?;
         let notes = sink_of(alloc, &given.fail_note)?;
@@ -84,6 +124,7 @@ impl Objects {
             out,
             notes,
             disk,
+            second,
             clock,
             net,
         })
@@ -98,6 +139,7 @@ impl Objects {
             &mut self.out,
             &mut self.notes,
             &mut self.disk,
+            &mut self.second,
             &mut self.clock,
             &mut self.net,
         )
@@ -134,7 +176,8 @@ fn add_status(alloc: Global, found: &mut String, status: u8) -> Result<(), Alloc
 /// The objects after `check` over a journal of these bytes.
 fn checked(alloc: Global, disk: &[u8]) -> Result<Objects, AllocError> {
     let given = Run::new(alloc, "check")?;
-    let mut objects = Objects::new(alloc, &given, disk, 1)?;
+    let disks = Disks::of_first(alloc, disk)?;
+    let mut objects = Objects::new(alloc, &given, &disks, 1)?;
     let _status = objects.run(alloc, &given.words);
     Ok(objects)
 }
@@ -146,13 +189,13 @@ pub fn add_kept(alloc: Global, found: &mut String, disk: &[u8]) -> Result<(), Al
     add_lines(found, "kept ", objects.notes.written())
 }
 
-fn add_journal(alloc: Global, found: &mut String, bytes: &[u8]) -> Result<(), AllocError> {
+/// Adds the bytes of a disk in hex, under a key.
+fn add_bytes(alloc: Global, found: &mut String, key: &str, bytes: &[u8]) -> Result<(), AllocError> {
     let text = hex::encode(alloc, bytes)?;
-    found.push_str(if text.is_empty() {
-        "journal"
-    } else {
-        "journal "
-    })?;
+    found.push_str(key)?;
+    if !text.is_empty() {
+        found.push_str(" ")?;
+    }
     found.push_str(text.as_str())?;
     found.push_str("\n")
 }
@@ -174,16 +217,24 @@ fn lines_of(
         add_kept(alloc, &mut found, objects.disk.bytes())?;
     }
     if given.shows_journal {
-        add_journal(alloc, &mut found, objects.disk.bytes())?;
+        add_bytes(alloc, &mut found, "journal", objects.disk.bytes())?;
+    }
+    if given.shows_second {
+        add_bytes(alloc, &mut found, "second", objects.second.bytes())?;
     }
     Ok(found)
 }
 
-/// Does a run over a disk with these bytes, with so many bytes of input in a read at most.
-pub fn play(alloc: Global, given: &Run, disk: &[u8], piece: usize) -> Result<Outcome, AllocError> {
-    let mut objects = Objects::new(alloc, given, disk, piece)?;
+/// Does a run over disks with these bytes, with so many bytes of input in a read at most.
+pub fn play(
+    alloc: Global,
+    given: &Run,
+    disks: &Disks,
+    piece: usize,
+) -> Result<Outcome, AllocError> {
+    let mut objects = Objects::new(alloc, given, disks, piece)?;
     let status = objects.run(alloc, &given.words);
     let lines = lines_of(alloc, given, &objects, status)?;
-    let disk = objects.disk.bytes().to_vec(alloc)?;
-    Ok(Outcome { lines, disk })
+    let disks = Disks::of(alloc, objects.disk.bytes(), objects.second.bytes())?;
+    Ok(Outcome { lines, disks })
 }

@@ -28,16 +28,20 @@ pub struct Run {
     pub last_piece: usize,
     /// It is done over the disk cut to each length from the first to the last.
     pub cuts: Option<(usize, usize)>,
+    /// Or over the second disk cut so.
+    pub second_cuts: Option<(usize, usize)>,
     pub fail_read: Vec<u64>,
     pub fail_write: Vec<u64>,
     pub fail_note: Vec<u64>,
     pub fail_disk: Vec<u64>,
+    pub fail_second: Vec<u64>,
     pub fail_net: Vec<u64>,
     /// The connections that come, in order. What is given behind the first is theirs.
     pub connections: Vec<Connection>,
     pub wanted: String,
     pub shows_kept: bool,
     pub shows_journal: bool,
+    pub shows_second: bool,
     /// Behind it, it is stopped at each call of the disk.
     pub has_stops: bool,
 }
@@ -84,15 +88,18 @@ impl Run {
             first_piece: PIECE,
             last_piece: PIECE,
             cuts: None,
+            second_cuts: None,
             fail_read: Vec::new(alloc),
             fail_write: Vec::new(alloc),
             fail_note: Vec::new(alloc),
             fail_disk: Vec::new(alloc),
+            fail_second: Vec::new(alloc),
             fail_net: Vec::new(alloc),
             connections: Vec::new(alloc),
             wanted: String::new(alloc),
             shows_kept: false,
             shows_journal: false,
+            shows_second: false,
             has_stops: false,
         })
     }
@@ -160,8 +167,16 @@ impl Run {
     }
 
     fn set_cuts(&mut self, text: &str) -> bool {
-        self.cuts = range_of(text);
-        self.cuts.is_some()
+        match text.strip_prefix("second ") {
+            Some(rest) => {
+                self.second_cuts = range_of(rest);
+                self.second_cuts.is_some()
+            }
+            None => {
+                self.cuts = range_of(text);
+                self.cuts.is_some()
+            }
+        }
     }
 
     fn set_stops(&mut self) -> bool {
@@ -175,6 +190,7 @@ impl Run {
             Some(("write", number)) => add_number(&mut self.fail_write, number),
             Some(("note", number)) => add_number(&mut self.fail_note, number),
             Some(("disk", number)) => add_number(&mut self.fail_disk, number),
+            Some(("second", number)) => add_number(&mut self.fail_second, number),
             Some(("net", number)) => add_number(&mut self.fail_net, number),
             _ => Ok(false),
         }
@@ -193,13 +209,12 @@ impl Run {
         self.want(",\"ok\":true}")
     }
 
-    /// Wants these bytes of the disk, in hex.
-    fn want_journal(&mut self, text: &str) -> Result<bool, AllocError> {
-        self.wanted.push_str(if text.is_empty() {
-            "journal"
-        } else {
-            "journal "
-        })?;
+    /// Wants these bytes of a disk, in hex, under a key.
+    fn want_bytes(&mut self, key: &str, text: &str) -> Result<bool, AllocError> {
+        self.wanted.push_str(key)?;
+        if !text.is_empty() {
+            self.wanted.push_str(" ")?;
+        }
         for piece in text.split(' ') {
             self.wanted.push_str(piece)?;
         }
@@ -253,7 +268,11 @@ impl Run {
             }
             "journal" => {
                 self.shows_journal = true;
-                self.want_journal(rest)
+                self.want_bytes("journal", rest)
+            }
+            "second" => {
+                self.shows_second = true;
+                self.want_bytes("second", rest)
             }
             _ => {
                 let is_taken = self.take_connected(alloc, key, rest)?;

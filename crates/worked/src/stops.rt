@@ -1,17 +1,17 @@
 // A run that is stopped: each call of the disk fails from one on, and a crash follows that leaves
 // only so many of the bytes that were written since the last sync.
-use crate::objects::{Objects, add_kept};
+use crate::objects::{Disks, Objects, add_kept};
 use crate::run::Run;
 use std::alloc::{AllocError, Global};
 
 /// No run makes so many calls of its disk.
-const PAST_ALL_CALLS: u64 = 200;
+pub const PAST_ALL_CALLS: u64 = 200;
 
 /// No run writes more bytes between two syncs.
-const MOST_BYTES: u64 = 200;
+pub const MOST_BYTES: u64 = 200;
 
 /// The exit status of a run of which a call of the disk failed.
-const DISK: u8 = 4;
+pub const DISK: u8 = 4;
 
 /// How many commands there are, by what `check` says. None where the journal doesn't open.
 fn count_commands(kept: &str) -> Option<u64> {
@@ -19,7 +19,8 @@ fn count_commands(kept: &str) -> Option<u64> {
     count.parse::<u64>().ok()
 }
 
-fn kept_of(alloc: Global, disk: &[u8]) -> Result<String, AllocError> {
+/// What `check` says of a journal of these bytes.
+pub fn kept_of(alloc: Global, disk: &[u8]) -> Result<String, AllocError> {
     let mut kept = String::new(alloc);
     add_kept(alloc, &mut kept, disk)?;
     Ok(kept)
@@ -52,7 +53,8 @@ fn stop_at(alloc: Global, run: &Run, disk: &[u8], stop: u64) -> Result<Stopped, 
     for call in stop..PAST_ALL_CALLS {
         given.fail_disk.push(call)?;
     }
-    let mut objects = Objects::new(alloc, &given, disk, given.first_piece)?;
+    let disks = Disks::of_first(alloc, disk)?;
+    let mut objects = Objects::new(alloc, &given, &disks, given.first_piece)?;
     let status = objects.run(alloc, &given.words);
     let acknowledged = count_acknowledged(objects.out.written());
     Ok(Stopped {
