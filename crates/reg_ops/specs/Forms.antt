@@ -1,6 +1,7 @@
 -- The form that each field has, and whether the fields of a command, a query or a load have theirs.
-use Rattle.std.specs.Prelude.{ℕ, ◌==◌, ◌&&◌, ◌||◌, ◌^◌, ℤ, pos, negsuc, List, Bool, true, Option}
-use Rattle.std.specs.Prelude.{None, Some, length, codes, nat_le, nat_lt, is_some, if◌then◌else◌}
+use Rattle.std.specs.Prelude.{ℕ, ◌==◌, ◌&&◌, ◌||◌, ◌^◌, ℤ, pos, negsuc, List, Bool, true, false}
+use Rattle.std.specs.Prelude.{Option, None, Some, length, codes, nat_le, nat_lt, is_some}
+use Rattle.std.specs.Prelude.{if◌then◌else◌}
 use Rattle.std.specs.List.{list_all, list_any}
 use Rattle.std.specs.Str.{bytes_eq, is_utf8}
 use Rattle.reg_base.specs.Names.{is_extension, is_name, is_person, is_source}
@@ -12,6 +13,7 @@ use Rattle.reg_terms.specs.declared.kinds.Value.{Value}
 use Rattle.reg_terms.specs.declared.kinds.Value.TheVariants as value
 use Rattle.reg_terms.specs.declared.lists.LoadRow.{LoadRow}
 use Rattle.reg_terms.specs.declared.command.Command.{Command}
+use Rattle.reg_terms.specs.declared.command.Command.TheVariants.{Load}
 use Rattle.reg_terms.specs.declared.query.Query.{Query}
 use Rattle.reg_terms.specs.declared.request.Op.{Op}
 use Rattle.reg_terms.specs.declared.request.Op.TheVariants as asked
@@ -115,3 +117,19 @@ abbrev pub op_has_form : Op → Bool
 op_has_form (asked.Command c) = has_form c
 op_has_form (asked.Query q) = query_has_form q
 op_has_form (asked.Load job table) = is_extension job
+
+-- whether a command may be given under a key: any may but a load
+abbrev pub takes_key : Command → Bool
+takes_key (Load job created removed added) = false
+takes_key _ = true
+
+-- whether what is asked may have a key: a command that may be given under one
+abbrev pub op_takes_key : Op → Bool
+op_takes_key (asked.Command c) = takes_key c
+op_takes_key (asked.Query q) = false
+op_takes_key (asked.Load job table) = false
+
+-- no key, or one that has the form of an extension, of what may have one
+abbrev pub key_fits : Bool → Option (List ℕ) → Bool
+key_fits takes None = true
+key_fits takes (Some key) = takes && is_extension key

@@ -6,7 +6,7 @@ ghost use Rattle.reg_base.specs.Entities.{entity_of, group_entity, person_entity
 ghost use Rattle.reg_ops.specs.Forms.{is_folder_text, is_display, is_entity, is_object_text};
 ghost use Rattle.reg_ops.specs.Forms.{is_optional_moment, is_i64, is_value, suits_some};
 ghost use Rattle.reg_ops.specs.Forms.{is_load_row, are_few, are_names, are_load_rows, is_field};
-ghost use Rattle.reg_ops.specs.Forms.{has_form};
+ghost use Rattle.reg_ops.specs.Forms.{has_form, takes_key, key_fits};
 ghost use Rattle.reg_ops.specs.Parts.{seen, seen_all};
 
 use crate::parts::{FieldRef, fields_of};
@@ -190,4 +190,21 @@ pub fn has_form(command: &Command) -> bool
 {
     let fields = fields_of(command);
     are_fields(&fields)
+}
+
+/// Whether a command may be given under a key: any may but a load.
+pub fn takes_key(command: &Command) -> bool
+    ensures { result ≡ takes_key command.now }
+{
+    !matches!(command, Command::Load { .. })
+}
+
+/// Whether there is no key, or one that has the form of an extension, of what may have one.
+pub fn key_fits(takes: bool, key: &Option<Text>) -> bool
+    ensures { result ≡ key_fits takes key.now }
+{
+    match key {
+        Some(key) => takes && is_extension(key.bytes()),
+        None => true,
+    }
 }

@@ -10,7 +10,7 @@ mod parts;
 mod table;
 
 pub use field::{Field, FieldKind};
-pub use forms::{has_form, is_folder_text, is_object_text};
+pub use forms::{has_form, is_folder_text, is_object_text, key_fits, takes_key};
 pub use laws::{law_commands, law_load_word, law_ops};
 pub use making::{made, made_command};
 pub use parts::{FieldRef, fields_of, kind_of};

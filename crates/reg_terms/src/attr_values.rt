@@ -45,6 +45,30 @@ fn is_among(values: &[AttrValue], value: &AttrValue) -> bool
     values.iter().any(|item| item.is(value))
 }
 
+/// Adds copies of these values at the end.
+fn push_copies(
+    alloc: Global,
+    values: &mut AttrValues,
+    items: &[AttrValue],
+) -> Result<(), AllocError>
+    ensures { OnOk result (values.new ≡ values.old ++ items.now) }
+{
+    for item in items {
+        values.push(item.copy(alloc)?)?;
+    }
+    Ok(())
+}
+
+/// Adds copies of these lent values at the end.
+fn push_lent(alloc: Global, values: &mut AttrValues, items: &[&AttrValue]) -> Result<(), AllocError>
+    ensures { OnOk result (values.new ≡ values.old ++ map deref items.now) }
+{
+    for item in items {
+        values.push(item.copy(alloc)?)?;
+    }
+    Ok(())
+}
+
 /// Takes the first of some values that is this one away.
 fn remove_first_of(values: &mut Vec<AttrValue>, value: &AttrValue)
     ensures { values.new.items ≡ without_first value.now values.old.items }
@@ -75,6 +99,16 @@ impl AttrValues {
             return Ok(());
         }
         self.many.push(item)
+    }
+
+    /// The values in order, in two parts. Where there are few, the second is empty and takes no
+    /// memory.
+    pub fn parts(&self) -> Result<(&[AttrValue], Vec<&AttrValue>), AllocError>
+        ensures { IfOk result (λ parts. parts.0.now ++ map deref parts.1.items ≡ self.now) }
+    {
+        let mut list = Vec::new(*self.few.allocator());
+        self.many.add_to(&mut list)?;
+        Ok((&self.few, list))
     }
 
     /// The values, in order.
@@ -118,10 +152,10 @@ impl AttrValues {
     pub fn copy(&self, alloc: Global) -> Result<AttrValues, AllocError>
         ensures { IfOk result (λ values. values ≡ self.now) }
     {
+        let (few, many) = self.parts()?;
         let mut copied = AttrValues::new(alloc);
-        for value in self.list()? {
-            copied.push(value.copy(alloc)?)?;
-        }
+        push_copies(alloc, &mut copied, few)?;
+        push_lent(alloc, &mut copied, &many)?;
         Ok(copied)
     }
 }

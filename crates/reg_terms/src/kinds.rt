@@ -128,6 +128,8 @@ pub enum SetOp {
     Intersection,
     /// Who is in the left and not in the right.
     Complement,
+    /// Who is in one of them at least.
+    Union,
 }
 
 /// How far an inherit reaches: objects directly in its folder, or at any depth below it.

@@ -16,5 +16,8 @@ pub enum Op {
 pub struct Request {
     /// The caller's text: a person's or the registry's own; any other is nobody's.
     pub by: Bytes,
+    /// What tells the request apart from all others of its caller: sent again with the same key, a
+    /// command acts once.
+    pub key: Option<Text>,
     pub op: Op,
 }
