@@ -5,7 +5,7 @@ use Rattle.reg_terms.specs.declared.kinds.Member.{Member}
 use Rattle.reg_terms.specs.declared.kinds.Member.TheVariants.{Person, Group}
 use Rattle.reg_terms.specs.declared.rows.CompositeRow.{CompositeRow}
 use Rattle.reg_terms.specs.declared.kinds.SetOp.{SetOp}
-use Rattle.reg_terms.specs.declared.kinds.SetOp.TheVariants.{Intersection, Complement}
+use Rattle.reg_terms.specs.declared.kinds.SetOp.TheVariants.{Intersection, Complement, Union}
 use Rattle.reg_effect.specs.declared.live.Live.{Live}
 use Rattle.reg_effect.specs.declared.live.Change.{Change}
 use Rattle.reg_effect.specs.declared.live.Change.TheVariants.{RowOn, RowOff, FactorsOn, FactorsOff}
@@ -22,7 +22,7 @@ use Rattle.std.specs.declared.cmp.Ordering.TheVariants.{Less, Equal, Greater}
 use Rattle.reg_graph.proofs.Reaching.{eq_turned}
 use Rattle.reg_effect.specs.Changes.{changed, group_of, Fits}
 use Rattle.reg_effect.specs.Order.{row_cmp, composite_cmp, is_live_row, has_live_rows}
-use Rattle.reg_effect.specs.Asked.{asks, asks_row, IsWell, Once}
+use Rattle.reg_effect.specs.Asked.{asks, asks_of, asks_row, IsWell, Once}
 use Rattle.reg_effect.proofs.Deep.{member_level}
 use Rattle.reg_effect.proofs.Edits.{any_removed, any_added, any_new, row_is, row_same, composite_absent, composite_added}
 use Rattle.reg_effect.proofs.Apart.{at_group}
@@ -37,7 +37,7 @@ asks_same (RowOn g (Person p)) was M k q = refl
 asks_same (RowOn g (Group h)) was M k q = k h q
 asks_same (RowOff g (Person p)) was M k q = refl
 asks_same (RowOff g (Group h)) was M k q = k h q
-asks_same (FactorsOn g op left right) was M k q = k left q
+asks_same (FactorsOn g op left right) was M k q = rw (k left q, k right q) refl
 asks_same (FactorsOff g) was M k q = k g q
 
 pub no_rows : (M : ℕ → Bool) (rows : List (ℕ × Member)) (g q : ℕ) → has_live_rows g rows ≡ false → in_rows M rows g q ≡ false
@@ -54,9 +54,10 @@ no_factors M (c ∷ cs) g h = elim (cases_Bool (c.group == g)) [
   | inr f ↦ rw f (no_factors M cs g (rw f at h))
 ]
 
-pub not_left : (op : SetOp) (a b : Bool) → a ≡ false → combine op a b ≡ false
-not_left Intersection a b h = rw h refl
-not_left Complement a b h = rw h refl
+pub not_asked_of : (op : SetOp) (a b : Bool) → asks_of op a b ≡ false → combine op a b ≡ false
+not_asked_of Intersection a b h = rw h refl
+not_asked_of Complement a b h = rw h refl
+not_asked_of Union a b h = h
 
 pub never : (b : Bool) → (b && false) ≡ false
 never true = refl
@@ -89,7 +90,7 @@ level_kept (FactorsOn g op left right) L w f a q n =
     let there : is_composite g (insert_key composite_cmp L.composites c) ≡ true = composite_added g c L.composites ∙ or_left _ _ (eq-eqb g g refl) in
     let factors : in_factors M (insert_key composite_cmp L.composites c) g ≡ false =
     any_new composite_cmp (λ (c : CompositeRow). (c.group == g) && combine c.op (M c.left) (M c.right)) c L.composites (composite_absent c L.composites ∙ f.0)
-    ∙ rw (not_left op (member L left q) (member L right q) n, never (g == g), no_factors M L.composites g f.0) refl in
+    ∙ rw (not_asked_of op (member L left q) (member L right q) n, never (g == g), no_factors M L.composites g f.0) refl in
     rw (f.0, no_rows M L.rows g q f.1, there, factors) refl
 level_kept (FactorsOff g) L w f a q n =
     sym (member_level L a g q) ∙ (n ∙ sym (rw (composite_out g L.composites w.once, no_rows (λ h. member L h q) L.rows g q (w.rowless g f)) refl))

@@ -148,6 +148,9 @@ one_list_of_numbers xs ys a b h =
     let t : BTreeSet ℕ = record { keys = ys } in
     btree_set_from_contains nat_cmp_total s t a b (λ q. among_at q xs ∙ (h q ∙ sym (among_at q ys))) exact_unsigned
 
-pub members_is : (L : Live) (g : ℕ) (xs : List ℕ) → IsStrictlySortedBy nat_cmp xs → ((q : ℕ) → among q xs ≡ member L g q) → xs ≡ members_of L g
+pub members_sorted : (L : Live) (g : ℕ) → IsStrictlySortedBy nat_cmp (members_of L g)
 unfolding members_of
-members_is L g xs s h = one_list_of_numbers xs (members_of L g) s (IsStrictlySortedBy-filter nat_cmp (member L g) (below (top L)) (numbers_sorted (top L))) (λ q. h q ∙ sym (among_members L g q))
+members_sorted L g = IsStrictlySortedBy-filter nat_cmp (member L g) (below (top L)) (numbers_sorted (top L))
+
+pub members_is : (L : Live) (g : ℕ) (xs : List ℕ) → IsStrictlySortedBy nat_cmp xs → ((q : ℕ) → among q xs ≡ member L g q) → xs ≡ members_of L g
+members_is L g xs s h = one_list_of_numbers xs (members_of L g) s (members_sorted L g) (λ q. h q ∙ sym (among_members L g q))

@@ -4,16 +4,18 @@ use Rattle.std.proofs.lemmas.Bool.{cases_Bool, eqb-true}
 use Rattle.std.proofs.lemmas.List.Folds.{list_any-append}
 use Rattle.std.specs.List.Sorted.{IsStrictlySortedBy}
 use Rattle.reg_terms.specs.declared.kinds.Member.{Member}
+use Rattle.reg_terms.specs.declared.kinds.SetOp.{SetOp}
 use Rattle.reg_graph.specs.Sets.{holds, pair_cmp}
 use Rattle.reg_graph.specs.Edges.{among}
 use Rattle.reg_graph.proofs.Reaching.{eq_turned}
 use Rattle.reg_graph.proofs.Orders.{among_more}
 use Rattle.reg_effect.specs.declared.live.Live.{Live}
 use Rattle.reg_terms.specs.Rows.{is_composite}
-use Rattle.reg_effect.specs.Member.{gives, in_rows, in_factors, level, member_in, entries, member}
+use Rattle.reg_effect.specs.Member.{combine, gives, in_rows, in_factors, level, member_in, entries, member}
 use Rattle.reg_effect.specs.Asked.{IsWell}
 use Rattle.reg_effect.specs.Deltas.{began, ended}
 use Rattle.reg_effect.proofs.Deep.{level_same}
+use Rattle.reg_effect.proofs.Tops.{combine_some}
 use Rattle.reg_effect.proofs.Asking.{no_rows, no_factors}
 use Rattle.reg_effect.proofs.Lists.{holds_filter, began_is, ended_is}
 
@@ -48,6 +50,28 @@ factors_more old now new g p given ps k h y q = h y q ∙ elim (cases_Bool (q ==
     other true true d e o = refl
     other true false d e o = refl
     other false c d e o = refl
+
+pub factors_given : (old mid new : ℕ → ℕ → Bool) (g : ℕ) (op : SetOp) (left right : ℕ → Bool) (xs ys : List ℕ) → ((q : ℕ) → among q xs ≡ left q) → ((q : ℕ) → among q ys ≡ right q)
+    → ((y q : ℕ) → mid y q ≡ (((y == g) && (among q xs && combine op (left q) (right q))) || old y q))
+    → ((y q : ℕ) → new y q ≡ (((y == g) && (among q ys && combine op (left q) (right q))) || mid y q)) → (y q : ℕ) → new y q ≡ (((g == y) && combine op (left q) (right q)) || old y q)
+factors_given old mid new g op left right xs ys h k m n y q = n y q ∙ rw (m y q, h q, k q, eq_turned g y) (elim (cases_Bool (combine op (left q) (right q))) [
+  | inl t ↦ rw t (given (y == g) (left q) (right q) (old y q) (combine_some op (left q) (right q) t))
+  | inr f ↦ rw f (none (y == g) (left q) (right q) (old y q))
+])
+  where
+    given : (a b c o : Bool) → (b || c) ≡ true → ((a && (c && true)) || ((a && (b && true)) || o)) ≡ ((a && true) || o)
+    given false b c o h = refl
+    given true true true o h = refl
+    given true true false o h = refl
+    given true false true o h = refl
+    given true false false o h = cc
+
+    none : (a b c o : Bool) → ((a && (c && false)) || ((a && (b && false)) || o)) ≡ ((a && false) || o)
+    none false b c o = refl
+    none true true true o = refl
+    none true true false o = refl
+    none true false true o = refl
+    none true false false o = refl
 
 -- ---- lists of rows and of composites
 pub rows_more : (table : List (ℕ × ℕ)) (old now new : ℕ → ℕ → Bool) (g : ℕ) (m : Member) (rows : List (ℕ × Member)) → ((y q : ℕ) → now y q ≡ (in_rows (λ h. holds h q table) rows y q || old y q))

@@ -1,12 +1,12 @@
 -- All ids with members, and all members, are below the top.
-use Rattle.std.proofs.Common.{◌≡◌, ◌<◌, ◌==◌, ◌⊎◌, ℕ, List, [], ◌∷◌, Bool, true, not, arith, refl, ◌∙◌, inl, inr, zero, suc}
+use Rattle.std.proofs.Common.{◌≡◌, ◌<◌, ◌==◌, ◌||◌, ◌⊎◌, ℕ, List, [], ◌∷◌, Bool, true, not, arith, refl, ◌∙◌, inl, inr, zero, suc}
 use Rattle.std.proofs.lemmas.Bool.{eqb-true, eq-eqb, cases_Bool, and_parts, or_cases, or_left, or_right, cases_lt}
 use Rattle.std.proofs.lemmas.List.Folds.{list_any-append}
 use Rattle.reg_terms.specs.declared.kinds.Member.{Member}
 use Rattle.reg_terms.specs.declared.kinds.Member.TheVariants.{Person, Group}
 use Rattle.reg_terms.specs.declared.rows.CompositeRow.{CompositeRow}
 use Rattle.reg_terms.specs.declared.kinds.SetOp.{SetOp}
-use Rattle.reg_terms.specs.declared.kinds.SetOp.TheVariants.{Intersection, Complement}
+use Rattle.reg_terms.specs.declared.kinds.SetOp.TheVariants.{Intersection, Complement, Union}
 use Rattle.reg_effect.specs.declared.live.Live.{Live}
 use Rattle.reg_terms.specs.Rows.{is_composite}
 use Rattle.reg_effect.specs.Member.{combine, in_rows, in_factors, member, member_in, entries}
@@ -25,16 +25,23 @@ rows_below M ((x, Group y) ∷ rows) g s h = elim (or_cases _ _ h) [
   | inr later ↦ let r = rows_below M rows g s later in (omega (arith, r.0), elim r.1 [ inl l ↦ inl (omega (arith, l)) | inr m ↦ inr m ])
 ]
 
-pub combine_left : (op : SetOp) (a b : Bool) → combine op a b ≡ true → a ≡ true
-combine_left Intersection a b h = (and_parts a b h).0
-combine_left Complement a b h = (and_parts a (not b) h).0
+-- whom a composite has, one of its factors has
+pub combine_some : (op : SetOp) (a b : Bool) → combine op a b ≡ true → (a || b) ≡ true
+combine_some Intersection a b h = or_left _ _ (and_parts a b h).0
+combine_some Complement a b h = or_left _ _ (and_parts a (not b) h).0
+combine_some Union a b h = h
 
 pub factors_below : (M : ℕ → Bool) (cs : List CompositeRow) (g : ℕ) → in_factors M cs g ≡ true → (g < composites_top cs) × ((h : ℕ) × (M h ≡ true))
 factors_below M [] g h = cc
 factors_below M (c ∷ cs) g h = elim (or_cases _ _ h) [
-  | inl here ↦ let w = and_parts (c.group == g) (combine c.op (M c.left) (M c.right)) here in let a = eqb-true c.group g w.0 in (omega (arith, a), (c.left, combine_left c.op (M c.left) (M c.right) w.1))
+  | inl here ↦ let w = and_parts (c.group == g) (combine c.op (M c.left) (M c.right)) here in let a = eqb-true c.group g w.0 in
+      (omega (arith, a), some (or_cases _ _ (combine_some c.op (M c.left) (M c.right) w.1)))
   | inr later ↦ let r = factors_below M cs g later in (omega (arith, r.0), r.1)
 ]
+  where
+    some : ((M c.left ≡ true) ⊎ (M c.right ≡ true)) → (h : ℕ) × (M h ≡ true)
+    some (inl l) = (c.left, l)
+    some (inr r) = (c.right, r)
 
 pub member_in_below : (n : ℕ) (L : Live) (g s : ℕ) → member_in n L g s ≡ true → (g < top L) × (s < top L)
 member_in_below zero L g s h = cc

@@ -1,20 +1,21 @@
 -- Effective membership: a person is a member of a composite by its two factors, and of another
 -- group by a row that names the person or a group that has it.
-use Rattle.std.specs.Prelude.{ℕ, zero, suc, ◌+◌, ◌==◌, ◌&&◌, List, Bool, false, not, length}
+use Rattle.std.specs.Prelude.{ℕ, zero, suc, ◌+◌, ◌==◌, ◌&&◌, ◌||◌, List, Bool, false, not, length}
 use Rattle.std.specs.Prelude.{if◌then◌else◌}
 use Rattle.std.specs.List.{list_any}
 use Rattle.reg_terms.specs.declared.kinds.Member.{Member}
 use Rattle.reg_terms.specs.declared.kinds.Member.TheVariants.{Person, Group}
 use Rattle.reg_terms.specs.declared.kinds.SetOp.{SetOp}
-use Rattle.reg_terms.specs.declared.kinds.SetOp.TheVariants.{Intersection, Complement}
+use Rattle.reg_terms.specs.declared.kinds.SetOp.TheVariants.{Intersection, Complement, Union}
 use Rattle.reg_terms.specs.declared.rows.CompositeRow.{CompositeRow}
 use Rattle.reg_terms.specs.Rows.{is_composite}
 use Rattle.reg_effect.specs.declared.live.Live.{Live}
 
--- in both, or in the left and not in the right
+-- in both, in the left and not in the right, or in one at least
 abbrev pub combine : SetOp → Bool → Bool → Bool
 combine Intersection a b = a && b
 combine Complement a b = a && not b
+combine Union a b = a || b
 
 -- whether a row's member is the person, or a group that has it by M
 abbrev pub gives : (ℕ → Bool) → ℕ → Member → Bool

@@ -1,4 +1,4 @@
-// The two ways to make a composite of its factors.
+// The ways to make a composite of its factors.
 ghost use Rattle.std.specs.Prelude.{◌≡◌};
 ghost use Rattle.reg_effect.specs.Member.{combine};
 
@@ -11,5 +11,6 @@ pub(crate) fn combine(op: SetOp, left: bool, right: bool) -> bool
     match op {
         SetOp::Intersection => left && right,
         SetOp::Complement => left && !right,
+        SetOp::Union => left || right,
     }
 }

@@ -1,18 +1,21 @@
 // Effective memberships kept in a set for each group, which a change touches only from its group
 // upwards.
-ghost use Rattle.std.specs.Prelude.{◌≡◌, ◌+◌, ◌≤◌, ℕ, IfOk, OnOk, length, [], nat_eq};
+ghost use Rattle.std.specs.Prelude.{◌≡◌, ◌+◌, ◌≤◌, ◌||◌, ℕ, IfOk, OnOk, length, [], nat_eq};
 ghost use Rattle.std.specs.List.{IsDistinct};
 ghost use Rattle.std.specs.List.Sorted.{IsStrictlySortedBy};
 ghost use Rattle.std.specs.Ordering.{nat_cmp};
 ghost use Rattle.reg_graph.specs.Sets.{holds};
 ghost use Rattle.reg_graph.specs.Edges.{among, IsAcyclic};
+ghost use Rattle.reg_effect.specs.declared.live.Live.{Live};
 ghost use Rattle.reg_effect.specs.Member.{member, level};
 ghost use Rattle.reg_effect.specs.Edges.{edges};
-ghost use Rattle.reg_effect.specs.Changes.{changed, nothing, Suits};
+ghost use Rattle.reg_effect.specs.Changes.{changed, nothing, Fits, Suits};
 ghost use Rattle.reg_effect.specs.Deltas.{members_of, began, ended};
-ghost use Rattle.reg_effect.specs.Bound.{most_steps};
-ghost use Rattle.reg_effect.specs.Asked.{asks, asks_row};
+ghost use Rattle.reg_effect.specs.Bound.{asked, asked_by_row, most_steps};
+ghost use Rattle.reg_effect.specs.Asked.{asks, asks_of, asks_row};
+ghost use Rattle.reg_effect.specs.Invariant.{IsTable};
 
+use crate::joined::joined;
 use crate::marks::Marks;
 use crate::relink::relink;
 use crate::uncounted::{groups, has, list};
@@ -20,7 +23,7 @@ use crate::walk::walk;
 use crate::{Change, Delta, Kept, Live};
 use reg_base::{GroupId, Steps, SubjectId};
 use reg_graph::{Dag, Sets};
-use reg_terms::Member;
+use reg_terms::{Member, SetOp};
 use std::alloc::{AllocError, Global};
 use std::marker::Model;
 use std::sync::ledger::Ledger;
@@ -54,9 +57,11 @@ fn ask_group<L: Ledger>(
 ) -> Result<Vec<SubjectId>, AllocError>
     ensures value { IfOk result (λ v. (q : ℕ) → among q v.items ≡ holds g q sets.now) }
     ensures distinct { IfOk result (λ v. IsDistinct nat_eq v.items) }
-    ensures cost { IfOk result (λ v. steps.new ≤ steps.old + length v.items) }
+    ensures cost { OnOk result ((M : Live) → IsTable M sets.now
+        → steps.new ≤ steps.old + length (members_of M g)) }
 {
-    sets.list(g, steps)
+    let persons = sets.list(g, steps)?;
+    Ok(persons)
 }
 
 /// For whom a row of this member asks.
@@ -70,7 +75,8 @@ fn ask_row<L: Ledger>(
     ensures value { IfOk result (λ v. (q : ℕ)
         → among q v.items ≡ asks_row (λ y s. holds y s sets.now) named q) }
     ensures distinct { IfOk result (λ v. IsDistinct nat_eq v.items) }
-    ensures cost { IfOk result (λ v. steps.new ≤ steps.old + length v.items) }
+    ensures cost { OnOk result ((M : Live) → IsTable M sets.now
+        → steps.new ≤ steps.old + asked_by_row M named) }
 {
     match named {
         Member::Person(person) => {
@@ -79,6 +85,50 @@ fn ask_row<L: Ledger>(
             Ok(persons)
         }
         Member::Group(nested) => ask_group(sets, nested, steps),
+    }
+}
+
+/// The members of two groups, each person once.
+#[tactic(auto, using(crate::proofs::Totals::distinct_sorted, crate::proofs::Totals::both_cost))]
+fn ask_both<L: Ledger>(
+    alloc: Global,
+    sets: &Sets,
+    left: GroupId,
+    right: GroupId,
+    steps: &mut Steps<L>,
+) -> Result<Vec<SubjectId>, AllocError>
+    ensures value { IfOk result (λ v. (q : ℕ)
+        → among q v.items ≡ (holds left q sets.now || holds right q sets.now)) }
+    ensures distinct { IfOk result (λ v. IsDistinct nat_eq v.items) }
+    ensures cost { OnOk result ((M : Live) → IsTable M sets.now
+        → steps.new ≤ steps.old + (length (members_of M left) + length (members_of M right))) }
+{
+    let of_left = ask_group(sets, left, steps)?;
+    let of_right = ask_group(sets, right, steps)?;
+    let persons = joined(alloc, of_left.as_slice(), of_right.as_slice())?;
+    Ok(persons)
+}
+
+/// The persons whom a composite of two factors may have.
+#[tactic(auto, using(crate::proofs::Totals::left_cost))]
+fn ask_factors<L: Ledger>(
+    alloc: Global,
+    sets: &Sets,
+    op: SetOp,
+    left: GroupId,
+    right: GroupId,
+    steps: &mut Steps<L>,
+) -> Result<Vec<SubjectId>, AllocError>
+    ensures value { IfOk result (λ v. (q : ℕ)
+        → among q v.items ≡ asks_of op (holds left q sets.now) (holds right q sets.now)) }
+    ensures distinct { IfOk result (λ v. IsDistinct nat_eq v.items) }
+    ensures cost { OnOk result ((M : Live) → IsTable M sets.now
+        → steps.new ≤ steps.old + (length (members_of M left) + length (members_of M right))) }
+{
+    match op {
+        SetOp::Intersection => ask_group(sets, left, steps),
+        SetOp::Complement => ask_group(sets, left, steps),
+        SetOp::Union => ask_both(alloc, sets, left, right, steps),
     }
 }
 
@@ -92,12 +142,18 @@ fn ask<L: Ledger>(
     ensures value { IfOk result (λ v. (q : ℕ)
         → among q v.items ≡ asks change.now (λ y s. holds y s sets.now) q) }
     ensures distinct { IfOk result (λ v. IsDistinct nat_eq v.items) }
-    ensures cost { IfOk result (λ v. steps.new ≤ steps.old + length v.items) }
+    ensures cost { OnOk result ((M : Live) → IsTable M sets.now → Fits change.now M
+        → steps.new ≤ steps.old + asked change.now M) }
 {
     match change {
         Change::RowOn { member, .. } => ask_row(alloc, sets, *member, steps),
         Change::RowOff { member, .. } => ask_row(alloc, sets, *member, steps),
-        Change::FactorsOn { left, .. } => ask_group(sets, *left, steps),
+        Change::FactorsOn {
+            op,
+            left,
+            right,
+            ..
+        } => ask_factors(alloc, sets, *op, *left, *right, steps),
         Change::FactorsOff { group } => ask_group(sets, *group, steps),
     }
 }

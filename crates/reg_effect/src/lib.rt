@@ -6,6 +6,7 @@ mod changing;
 mod combine;
 mod composites;
 mod incremental;
+mod joined;
 mod kept;
 mod live;
 mod marks;

@@ -1,5 +1,5 @@
 // Effective memberships computed afresh after each change, straight from their definition.
-ghost use Rattle.std.specs.Prelude.{◌≡◌, ◌==◌, ◌&&◌, ◌||◌, ◌+◌, ◌≤◌, ℕ, true, IfOk, OnOk};
+ghost use Rattle.std.specs.Prelude.{◌≡◌, ◌==◌, ◌&&◌, ◌||◌, ◌+◌, ◌≤◌, ℕ, IfOk, OnOk};
 ghost use Rattle.std.specs.List.Sorted.{IsStrictlySortedBy};
 ghost use Rattle.std.specs.Ordering.{nat_cmp};
 ghost use Rattle.reg_graph.specs.Sets.{holds};
@@ -67,7 +67,7 @@ fn add_row(table: &Marks, g: GroupId, member: Member, next: &mut Marks) -> Resul
     }
 }
 
-/// Adds a person of a composite's left factor, where the right one gives it too.
+/// Adds a person to a composite, where its factors give the person.
 #[tactic(auto, using(crate::proofs::Rounds::factor_added, crate::proofs::Rounds::factor_left))]
 fn add_factor(
     table: &Marks,
@@ -76,25 +76,48 @@ fn add_factor(
     next: &mut Marks,
 ) -> Result<(), AllocError>
     ensures { OnOk result ((y q : ℕ) → holds y q next.new
-        ≡ ((((y == c.now.group) && (q == person))
-        && combine c.now.op true (holds c.now.right person table.now)) || holds y q next.old)) }
+        ≡ ((((y == c.now.group) && (q == person)) && combine c.now.op
+        (holds c.now.left person table.now) (holds c.now.right person table.now))
+        || holds y q next.old)) }
 {
-    if combine(c.op, true, table.has(c.right, person)) {
+    let left = table.has(c.left, person);
+    let right = table.has(c.right, person);
+    if combine(c.op, left, right) {
         next.add(c.group, person)?;
     }
     Ok(())
 }
 
-/// Adds whom the factors of a composite give, by the table of the level below.
+/// Adds those of the persons whom the factors of a composite give.
+fn add_given(
+    table: &Marks,
+    c: &CompositeRow,
+    persons: &[SubjectId],
+    next: &mut Marks,
+) -> Result<(), AllocError>
+    ensures { OnOk result ((y q : ℕ) → holds y q next.new
+        ≡ (((y == c.now.group) && (among q persons.now && combine c.now.op
+        (holds c.now.left q table.now) (holds c.now.right q table.now)))
+        || holds y q next.old)) }
+{
+    for person in persons {
+        add_factor(table, c, *person, next)?;
+    }
+    Ok(())
+}
+
+/// Adds whom the factors of a composite give, by the table of the level below: all of them are in
+/// one of the factors at least.
+#[tactic(auto, using(crate::proofs::Rounds::factors_given))]
 fn add_composite(table: &Marks, c: &CompositeRow, next: &mut Marks) -> Result<(), AllocError>
     ensures { OnOk result ((y q : ℕ) → holds y q next.new
         ≡ (((c.now.group == y) && combine c.now.op (holds c.now.left q table.now)
         (holds c.now.right q table.now)) || holds y q next.old)) }
 {
-    let persons = table.subjects(c.left)?;
-    for person in &persons {
-        add_factor(table, c, *person, next)?;
-    }
+    let of_left = table.subjects(c.left)?;
+    let of_right = table.subjects(c.right)?;
+    add_given(table, c, of_left.as_slice(), next)?;
+    add_given(table, c, of_right.as_slice(), next)?;
     Ok(())
 }
 

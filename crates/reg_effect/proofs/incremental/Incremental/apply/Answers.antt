@@ -55,5 +55,5 @@ pub returns-clause-cost : goal.returns-clause-cost
 returns-clause-cost g c =
     let fits : Fits c.args.change.now c.self.inside.live = rw (← c.self.view_is) at c.requires.fits in
     rw (← c.self.view_is) (total_at c.args.change.now c.self.inside.live c.edit.new.self c.in_ok-edit.ensures c.self.invariant.table.well fits c.self.invariant.table.no_circle c.in_ok-asked.asked.items c.in_ok-asked.ensures.distinct
-    (λ y q. holds y q c.self.inside.sets) c.self.invariant.table.sets c.in_ok-asked.ensures.value _ c.ask.new.steps _ c.in_ok-asked.ensures.cost
+    (λ y q. holds y q c.self.inside.sets) c.self.invariant.table.sets c.in_ok-asked.ensures.value _ c.ask.new.steps _ (c.in_ok-asked.ensures.cost c.self.inside.live c.self.invariant.table fits)
     (rw (c.as_slice.ensures.value, c.group-group.ensures) at c.in_ok-walk.ensures.cost))
