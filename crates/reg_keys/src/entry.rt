@@ -1,6 +1,6 @@
 // A caller's keys.
-ghost use Rattle.std.specs.Prelude.{◌≡◌, ◌<◌, ◌^◌, ◌&&◌, ℕ, List, None, Some, OnOk};
-ghost use Rattle.std.specs.Prelude.{OnErr, IfSome, if◌then◌else◌};
+ghost use Rattle.std.specs.Prelude.{◌≡◌, ◌&&◌, ℕ, List, None, Some, OnOk, OnErr};
+ghost use Rattle.std.specs.Prelude.{if◌then◌else◌};
 ghost use Rattle.std.specs.Str.{bytes_eq};
 ghost use Rattle.reg_keys.specs.Keys.{at_key, entry_in};
 
@@ -11,39 +11,13 @@ use std::collections::BTreeMap;
 #[derive(Clone, Copy)]
 pub struct Entry {
     pub start: u64,
-    pub len: u32,
-    pub number: u32,
-    pub id: Option<u32>,
-}
-
-impl Entry {
-    /// The id of what the command made.
-    pub fn id(&self) -> Option<u64>
-        ensures { result ≡ self.now.id }
-    {
-        match self.id {
-            Some(id) => Some(u64::from(id)),
-            None => None,
-        }
-    }
-}
-
-/// The same id in 32 bits.
-fn small(id: Option<u64>) -> Option<u32>
-    requires { IfSome id (λ n. n < 2 ^ 32) }
-    ensures { result ≡ id }
-{
-    match id {
-        Some(id) => Some(id as u32),
-        None => None,
-    }
+    pub len: u64,
+    pub number: u64,
+    pub id: Option<u64>,
 }
 
 /// The entry of a command whose bytes begin at a place.
 pub fn entry_of(start: u64, len: u64, number: u64, id: Option<u64>) -> Entry
-    requires len { len < 2 ^ 32 }
-    requires number { number < 2 ^ 32 }
-    requires id { IfSome id (λ n. n < 2 ^ 32) }
     ensures start { result.start ≡ start }
     ensures len { result.len ≡ len }
     ensures number { result.number ≡ number }
@@ -51,9 +25,9 @@ pub fn entry_of(start: u64, len: u64, number: u64, id: Option<u64>) -> Entry
 {
     Entry {
         start,
-        len: len as u32,
-        number: number as u32,
-        id: small(id),
+        len,
+        number,
+        id,
     }
 }
 

@@ -1,6 +1,6 @@
 // The keys of all callers.
-ghost use Rattle.std.specs.Prelude.{◌≡◌, ◌≤◌, ◌<◌, ◌+◌, ◌^◌, ◌&&◌, ℕ, List, length, None, Some};
-ghost use Rattle.std.specs.Prelude.{IfSome, OnOk, OnErr, MatchOption, if◌then◌else◌};
+ghost use Rattle.std.specs.Prelude.{◌≡◌, ◌≤◌, ◌+◌, ◌&&◌, ℕ, List, length, None, Some};
+ghost use Rattle.std.specs.Prelude.{OnOk, OnErr, MatchOption, if◌then◌else◌};
 ghost use Rattle.std.specs.Str.{bytes_eq};
 ghost use Rattle.reg_keys.specs.declared.entry.Entry.{Entry};
 ghost use Rattle.reg_keys.specs.Keys.{entry_in};
@@ -53,8 +53,8 @@ impl Keys {
         let (_, behind) = self.bytes.as_slice().split_at(entry.start as usize);
         let (bytes, _) = behind.split_at(entry.len as usize);
         Some(Found {
-            number: u64::from(entry.number),
-            id: entry.id(),
+            number: entry.number,
+            id: entry.id,
             bytes,
         })
     }
@@ -69,9 +69,6 @@ impl Keys {
         id: Option<u64>,
         bytes: &[u8],
     ) -> Result<(), AllocError>
-        requires number { number < 2 ^ 32 }
-        requires id { IfSome id (λ n. n < 2 ^ 32) }
-        requires bytes { length bytes.now < 2 ^ 32 }
         ensures put { OnOk result ((b k : List ℕ) → found_in self.new b k
             ≡ (if bytes_eq by.now b && bytes_eq key.now k then Some (number, id, bytes.now)
             else found_in self.old b k)) }

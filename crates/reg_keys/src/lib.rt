@@ -1,5 +1,5 @@
 //! Keys of requests: for each caller and key the number of the command that was kept, the id of
-//! what it made, and the command's bytes. Requests have no keys yet: this is what will find them.
+//! what it made, and the command's bytes. It is what finds the keys of requests.
 #![tactic(auto)]
 
 mod entry;
