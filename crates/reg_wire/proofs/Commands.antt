@@ -224,3 +224,11 @@ command_takes makes bytes x e =
     let t = at_takes makes b.0 a.0.1 x b.2 in
     let same : a.0.0 ≡ code_of x.0 = coded_takes commands a.0.0 b.0 b.1 ∙ ap (λ (k : CommandKind). (command_row k).code) (sym t.is_kind) in
     (byte_takes bytes a.0 a.1 ∙ ap (λ (l : List ℕ). a.0.0 ∷ l) t.parts ∙ ap (λ (n : ℕ). n ∷ (bytes_of (fields_of x.0) ++ x.1)) same, t.fits)
+
+-- commands with the same bytes are the same
+pub same_command : TableParts → (a b : Command) → has_form a ≡ true → has_form b ≡ true → command_bytes a ≡ command_bytes b → a ≡ b
+same_command parts a b form_a form_b same =
+    let left : Command × List ℕ = (a, []) in
+    let right : Command × List ℕ = (b, []) in
+    let read : Some left ≡ Some right = sym (command_again parts a [] form_a) ∙ ap (λ (l : List ℕ). command_of (l ++ [])) same ∙ command_again parts b [] form_b in
+    ap (λ (x : Command × List ℕ). x.0) (same_Some left right read)

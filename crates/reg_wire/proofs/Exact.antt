@@ -8,7 +8,7 @@ use Rattle.std.proofs.lemmas.List.{take_at, drop_at, take-append-drop, length-ap
 use Rattle.std.proofs.lemmas.Nat.{le_bytes_2, le_bytes_4, le_bytes_8, from_le_bytes-to_le_bytes_2, from_le_bytes-to_le_bytes_4, from_le_bytes-to_le_bytes_8}
 use Rattle.std.proofs.lemmas.Option.{cond_some, same_Some}
 use Rattle.reg_terms.specs.declared.kinds.SetOp.{SetOp}
-use Rattle.reg_terms.specs.declared.kinds.SetOp.TheVariants.{Intersection, Complement}
+use Rattle.reg_terms.specs.declared.kinds.SetOp.TheVariants.{Intersection, Complement, Union}
 use Rattle.reg_ops.specs.Forms.{is_moment, is_optional_moment}
 use Rattle.reg_terms.specs.Limits.{max_moment}
 use Rattle.reg_ops.specs.Parts.{◌>>=◌}
@@ -204,12 +204,14 @@ set_op_takes [] x e = absurd cc
 set_op_takes (zero ∷ rest) x e = absurd cc
 set_op_takes (suc zero ∷ rest) x e = subst (IsSetOpRead (1 ∷ rest)) (same_Some (Intersection, rest) x e) (refl, refl)
 set_op_takes (suc (suc zero) ∷ rest) x e = subst (IsSetOpRead (2 ∷ rest)) (same_Some (Complement, rest) x e) (refl, refl)
-set_op_takes (suc (suc (suc b)) ∷ rest) x e = absurd cc
+set_op_takes (suc (suc (suc zero)) ∷ rest) x e = subst (IsSetOpRead (3 ∷ rest)) (same_Some (Union, rest) x e) (refl, refl)
+set_op_takes (suc (suc (suc (suc b))) ∷ rest) x e = absurd cc
 
 set_op_again : (kind : SetOp) (rest : List ℕ) → always kind ≡ true → set_op_at (set_op_bytes kind ++ rest) ≡ Some (kind, rest)
 unfolding set_op_at
 set_op_again Intersection rest good = refl
 set_op_again Complement rest good = refl
+set_op_again Union rest good = refl
 
 pub set_op_exact : IsExact set_op_bytes always set_op_at
 set_op_exact = record { takes = set_op_takes; again = set_op_again }

@@ -4,6 +4,7 @@ mod Entities
 mod Lists
 mod Items
 mod Objects
+mod Keys
 mod Grants
 mod Attributes
 mod LoadLists

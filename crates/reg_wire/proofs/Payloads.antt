@@ -6,6 +6,7 @@ use Rattle.std.proofs.lemmas.Bool.{and_parts}
 use Rattle.std.proofs.lemmas.List.{length-append}
 use Rattle.std.proofs.lemmas.Option.{cond_some, same_Some}
 use Rattle.std.proofs.lemmas.Slice.Eq.{bytes_eq-Decides}
+use Rattle.reg_base.specs.declared.entity.Entity.{Entity}
 use Rattle.reg_terms.specs.declared.command.Command.{Command}
 use Rattle.reg_terms.specs.declared.command.Command.TheVariants.{GrantAdd, Load}
 use Rattle.reg_terms.specs.declared.command.Stamped.{Stamped}
@@ -16,63 +17,59 @@ use Rattle.reg_terms.specs.declared.kinds.InheritKind.TheVariants.{Folder, Group
 use Rattle.reg_terms.specs.declared.kinds.Scope.{Scope}
 use Rattle.reg_terms.specs.declared.kinds.Scope.TheVariants.{One, Sub}
 use Rattle.reg_terms.specs.declared.kinds.SetOp.{SetOp}
-use Rattle.reg_terms.specs.declared.kinds.SetOp.TheVariants.{Intersection, Complement}
+use Rattle.reg_terms.specs.declared.kinds.SetOp.TheVariants.{Intersection, Complement, Union}
 use Rattle.reg_terms.specs.declared.kinds.Value.{Value}
 use Rattle.reg_terms.specs.declared.kinds.Value.TheVariants as value
 use Rattle.reg_ops.specs.declared.field.Field.{Field}
 use Rattle.reg_ops.specs.declared.field.Field.TheVariants as field
-use Rattle.reg_ops.specs.Forms.{is_moment, is_entity, is_field, is_value, has_form}
+use Rattle.reg_ops.specs.Forms.{is_moment, is_entity, is_field, is_value, has_form, key_fits, takes_key}
 use Rattle.reg_ops.specs.Parts.{◌>>=◌}
 use Rattle.reg_ops.specs.Table.{fields_of, code_of}
-use Rattle.reg_wire.specs.Fields.{entity_text, moment_bytes, field_bytes}
-use Rattle.reg_wire.specs.Reading.{moment_at, entity_at, no_key_at, command_of}
+use Rattle.reg_wire.specs.Fields.{entity_text, key_bytes, moment_bytes, field_bytes}
+use Rattle.reg_wire.specs.Reading.{moment_at, entity_at, key_at, command_of}
 use Rattle.reg_wire.specs.Payload.{listed, AreFew, fields_bytes, command_bytes, dates_left_out, IsWritable, payload, whole_command_of, stamped_at, stamped_of}
 use Rattle.reg_wire.proofs.Texts.{name_short, folder_short, extension_short, source_short, display_short}
 use Rattle.reg_wire.proofs.Exact.{bind_some, moment_exact}
 use Rattle.reg_wire.proofs.Entities.{entity_short, entity_bytes, entity_exact}
 use Rattle.reg_wire.proofs.Objects.{object_short}
+use Rattle.reg_wire.proofs.Keys.{writable_key, key_short, key_exact}
 use Rattle.reg_wire.proofs.LoadLists.{names_short, load_rows_short}
 use Rattle.reg_wire.proofs.Commands.{TableMakes, TableParts, command_takes, command_again}
 
 -- ---- a payload is read again
 
--- what stands behind the byte for no key
+-- what stands behind the key
 abbrev whole_bytes : Command → List ℕ
 whole_bytes command = command_bytes command ++ dates_left_out command
+
+-- what stands behind the moment
+abbrev behind_bytes : Stamped → List ℕ
+behind_bytes stamped = entity_bytes stamped.by ++ (key_bytes stamped.key ++ whole_bytes stamped.command)
 
 whole_again : TableParts → (command : Command) → has_form command ≡ true → whole_command_of (whole_bytes command) ≡ Some command
 unfolding whole_command_of
 whole_again table command form =
     rw (command_again table command (dates_left_out command) form, (bytes_eq-Decides (dates_left_out command) (dates_left_out command)).1 refl) refl
 
-stamped_again : TableParts → (stamped : Stamped) → is_entity stamped.by ≡ true → has_form stamped.command ≡ true → stamped_at stamped.at (entity_bytes stamped.by ++ 0 ∷ whole_bytes stamped.command) ≡ Some stamped
-unfolding stamped_at no_key_at
-stamped_again table stamped by form =
-    rw (entity_exact.again stamped.by (0 ∷ whole_bytes stamped.command) by, whole_again table stamped.command form) refl
+stamped_again : TableParts → (stamped : Stamped) → IsWritable stamped → stamped_at stamped.at (behind_bytes stamped) ≡ Some stamped
+unfolding stamped_at
+stamped_again table stamped h =
+    rw (entity_exact.again stamped.by (key_bytes stamped.key ++ whole_bytes stamped.command) h.caller, key_exact.again stamped.key (whole_bytes stamped.command) (writable_key stamped h), whole_again table stamped.command h.command, h.key) refl
 
 -- the payload of a writable command reads back as that command
 pub reads_back : TableParts → (stamped : Stamped) → IsWritable stamped → stamped_of (payload stamped) ≡ Some stamped
 unfolding payload stamped_of
 reads_back table stamped h =
-    rw (moment_exact.again stamped.at (entity_bytes stamped.by ++ 0 ∷ whole_bytes stamped.command) h.0) (stamped_again table stamped h.1 h.2)
+    rw (moment_exact.again stamped.at (behind_bytes stamped) h.moment) (stamped_again table stamped h)
 
 -- ---- what is read is a payload
-
--- what stands behind the moment of a stamped command
-abbrev behind_bytes : Stamped → List ℕ
-behind_bytes stamped = entity_bytes stamped.by ++ 0 ∷ whole_bytes stamped.command
 
 record IsBehind (moment : ℕ) (bytes : List ℕ) (stamped : Stamped) : Type 0 where
   pub at_moment : stamped.at ≡ moment
   pub parts : bytes ≡ behind_bytes stamped
   pub by : is_entity stamped.by ≡ true
+  pub key : key_fits (takes_key stamped.command) stamped.key ≡ true
   pub form : has_form stamped.command ≡ true
-
-no_key_takes : (bytes rest : List ℕ) → no_key_at bytes ≡ Some rest → bytes ≡ 0 ∷ rest
-unfolding no_key_at
-no_key_takes [] rest e = absurd cc
-no_key_takes (zero ∷ behind) rest e = ap (λ (l : List ℕ). 0 ∷ l) (same_Some behind rest e)
-no_key_takes (suc b ∷ behind) rest e = absurd cc
 
 whole_takes : TableMakes → (bytes : List ℕ) (command : Command) → whole_command_of bytes ≡ Some command → (bytes ≡ whole_bytes command) × (has_form command ≡ true)
 unfolding whole_command_of
@@ -84,20 +81,30 @@ whole_takes table bytes command e =
     let parts : bytes ≡ whole_bytes c.0.0 = r.0 ∙ ap (λ (l : List ℕ). command_bytes c.0.0 ++ l) dates in
     subst (λ (found : Command). (bytes ≡ whole_bytes found) × (has_form found ≡ true)) g.1 (parts, r.1)
 
+abbrev made_of : ℕ → Entity → Option (List ℕ) → Command → Stamped
+made_of moment by key command = record { at = moment; by = by; key = key; command = command }
+
+-- what is read behind the key, if the key fits it
+abbrev keyed : ℕ → Entity → Option (List ℕ) → Command → Option Stamped
+keyed moment by key command = cond (key_fits (takes_key command) key) (Some (made_of moment by key command)) None
+
 stamped_takes : TableMakes → (moment : ℕ) (bytes : List ℕ) (stamped : Stamped) → stamped_at moment bytes ≡ Some stamped → IsBehind moment bytes stamped
 unfolding stamped_at
 stamped_takes table moment bytes stamped e =
-    let a = bind_some (entity_at bytes) (λ by. no_key_at by.1 >>= λ behind. whole_command_of behind >>= λ command. Some (record { at = moment; by = by.0; command = command })) stamped e in
-    let k = bind_some (no_key_at a.0.1) (λ behind. whole_command_of behind >>= λ command. Some (record { at = moment; by = a.0.0; command = command })) stamped a.2 in
-    let c = bind_some (whole_command_of k.0) (λ command. Some (record { at = moment; by = a.0.0; command = command })) stamped k.2 in
-    let found : Stamped = record { at = moment; by = a.0.0; command = c.0 } in
+    let a = bind_some (entity_at bytes) (λ by. key_at by.1 >>= λ key. whole_command_of key.1 >>= λ command. keyed moment by.0 key.0 command) stamped e in
+    let k = bind_some (key_at a.0.1) (λ key. whole_command_of key.1 >>= λ command. keyed moment a.0.0 key.0 command) stamped a.2 in
+    let c = bind_some (whole_command_of k.0.1) (λ command. keyed moment a.0.0 k.0.0 command) stamped k.2 in
+    let found : Stamped = made_of moment a.0.0 k.0.0 c.0 in
+    let g = cond_some (key_fits (takes_key c.0) k.0.0) found stamped c.2 in
     let p = entity_exact.takes bytes a.0 a.1 in
-    let r = whole_takes table k.0 c.0 c.1 in
-    let last : a.0.1 ≡ 0 ∷ whole_bytes c.0 = no_key_takes a.0.1 k.0 k.1 ∙ ap (λ (l : List ℕ). 0 ∷ l) r.0 in
-    subst (IsBehind moment bytes) (same_Some found stamped c.2) (record {
+    let q = key_exact.takes a.0.1 k.0 k.1 in
+    let r = whole_takes table k.0.1 c.0 c.1 in
+    let last : a.0.1 ≡ key_bytes k.0.0 ++ whole_bytes c.0 = q.0 ∙ ap (λ (l : List ℕ). key_bytes k.0.0 ++ l) r.0 in
+    subst (IsBehind moment bytes) g.1 (record {
       at_moment = refl;
       parts = p.0 ∙ ap (λ (l : List ℕ). entity_bytes a.0.0 ++ l) last;
       by = p.1;
+      key = g.0;
       form = r.1;
     })
 
@@ -110,7 +117,7 @@ one_payload table bytes stamped e =
     let s = stamped_takes table m.0.0 m.0.1 stamped m.2 in
     let good : is_moment stamped.at ≡ true = ap is_moment s.at_moment ∙ t.1 in
     let whole : bytes ≡ moment_bytes stamped.at ++ behind_bytes stamped = t.0 ∙ ap (λ (l : List ℕ). moment_bytes m.0.0 ++ l) s.parts ∙ ap (λ (n : ℕ). moment_bytes n ++ behind_bytes stamped) (sym s.at_moment) in
-    (sym whole, (good, s.by, s.form))
+    (sym whole, record { moment = good; caller = s.by; key = s.key; command = s.form })
 
 -- bytes are read as nothing only where they are the payload of no writable command
 pub no_payload : TableParts → (bytes : List ℕ) → stamped_of bytes ≡ None → (stamped : Stamped) → IsWritable stamped → payload stamped ≡ bytes → ⊥
@@ -127,6 +134,7 @@ moment_short (Some moment) = lit≤ tt
 set_op_short : (kind : SetOp) → length (field_bytes (field.SetOp kind)) ≤ 1008
 set_op_short Intersection = lit≤ tt
 set_op_short Complement = lit≤ tt
+set_op_short Union = lit≤ tt
 
 inherit_kind_short : (kind : InheritKind) → length (field_bytes (field.InheritKind kind)) ≤ 1008
 inherit_kind_short Folder = lit≤ tt
@@ -201,5 +209,6 @@ pub payload_short : TableParts → (stamped : Stamped) → IsWritable stamped �
 unfolding payload command_bytes fields_bytes has_form
 payload_short table stamped h few =
     let fields = flat_map field_bytes (fields_of stamped.command) in
-    let behind = 0 ∷ code_of stamped.command ∷ (fields ++ dates_left_out stamped.command) in
-    omega (arith, few, entity_short stamped.by h.1, fields_short (fields_of stamped.command) h.2, fields_list stamped.command, (table stamped.command).few, length-append (entity_text stamped.by) behind, length-append fields (dates_left_out stamped.command), dates_short stamped.command)
+    let whole = code_of stamped.command ∷ (fields ++ dates_left_out stamped.command) in
+    let behind = key_bytes stamped.key ++ whole in
+    omega (arith, few, entity_short stamped.by h.caller, key_short stamped.key (writable_key stamped h), fields_short (fields_of stamped.command) h.command, fields_list stamped.command, (table stamped.command).few, length-append (entity_text stamped.by) behind, length-append (key_bytes stamped.key) whole, length-append fields (dates_left_out stamped.command), dates_short stamped.command)

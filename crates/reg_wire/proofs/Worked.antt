@@ -1,9 +1,10 @@
--- Payloads of a load and of a grant worked by hand, byte by byte, in both formats.
-use Rattle.std.proofs.Common.{◌≡◌, ℕ, List, [], ◌∷◌, ◌++◌, codes, refl}
+-- Payloads of a load, of a grant and of a union worked by hand, byte by byte, the first two in both formats.
+use Rattle.std.proofs.Common.{◌≡◌, ℕ, List, [], ◌∷◌, ◌++◌, codes, Some, None, refl}
 use Rattle.reg_base.specs.declared.entity.Entity.TheVariants.{Person, System}
 use Rattle.reg_base.specs.declared.privilege.Privilege.TheVariants.{Create}
-use Rattle.reg_terms.specs.declared.command.Command.TheVariants.{GrantAdd, Load}
+use Rattle.reg_terms.specs.declared.command.Command.TheVariants.{CompositeSet, GrantAdd, Load}
 use Rattle.reg_terms.specs.declared.command.Stamped.{Stamped}
+use Rattle.reg_terms.specs.declared.kinds.SetOp.TheVariants.{Union}
 use Rattle.reg_terms.specs.declared.lists.LoadRow.{LoadRow}
 use Rattle.reg_wire.specs.Payload.{fields_bytes, command_bytes, payload}
 use Rattle.reg_wire.specs.OldPayload.{old_payload}
@@ -16,6 +17,7 @@ load : Stamped
 load = record {
   at = 1756684800000000;
   by = System;
+  key = None;
   command = Load (codes "nightly") (codes "app:x" ∷ []) (row (codes "app:y") (codes "uni/bob") ∷ []) (row (codes "app:x") (codes "uni/ann") ∷ row (codes "app:y") (codes "uni/ann") ∷ []);
 }
 
@@ -50,6 +52,7 @@ grant : Stamped
 grant = record {
   at = 1756684800000000;
   by = System;
+  key = None;
   command = GrantAdd (codes "app") Create (Person (codes "uni/ann"));
 }
 
@@ -65,3 +68,24 @@ grant_written = refl
 grant_in_format_1 : old_payload grant ≡ stamp ++ given
 unfolding old_payload command_bytes fields_bytes grant stamp given
 grant_in_format_1 = refl
+
+-- app:z has who is in app:x or in app:y, by a command that was given under the key r-1
+union : Stamped
+union = record {
+  at = 1756684800000000;
+  by = System;
+  key = Some (codes "r-1");
+  command = CompositeSet (codes "app:z") Union (codes "app:x") (codes "app:y");
+}
+
+-- the key, behind a byte that says that there is one
+keyed : List ℕ
+keyed = 1 ∷ 3 ∷ 0 ∷ codes "r-1"
+
+-- the code, the group, the kind and the two factors
+united : List ℕ
+united = 13 ∷ 5 ∷ 0 ∷ codes "app:z" ++ 3 ∷ 5 ∷ 0 ∷ codes "app:x" ++ 5 ∷ 0 ∷ codes "app:y"
+
+union_written : payload union ≡ stamp ++ keyed ++ united
+unfolding payload command_bytes fields_bytes union stamp keyed united
+union_written = refl

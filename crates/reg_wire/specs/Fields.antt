@@ -14,7 +14,7 @@ use Rattle.reg_terms.specs.declared.kinds.Owners.{Owners}
 use Rattle.reg_terms.specs.declared.kinds.Scope.{Scope}
 use Rattle.reg_terms.specs.declared.kinds.Scope.TheVariants.{One, Sub}
 use Rattle.reg_terms.specs.declared.kinds.SetOp.{SetOp}
-use Rattle.reg_terms.specs.declared.kinds.SetOp.TheVariants.{Intersection, Complement}
+use Rattle.reg_terms.specs.declared.kinds.SetOp.TheVariants.{Intersection, Complement, Union}
 use Rattle.reg_terms.specs.declared.kinds.Value.{Value}
 use Rattle.reg_terms.specs.declared.kinds.Value.TheVariants as value
 use Rattle.reg_terms.specs.declared.lists.LoadRow.{LoadRow}
@@ -46,10 +46,16 @@ abbrev pub optional_moment_bytes : Option ℕ → List ℕ
 optional_moment_bytes None = 0 ∷ []
 optional_moment_bytes (Some moment) = 1 ∷ moment_bytes moment
 
--- 1 for an intersection, 2 for a complement
+-- 0, or 1 and the text
+abbrev pub key_bytes : Option (List ℕ) → List ℕ
+key_bytes None = 0 ∷ []
+key_bytes (Some key) = 1 ∷ text_bytes key
+
+-- 1 for an intersection, 2 for a complement, 3 for a union
 abbrev pub set_op_bytes : SetOp → List ℕ
 set_op_bytes Intersection = 1 ∷ []
 set_op_bytes Complement = 2 ∷ []
+set_op_bytes Union = 3 ∷ []
 
 -- 1 for folders, 2 for groups, 3 for definitions
 abbrev pub inherit_kind_bytes : InheritKind → List ℕ

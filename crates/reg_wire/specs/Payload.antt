@@ -1,4 +1,4 @@
--- The payload of a stamped command in format 2: its moment, who gave it, the byte 0 for no key, its
+-- The payload of a stamped command in format 2: its moment, who gave it, its key if it has one, its
 -- op's code and its fields, one behind the other, and behind those of a grant its two dates.
 use Rattle.std.specs.Prelude.{◌≡◌, ◌≤◌, ◌+◌, ℕ, List, [], ◌∷◌, ◌++◌, true, if◌then◌else◌, length}
 use Rattle.std.specs.Prelude.{Option, Some, None}
@@ -7,13 +7,13 @@ use Rattle.std.specs.Str.{bytes_eq}
 use Rattle.reg_terms.specs.declared.command.Command.{Command}
 use Rattle.reg_terms.specs.declared.command.Command.TheVariants.{GrantAdd, Load}
 use Rattle.reg_terms.specs.declared.command.Stamped.{Stamped}
-use Rattle.reg_ops.specs.Forms.{is_moment, is_entity, has_form}
+use Rattle.reg_ops.specs.Forms.{is_moment, is_entity, has_form, key_fits, takes_key}
 use Rattle.reg_terms.specs.Limits.{max_groups, max_records, max_rows}
 use Rattle.reg_ops.specs.Parts.{◌>>=◌}
 use Rattle.reg_ops.specs.Table.{fields_of, code_of}
-use Rattle.reg_wire.specs.Fields.{entity_text, field_bytes, moment_bytes, optional_moment_bytes}
-use Rattle.reg_wire.specs.Fields.{text_bytes}
-use Rattle.reg_wire.specs.Reading.{entity_at, moment_at, no_key_at, command_of}
+use Rattle.reg_wire.specs.Fields.{entity_text, field_bytes, key_bytes, moment_bytes}
+use Rattle.reg_wire.specs.Fields.{optional_moment_bytes, text_bytes}
+use Rattle.reg_wire.specs.Reading.{entity_at, moment_at, key_at, command_of}
 
 -- the bytes of a command's fields
 unfoldable pub fields_bytes : Command → List ℕ
@@ -33,13 +33,16 @@ dates_left_out _ = []
 unfoldable pub payload : Stamped → List ℕ
 payload stamped =
     moment_bytes stamped.at ++ (text_bytes (entity_text stamped.by)
-    ++ 0 ∷ (command_bytes stamped.command ++ dates_left_out stamped.command))
+    ++ (key_bytes stamped.key
+    ++ (command_bytes stamped.command ++ dates_left_out stamped.command)))
 
--- a stamped command that has a payload: its moment, who gave it and each field have their forms
-abbrev pub IsWritable : Stamped → Type 0
-IsWritable stamped =
-    (is_moment stamped.at ≡ true) × (is_entity stamped.by ≡ true)
-    × (has_form stamped.command ≡ true)
+-- a stamped command that has a payload: its moment, who gave it, its key and each field have their
+-- forms, and no load has a key
+pub record IsWritable (stamped : Stamped) : Type 0 where
+  pub moment : is_moment stamped.at ≡ true
+  pub caller : is_entity stamped.by ≡ true
+  pub key : key_fits (takes_key stamped.command) stamped.key ≡ true
+  pub command : has_form stamped.command ≡ true
 
 -- how many names and rows a load lists
 abbrev pub listed : Command → ℕ
@@ -61,9 +64,10 @@ whole_command_of bytes = do
 unfoldable pub stamped_at : ℕ → List ℕ → Option Stamped
 stamped_at moment bytes = do
   by ← entity_at bytes
-  behind ← no_key_at by.1
-  command ← whole_command_of behind
-  Some (record { at = moment; by = by.0; command = command })
+  key ← key_at by.1
+  command ← whole_command_of key.1
+  if key_fits (takes_key command) key.0
+      then Some (record { at = moment; by = by.0; key = key.0; command = command }) else None
 
 -- the stamped command whose payload the bytes are, if they are one
 unfoldable pub stamped_of : List ℕ → Option Stamped

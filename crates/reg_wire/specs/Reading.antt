@@ -17,7 +17,7 @@ use Rattle.reg_terms.specs.declared.kinds.Owners.{Owners}
 use Rattle.reg_terms.specs.declared.kinds.Scope.{Scope}
 use Rattle.reg_terms.specs.declared.kinds.Scope.TheVariants.{One, Sub}
 use Rattle.reg_terms.specs.declared.kinds.SetOp.{SetOp}
-use Rattle.reg_terms.specs.declared.kinds.SetOp.TheVariants.{Intersection, Complement}
+use Rattle.reg_terms.specs.declared.kinds.SetOp.TheVariants.{Intersection, Complement, Union}
 use Rattle.reg_terms.specs.declared.kinds.Value.{Value}
 use Rattle.reg_terms.specs.declared.kinds.Value.TheVariants as value
 use Rattle.reg_terms.specs.declared.lists.LoadRow.{LoadRow}
@@ -47,17 +47,24 @@ number_at w bytes =
     if nat_le (byte_len w) (length bytes) && list_all is_byte (take (byte_len w) bytes)
     then Some (from_le_bytes w (take (byte_len w) bytes), drop (byte_len w) bytes) else None
 
--- the byte 0: the command has no key
-unfoldable pub no_key_at : List ℕ → Option (List ℕ)
-no_key_at [] = None
-no_key_at (zero ∷ rest) = Some rest
-no_key_at (suc b ∷ rest) = None
-
 -- a text: two bytes of length, and that many bytes
 unfoldable pub text_at : List ℕ → Option (List ℕ × List ℕ)
 text_at bytes = do
   size ← number_at w16 bytes
   if nat_le size.0 (length size.1) then Some (take size.0 size.1, drop size.0 size.1) else None
+
+-- the text of a key, which is an extension
+unfoldable pub key_text_at : List ℕ → Option (Option (List ℕ) × List ℕ)
+key_text_at bytes = do
+  key ← text_at bytes
+  if is_extension key.0 then Some (Some key.0, key.1) else None
+
+-- a key: 0 for none, or 1 and its text
+unfoldable pub key_at : List ℕ → Option (Option (List ℕ) × List ℕ)
+key_at [] = None
+key_at (zero ∷ rest) = Some (None, rest)
+key_at (suc zero ∷ rest) = key_text_at rest
+key_at (suc (suc b) ∷ rest) = None
 
 -- a text that passes a test
 unfoldable pub tested_at : (List ℕ → Bool) → List ℕ → Option (List ℕ × List ℕ)
@@ -121,13 +128,14 @@ optional_moment_at (suc zero ∷ rest) = do
   Some (Some moment.0, moment.1)
 optional_moment_at (suc (suc b) ∷ rest) = None
 
--- the kind of a composite: 1 for an intersection, 2 for a complement
+-- the kind of a composite: 1 for an intersection, 2 for a complement, 3 for a union
 unfoldable pub set_op_at : List ℕ → Option (SetOp × List ℕ)
 set_op_at [] = None
 set_op_at (zero ∷ rest) = None
 set_op_at (suc zero ∷ rest) = Some (Intersection, rest)
 set_op_at (suc (suc zero) ∷ rest) = Some (Complement, rest)
-set_op_at (suc (suc (suc b)) ∷ rest) = None
+set_op_at (suc (suc (suc zero)) ∷ rest) = Some (Union, rest)
+set_op_at (suc (suc (suc (suc b))) ∷ rest) = None
 
 -- the kind of objects that an inherit is for: 1 for folders, 2 for groups, 3 for definitions
 unfoldable pub inherit_kind_at : List ℕ → Option (InheritKind × List ℕ)

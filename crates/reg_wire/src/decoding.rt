@@ -7,13 +7,14 @@ ghost use Rattle.reg_terms.specs.declared.command.Stamped.{Stamped};
 
 use crate::encoding::dates_left_out;
 use crate::fault::ReadFault;
-use crate::fields::{entity_at, moment_at, no_key_at};
+use crate::fields::{entity_at, key_at, moment_at};
 use crate::reading::command_of;
 use reg_base::Moment;
-use reg_ops::law_commands;
+use reg_ops::{key_fits, law_commands, takes_key};
 use reg_terms::{Command, Stamped};
 use std::alloc::{AllocError, Global};
 
+/// The command that the bytes are, all of them.
 #[tactic(auto, unfolding(crate::specs::Payload::whole_command_of))]
 fn whole_command_of(alloc: Global, bytes: &[u8]) -> Result<Command, ReadFault>
     ensures { Gives (λ command. command) result (whole_command_of bytes.now) }
@@ -29,18 +30,30 @@ fn whole_command_of(alloc: Global, bytes: &[u8]) -> Result<Command, ReadFault>
     Ok(command)
 }
 
+/// The stamped command of a moment and what is behind it. A load with a key is none.
 #[tactic(auto, unfolding(crate::specs::Payload::stamped_at))]
 fn stamped_at(alloc: Global, at: Moment, bytes: &[u8]) -> Result<Stamped, ReadFault>
     ensures { Gives (λ stamped. stamped) result (stamped_at at bytes.now) }
 {
     let (by, rest) = entity_at(alloc, bytes)?;
-    let rest = no_key_at(rest)?;
-    match whole_command_of(alloc, rest) {
-        Ok(command) => Ok(Stamped { at, by, command }),
-        Err(fault) => Err(fault),
+    let (key, rest) = key_at(alloc, rest)?;
+    let command = match whole_command_of(alloc, rest) {
+        Ok(found) => found,
+        Err(fault) => return Err(fault),
+    };
+    if !key_fits(takes_key(&command), &key) {
+        drop(command);
+        return Err(ReadFault::Malformed);
     }
+    Ok(Stamped {
+        at,
+        by,
+        key,
+        command,
+    })
 }
 
+/// The stamped command whose payload the bytes are.
 #[tactic(auto, unfolding(crate::specs::Payload::stamped_of))]
 fn stamped_of(alloc: Global, bytes: &[u8]) -> Result<Stamped, ReadFault>
     ensures { Gives (λ stamped. stamped) result (stamped_of bytes.now) }

@@ -3,7 +3,7 @@
 ghost use Rattle.std.specs.Prelude.{◌≡◌};
 ghost use Rattle.std.specs.Int.{w16, w32, w64};
 ghost use Rattle.reg_wire.specs.Steps.{Gives};
-ghost use Rattle.reg_wire.specs.Reading.{byte_at, no_key_at, number_at, text_at};
+ghost use Rattle.reg_wire.specs.Reading.{byte_at, key_at, key_text_at, number_at, text_at};
 ghost use Rattle.reg_wire.specs.Reading.{name_at, folder_at};
 ghost use Rattle.reg_wire.specs.Reading.{extension_at, source_at, person_at, display_at, entity_at};
 ghost use Rattle.reg_wire.specs.Reading.{moment_at, ranged_at, object_at, optional_moment_at};
@@ -21,11 +21,15 @@ use std::alloc::Global;
 
 pub const NO_KEY: u8 = 0;
 
+pub const KEY: u8 = 1;
+
 // how composites are made, one byte each
 
 pub const INTERSECTION: u8 = 1;
 
 pub const COMPLEMENT: u8 = 2;
+
+pub const UNION: u8 = 3;
 
 // the kinds of objects that inherits are for, one byte each
 
@@ -67,17 +71,7 @@ pub fn byte_at(bytes: &[u8]) -> Result<(u8, &[u8]), ReadFault>
     }
 }
 
-/// What stands behind the byte for no key.
-#[tactic(auto, unfolding(crate::specs::Reading::no_key_at))]
-pub fn no_key_at(bytes: &[u8]) -> Result<&[u8], ReadFault>
-    ensures { Gives (λ rest. rest.now) result (no_key_at bytes.now) }
-{
-    match bytes {
-        [NO_KEY, rest @ ..] => Ok(rest),
-        _ => Err(ReadFault::Malformed),
-    }
-}
-
+/// A number of two bytes, the least first.
 #[tactic(auto, unfolding(crate::specs::Reading::number_at))]
 fn u16_at(bytes: &[u8]) -> Result<(u16, &[u8]), ReadFault>
     ensures { Gives (λ x. (x.0, x.1.now)) result (number_at w16 bytes.now) }
@@ -103,6 +97,7 @@ pub fn u32_at(bytes: &[u8]) -> Result<(u32, &[u8]), ReadFault>
     Ok((number, rest))
 }
 
+/// A number of eight bytes, the least first.
 #[tactic(auto, unfolding(crate::specs::Reading::number_at))]
 fn u64_at(bytes: &[u8]) -> Result<(u64, &[u8]), ReadFault>
     ensures { Gives (λ x. (x.0, x.1.now)) result (number_at w64 bytes.now) }
@@ -117,6 +112,7 @@ fn u64_at(bytes: &[u8]) -> Result<(u64, &[u8]), ReadFault>
     Ok((number, rest))
 }
 
+/// A text, behind its length.
 #[tactic(auto, unfolding(crate::specs::Reading::text_at))]
 fn text_at(bytes: &[u8]) -> Result<(&[u8], &[u8]), ReadFault>
     ensures { Gives (λ x. (x.0.now, x.1.now)) result (text_at bytes.now) }
@@ -170,6 +166,34 @@ pub fn extension_at(alloc: Global, bytes: &[u8]) -> Result<(Text, &[u8]), ReadFa
         Some(extension) => Ok((extension, rest)),
         // no extension comes here, since its bytes are ASCII
         None => Err(ReadFault::Malformed),
+    }
+}
+
+/// The text of a key.
+#[tactic(auto, using(crate::proofs::Texts::extension_utf8), unfolding(crate::specs::Reading::key_text_at))]
+fn key_text_at(alloc: Global, bytes: &[u8]) -> Result<(Option<Text>, &[u8]), ReadFault>
+    ensures { Gives (λ x. (x.0, x.1.now)) result (key_text_at bytes.now) }
+{
+    let (text, rest) = text_at(bytes)?;
+    if !is_extension(text) {
+        return Err(ReadFault::Malformed);
+    }
+    match Text::of(alloc, text)? {
+        Some(key) => Ok((Some(key), rest)),
+        // no extension comes here, since its bytes are ASCII
+        None => Err(ReadFault::Malformed),
+    }
+}
+
+/// The key that a command was given under, if there was one.
+#[tactic(auto, unfolding(crate::specs::Reading::key_at))]
+pub fn key_at(alloc: Global, bytes: &[u8]) -> Result<(Option<Text>, &[u8]), ReadFault>
+    ensures { Gives (λ x. (x.0, x.1.now)) result (key_at bytes.now) }
+{
+    match bytes {
+        [NO_KEY, rest @ ..] => Ok((None, rest)),
+        [KEY, rest @ ..] => key_text_at(alloc, rest),
+        _ => Err(ReadFault::Malformed),
     }
 }
 
@@ -297,6 +321,7 @@ pub fn set_op_at(bytes: &[u8]) -> Result<(SetOp, &[u8]), ReadFault>
     match bytes {
         [INTERSECTION, rest @ ..] => Ok((SetOp::Intersection, rest)),
         [COMPLEMENT, rest @ ..] => Ok((SetOp::Complement, rest)),
+        [UNION, rest @ ..] => Ok((SetOp::Union, rest)),
         _ => Err(ReadFault::Malformed),
     }
 }
@@ -338,6 +363,7 @@ pub fn privilege_at(bytes: &[u8]) -> Result<(Privilege, &[u8]), ReadFault>
     }
 }
 
+/// The kinds of owner whose code this is.
 fn owners_of(code: u8) -> Owners
     ensures { result ≡ owners_of code }
 {
@@ -387,6 +413,7 @@ pub fn def_kind_at(bytes: &[u8]) -> Result<(DefKind, &[u8]), ReadFault>
     }
 }
 
+/// A whole number and its sign.
 #[tactic(auto, unfolding(crate::specs::Reading::int_at))]
 fn int_at(bytes: &[u8]) -> Result<(i64, &[u8]), ReadFault>
     ensures { Gives (λ x. (x.0, x.1.now)) result (int_at bytes.now) }

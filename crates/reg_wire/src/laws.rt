@@ -1,9 +1,11 @@
 // What holds of payloads, for crates above to cite: each law is the clause of a function that does
 // nothing.
-ghost use Rattle.std.specs.Prelude.{◌≡◌, ◌<◌, ◌^◌, ℕ, List, Some, length};
+ghost use Rattle.std.specs.Prelude.{◌≡◌, ◌<◌, ◌^◌, ℕ, List, Some, true, length};
+ghost use Rattle.reg_terms.specs.declared.command.Command.{Command};
 ghost use Rattle.reg_terms.specs.declared.command.Stamped.{Stamped};
-ghost use Rattle.reg_wire.specs.Payload.{payload, stamped_of, AreFew, IsWritable};
-ghost use Rattle.reg_wire.specs.OldPayload.{old_payload, stamped_of_old};
+ghost use Rattle.reg_ops.specs.Forms.{has_form};
+ghost use Rattle.reg_wire.specs.Payload.{command_bytes, payload, stamped_of, AreFew, IsWritable};
+ghost use Rattle.reg_wire.specs.OldPayload.{old_payload, stamped_of_old, IsOld};
 
 use reg_ops::law_commands;
 
@@ -15,9 +17,9 @@ pub fn payload_reads_back()
     law_commands();
 }
 
-/// The payload of format 1 of a writable command reads back as that command.
+/// The payload of format 1 of a writable command, where it has one, reads back as that command.
 pub fn old_payload_reads_back()
-    ensures { (stamped : Stamped) → IsWritable stamped
+    ensures { (stamped : Stamped) → IsWritable stamped → IsOld stamped
         → stamped_of_old (old_payload stamped) ≡ Some stamped }
 {
     law_commands();
@@ -35,7 +37,7 @@ pub fn read_is_payload()
 /// is writable.
 pub fn read_is_old_payload()
     ensures { (bytes : List ℕ) (stamped : Stamped) → stamped_of_old bytes ≡ Some stamped
-        → (old_payload stamped ≡ bytes) × IsWritable stamped }
+        → (old_payload stamped ≡ bytes) × IsWritable stamped × IsOld stamped }
 {
     law_commands();
 }
@@ -45,6 +47,14 @@ pub fn read_is_old_payload()
 pub fn payload_is_short()
     ensures { (stamped : Stamped) → IsWritable stamped → AreFew stamped.command
         → length (payload stamped) < 2 ^ 32 }
+{
+    law_commands();
+}
+
+/// Commands whose fields have their forms are equal where their bytes are.
+pub fn same_bytes_same_command()
+    ensures { (a b : Command) → has_form a ≡ true → has_form b ≡ true
+        → command_bytes a ≡ command_bytes b → a ≡ b }
 {
     law_commands();
 }
