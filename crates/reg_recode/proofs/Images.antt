@@ -1,30 +1,13 @@
 -- What a crash may leave of a disk that is filled with recoded payloads.
-use Rattle.std.proofs.Common.{◌≡◌, ◌⊎◌, ℕ, ◌≤◌, List, Option, Some, None, true, Result, refl, inl, inr, ⊎_elim, sym, ◌∙◌, ap, arith}
-use Rattle.std.specs.Prelude.{Ok, Err, IfSome, is_ok, option_map}
-use Rattle.reg_outside.specs.Disk.{Changes, Leaves, Same}
-use Rattle.reg_keep.specs.Frames.{only_payloads, opened_old, payloads_in, payloads_of_records}
+use Rattle.std.proofs.Common.{◌≡◌, ℕ, List, Option, Some, None, Result, inl, inr, ⊎_elim, sym, ◌∙◌, ap}
+use Rattle.std.specs.Prelude.{Ok, IfSome, option_map}
+use Rattle.reg_outside.specs.Disk.{Leaves}
+use Rattle.reg_keep.specs.Frames.{only_payloads, payloads_in, payloads_of_records}
 use Rattle.reg_keep.specs.Begin.{filled_with, WasOrPartly}
 use Rattle.reg_keep.specs.Keeping.{or_none}
-use Rattle.reg_recode.specs.Recoded.{all_recoded, opened_recoded, payloads_recoded, recoded, WasOrRecoded}
+use Rattle.reg_recode.specs.Recoded.{opened_recoded, payloads_recoded, WasOrRecoded}
 
-module _ {D : Type 0} (moment : D → ℕ) (may_leave : D → List ℕ → Type 0)
-    (left_since : D → ℕ → List ℕ → Type 0) where
-  -- nothing was done
-  pub stays : (d : D) → Changes moment may_leave left_since Same d d
-  stays d = record {
-    later = omega arith;
-    leaves = λ c left. (c, left, refl);
-    since = λ t c le left. inl left;
-    keeps = λ t c le left. left;
-  }
-
-  pub stays_leaving : (P : List ℕ → Type 0) (d : D) → ((c : List ℕ) → left_since d (moment d) c → may_leave d c) → ((c : List ℕ) → may_leave d c → P c) → Leaves moment left_since P d d
-  stays_leaving P d only_now here = record {
-    later = omega arith;
-    each = λ c left. here c (only_now c left);
-    since = λ t c le left. inl left;
-  }
-
+module _ {D : Type 0} (moment : D → ℕ) (left_since : D → ℕ → List ℕ → Type 0) where
   -- what is left is more widely said
   pub wider : (P Q : List ℕ → Type 0) (old new : D) → ((c : List ℕ) → P c → Q c) → Leaves moment left_since P old new → Leaves moment left_since Q old new
   wider P Q old new wide all = record {
@@ -32,22 +15,6 @@ module _ {D : Type 0} (moment : D → ℕ) (may_leave : D → List ℕ → Type 
     each = λ c left. wide c (all.each c left);
     since = λ t c le left. ⊎_elim (λ was. inl was) (λ p. inr (wide c p)) (all.since t c le left);
   }
-
-abbrev ok_of : List (ℕ × List ℕ) → Result (List (ℕ × List ℕ)) ℕ
-ok_of l = Ok l
-
-ok_same : (a b : List (ℕ × List ℕ)) → a ≡ b → ok_of a ≡ ok_of b
-ok_same a b is = ap ok_of is
-
--- records of a file that were recoded
-pub told_records : (held : Option (List ℕ)) (old made : List (ℕ × List ℕ)) → IfSome held (λ bytes. opened_old bytes ≡ Ok old) → made ≡ recoded old → IfSome held (λ bytes. opened_recoded bytes ≡ Ok made)
-told_records None old made read is = tt
-told_records (Some bytes) old made read is = ap all_recoded read ∙ ok_same (recoded old) made (sym is)
-
--- what holds anyway holds where the bytes are told
-pub told_anyway : (held : Option (List ℕ)) (Q : List ℕ → Type 0) (P : Type 0) → P → IfSome held (λ bytes. Q bytes → P)
-told_anyway None Q P holds = tt
-told_anyway (Some bytes) Q P holds = λ _. holds
 
 -- a file with the payloads of the records has those of the file that they were read of
 pub has_recoded : (held : Option (List ℕ)) (records : List (ℕ × List ℕ)) (c : List ℕ) → IfSome held (λ bytes. opened_recoded bytes ≡ Ok records) → payloads_in c ≡ Ok (payloads_of_records records) → IfSome held (λ bytes. payloads_in c ≡ payloads_recoded bytes)
@@ -66,12 +33,3 @@ told_recoded (Some bytes) (Some file) records read is = is ∙ sym (ap only_payl
 pub told_written : (held now second : Option (List ℕ)) (records : List (ℕ × List ℕ)) → IfSome held (λ bytes. opened_recoded bytes ≡ Ok records) → now ≡ option_map (filled_with (payloads_of_records records)) second → IfSome held (λ bytes. now ≡ option_map (filled_with (or_none (payloads_recoded bytes))) second)
 told_written None now second records read is = tt
 told_written (Some bytes) now second records read is = is ∙ sym (ap (λ (r : Result (List (ℕ × List ℕ)) ℕ). option_map (filled_with (or_none (only_payloads r))) second) read)
-
--- the file opens
-opens : (r : Result (List (ℕ × List ℕ)) ℕ) (records : List (ℕ × List ℕ)) → all_recoded r ≡ Ok records → is_ok r ≡ true
-opens (Ok old) records is = refl
-opens (Err place) records is = absurd (cc)
-
-pub told_opens : (held : Option (List ℕ)) (records : List (ℕ × List ℕ)) → IfSome held (λ bytes. opened_recoded bytes ≡ Ok records) → IfSome held (λ bytes. is_ok (opened_old bytes) ≡ true)
-told_opens None records read = tt
-told_opens (Some bytes) records read = opens (opened_old bytes) records read

@@ -1,3 +1,3 @@
-mod Shorts
 mod Says
+mod Splices
 mod Images

@@ -32,6 +32,11 @@ opened_recoded file = all_recoded (opened_old file)
 abbrev pub payloads_recoded : List ℕ → Result (List (List ℕ)) ℕ
 payloads_recoded file = only_payloads (opened_recoded file)
 
+-- these are the records of a file of format 1, each with its payload of format 2, where that file is
+-- told
+abbrev pub AreRecoded : Option (List ℕ) → List (ℕ × List ℕ) → Type 0
+AreRecoded held records = IfSome held (λ bytes. opened_recoded bytes ≡ Ok records)
+
 -- an image of before, or a file that is damaged, or opens to no payloads or to those of a file of
 -- format 1, recoded, where that file is told
 abbrev pub WasOrRecoded : (List ℕ → Type 0) → Option (List ℕ) → List ℕ → Type 0

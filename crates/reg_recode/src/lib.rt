@@ -3,15 +3,15 @@
 //! format 1 that is no command's becomes the empty payload, which is no command's in format 2: so
 //! what is damaged stays damaged, at the same place.
 //!
-//! Whether the commands are ones that a registry accepts is not asked here.
+//! `recode_payload` recodes one payload, and gives its command with it, so that a caller judges what
+//! it decodes once. `fill_recoded` puts the records on a disk. Whether the commands are ones that a
+//! registry accepts is not asked here.
 #![tactic(auto)]
 
-mod fault;
 mod files;
 mod laws;
 mod recoding;
 
-pub use fault::RecodeFault;
-pub use files::{read_recoded, write_recoded};
+pub use files::fill_recoded;
 pub use laws::recoded_says_the_same;
-pub use recoding::recode;
+pub use recoding::recode_payload;
