@@ -216,14 +216,14 @@ defined_next history t d by h first =
       new = λ a x. same a ∙ h.new a (subst (λ n. n < a) count x);
     }
 
-pub defined_push : (history : List Stamped) (at : ℕ) (by : Entity) (command : Command) → AllByRecursion (IsBy at) history → AreDefined history at → AllHold at (events_of at by command (facts history at)) (facts history at) → AreDefined (history ++ (record { at = at; by = by; command = command }) ∷ []) at
-defined_push history at by command before h hold =
-    let more = history ++ (record { at = at; by = by; command = command }) ∷ [] in
+pub defined_push : (history : List Stamped) (at : ℕ) (by : Entity) (key : Option (List ℕ)) (command : Command) → AllByRecursion (IsBy at) history → AreDefined history at → AllHold at (events_of at by command (facts history at)) (facts history at) → AreDefined (history ++ (record { at = at; by = by; key = key; command = command }) ∷ []) at
+defined_push history at by key command before h hold =
+    let more = history ++ (record { at = at; by = by; key = key; command = command }) ∷ [] in
     let f = facts history at in
     let es = events_of at by command f in
     let lost = deltas.ended (live at f) (live at (all_happened es f)) in
-    let are : facts more at ≡ acted at by command f = facts_push at by command history before in
-    let same : (a : ℕ) → definition_in a (steps more at) ≡ defined_after a es (definition_in a (steps history at)) = λ a. ap (definition_in a) (steps_push at by command history before) ∙ one_more a (steps history at) (command_step at by command f) in
+    let are : facts more at ≡ acted at by command f = facts_push at by key command history before in
+    let same : (a : ℕ) → definition_in a (steps more at) ≡ defined_after a es (definition_in a (steps history at)) = λ a. ap (definition_in a) (steps_push at by key command history before) ∙ one_more a (steps history at) (command_step at by command f) in
     let after = events_known es f (λ a. definition_in a (steps history at)) (all_suit at es f hold) (now_known history at h) in
     let attributes : (facts more at).attributes ≡ (all_happened es f).attributes = ap (λ (x : Lists). x.attributes) are ∙ settle_attributes lost at (all_happened es f) in
     let count : (facts more at).made.attributes ≡ (all_happened es f).made.attributes = ap (λ (x : Lists). x.made.attributes) are ∙ settle_count lost at (all_happened es f) in
@@ -234,7 +234,7 @@ defined_push history at by command before h hold =
             after.0.has a row (ap (attribute_row a) (sym attributes) ∙ subst (λ n. attribute_row a (facts more n).attributes ≡ Some row) last is)
         | inr n ↦
             let less : v < at = grind (arith, nat_tests, n) in
-            after.1 a row.definition (h.defined v a row (omega (arith, less)) (ap (λ (x : Lists). attribute_row a x.attributes) (sym (facts_earlier history at v by command less)) ∙ is))
+            after.1 a row.definition (h.defined v a row (omega (arith, less)) (ap (λ (x : Lists). attribute_row a x.attributes) (sym (facts_earlier history at v by key command less)) ∙ is))
       ];
       new = λ a x. same a ∙ after.0.new a (subst (λ n. n < a) count x);
     }

@@ -1,5 +1,5 @@
 -- Who was a member of a group at a moment up to the clock is a person that stands.
-use Rattle.std.proofs.Common.{◌≡◌, ◌≤◌, ◌<◌, ◌==◌, ◌&&◌, ◌||◌, ℕ, zero, suc, List, [], ◌∷◌, ◌++◌, Bool, true, false, None, Some, nat_le, arith, refl, sym, ◌∙◌, ap, subst, inl, inr, eqb-true, eq-eqb}
+use Rattle.std.proofs.Common.{◌≡◌, ◌≤◌, ◌<◌, ◌==◌, ◌&&◌, ◌||◌, ℕ, zero, suc, List, Option, [], ◌∷◌, ◌++◌, Bool, true, false, None, Some, nat_le, arith, refl, sym, ◌∙◌, ap, subst, inl, inr, eqb-true, eq-eqb}
 use Rattle.std.proofs.lemmas.Bool.{cases_Bool, and_parts, or_cases, or_left, or_right}
 use Rattle.std.proofs.lemmas.Bool.Decides.{nat_tests}
 use Rattle.std.specs.List.{list_any, AllByRecursion}
@@ -11,7 +11,7 @@ use Rattle.reg_terms.specs.declared.event.Event.TheVariants.{FolderMade, FolderR
 use Rattle.reg_terms.specs.declared.kinds.Member.{Member}
 use Rattle.reg_terms.specs.declared.kinds.Member.TheVariants.{Person, Group}
 use Rattle.reg_terms.specs.declared.kinds.SetOp.{SetOp}
-use Rattle.reg_terms.specs.declared.kinds.SetOp.TheVariants.{Intersection, Complement}
+use Rattle.reg_terms.specs.declared.kinds.SetOp.TheVariants.{Intersection, Complement, Union}
 use Rattle.reg_terms.specs.declared.rows.CompositeRow.{CompositeRow}
 use Rattle.reg_terms.specs.declared.rows.MemberRow.{MemberRow}
 use Rattle.reg_terms.specs.declared.rows.SubjectRow.{SubjectRow}
@@ -55,16 +55,19 @@ rows_named M g s (row ∷ rows) all below here h = elim (or_cases ((row.0 == g) 
   | inr more ↦ rows_named M g s rows all below (λ e. here (or_right (same_member (Person s) row.1) (names_person s rows) e)) more
 ]
 
-combined : (op : SetOp) (a b : Bool) → combine op a b ≡ true → a ≡ true
-combined Intersection true b h = refl
-combined Intersection false b h = cc
-combined Complement true b h = refl
-combined Complement false b h = cc
+-- who a composite has is in one of its factors
+combined : (op : SetOp) (a b all : Bool) → (a ≡ true → all ≡ true) → (b ≡ true → all ≡ true) → combine op a b ≡ true → all ≡ true
+combined Intersection true b all left right h = left refl
+combined Intersection false b all left right h = cc
+combined Complement true b all left right h = left refl
+combined Complement false b all left right h = cc
+combined Union true b all left right h = left refl
+combined Union false b all left right h = right h
 
 factors_named : (M : ℕ → Bool) (g : ℕ) (cs : List CompositeRow) (all : Bool) → ((h : ℕ) → M h ≡ true → all ≡ true) → in_factors M cs g ≡ true → all ≡ true
 factors_named M g [] all below h = cc
 factors_named M g (c ∷ cs) all below h = elim (or_cases ((c.group == g) && combine c.op (M c.left) (M c.right)) (in_factors M cs g) h) [
-  | inl one ↦ below c.left (combined c.op (M c.left) (M c.right) (and_parts (c.group == g) (combine c.op (M c.left) (M c.right)) one).1)
+  | inl one ↦ combined c.op (M c.left) (M c.right) all (below c.left) (below c.right) (and_parts (c.group == g) (combine c.op (M c.left) (M c.right)) one).1
   | inr more ↦ factors_named M g cs all below more
 ]
 
@@ -203,17 +206,17 @@ known_next history t d by h first sound v g s x was = elim (cases_Bool (nat_le d
 ]
 
 -- a command more
-pub known_push : (history : List Stamped) (at : ℕ) (by : Entity) (command : Command) → AllByRecursion (IsBy at) history → AreKnown history at
-    → IsSound (facts (history ++ (record { at = at; by = by; command = command }) ∷ []) at) → AreKnown (history ++ (record { at = at; by = by; command = command }) ∷ []) at
-known_push history at by command are h sound v g s x was = elim (cases_Bool (nat_le at v)) [
+pub known_push : (history : List Stamped) (at : ℕ) (by : Entity) (key : Option (List ℕ)) (command : Command) → AllByRecursion (IsBy at) history → AreKnown history at
+    → IsSound (facts (history ++ (record { at = at; by = by; key = key; command = command }) ∷ []) at) → AreKnown (history ++ (record { at = at; by = by; key = key; command = command }) ∷ []) at
+known_push history at by key command are h sound v g s x was = elim (cases_Bool (nat_le at v)) [
   | inl y ↦
       let same : v ≡ at = grind (arith, nat_tests, y, x) in
-      known_at at g s (facts (history ++ (record { at = at; by = by; command = command }) ∷ []) at) sound (rw same at was)
+      known_at at g s (facts (history ++ (record { at = at; by = by; key = key; command = command }) ∷ []) at) sound (rw same at was)
   | inr n ↦
       let less : v < at = grind (arith, nat_tests, n) in
       let f : Lists = facts history at in
-      let kept : (facts (history ++ (record { at = at; by = by; command = command }) ∷ []) at).subjects ≡ (edit at by command f).subjects = ap (λ (k : Lists). k.subjects) (facts_push at by command history are) ∙ acted_subjects at by command f in
-      subst (λ ss. has_subject s ss ≡ true) (sym kept) (all_stay (events_of at by command f) f s (h v g s (omega (arith, less)) (subst (λ (k : Lists). member (live v k) g s ≡ true) (facts_earlier history at v by command less) was)))
+      let kept : (facts (history ++ (record { at = at; by = by; key = key; command = command }) ∷ []) at).subjects ≡ (edit at by command f).subjects = ap (λ (k : Lists). k.subjects) (facts_push at by key command history are) ∙ acted_subjects at by command f in
+      subst (λ ss. has_subject s ss ≡ true) (sym kept) (all_stay (events_of at by command f) f s (h v g s (omega (arith, less)) (subst (λ (k : Lists). member (live v k) g s ≡ true) (facts_earlier history at v by key command less) was)))
 ]
 
 pub known_start : AreKnown [] 0

@@ -1,10 +1,13 @@
--- A legal history stays legal with a command more that isn't refused.
-use Rattle.std.proofs.Common.{◌≡◌, ◌∙◌, List, [], ◌∷◌, ◌++◌, None, ap, inl, inr, refl, sym}
+-- A legal history stays legal with a command more that isn't refused, whose key its caller hasn't used.
+use Rattle.std.proofs.Common.{◌≡◌, ◌∙◌, ℕ, List, Option, [], ◌∷◌, ◌++◌, true, None, ap, ap₂, inl, inr, refl, sym}
 use Rattle.std.specs.Prelude.{◌⊎◌}
 use Rattle.std.specs.List.{AllByRecursion}
 use Rattle.reg_terms.specs.declared.command.Stamped.{Stamped}
+use Rattle.reg_ops.specs.Forms.{key_fits, takes_key}
 use Rattle.reg_machine.specs.Refusals.{refusal}
 use Rattle.reg_machine.specs.Invariant.{IsBy, IsLegal}
+use Rattle.reg_machine.specs.Keys.{KeysOnce, is_free}
+use Rattle.reg_machine.proofs.Keying.{free_unused}
 
 -- a list is not empty where something stands in it
 pub not_empty : {A : Type 0} (ys zs : List A) (y : A) → [] ≡ ys ++ y ∷ zs → ⊥
@@ -24,8 +27,17 @@ last_or_before (w ∷ xs) (v ∷ ys) zs x y e =
       | inr before ↦ inr (before.0, ap (λ u. u ∷ xs) same ∙ ap (λ us. v ∷ us) before.1)
     ]
 
-pub legal_push : (history : List Stamped) (s : Stamped) → IsLegal history → refusal history s.at s.by s.command ≡ None → AllByRecursion (IsBy s.at) history → IsLegal (history ++ s ∷ [])
-legal_push history s h allowed by = record {
+-- a command under a key that its caller hasn't used
+keys_push : (history : List Stamped) (s : Stamped) → KeysOnce history → is_free history s.by s.key ≡ true → KeysOnce (history ++ s ∷ [])
+keys_push history s once free before after x key e is = elim (last_or_before history before after s x e) [
+  | inl here ↦
+      let now : is_free before x.by x.key ≡ true = ap₂ (λ (h : List Stamped) (y : Stamped). is_free h y.by y.key) here.0 here.1 ∙ free in
+      free_unused before x.by key (ap (λ (k : Option (List ℕ)). is_free before x.by k) (sym is) ∙ now)
+  | inr there ↦ once before there.0 x key there.1 is
+]
+
+pub legal_push : (history : List Stamped) (s : Stamped) → IsLegal history → refusal history s.at s.by s.command ≡ None → AllByRecursion (IsBy s.at) history → is_free history s.by s.key ≡ true → key_fits (takes_key s.command) s.key ≡ true → IsLegal (history ++ s ∷ [])
+legal_push history s h allowed by free fits = record {
   allowed = λ before after x e. elim (last_or_before history before after s x e) [
     | inl here ↦ rw (here.0, here.1) allowed
     | inr there ↦ h.allowed before there.0 x there.1
@@ -33,5 +45,10 @@ legal_push history s h allowed by = record {
   ascending = λ before after x e. elim (last_or_before history before after s x e) [
     | inl here ↦ rw (here.0, here.1) by
     | inr there ↦ h.ascending before there.0 x there.1
+  ];
+  keys = keys_push history s h.keys free;
+  fits = λ before after x e. elim (last_or_before history before after s x e) [
+    | inl here ↦ ap (λ (y : Stamped). key_fits (takes_key y.command) y.key) here.1 ∙ fits
+    | inr there ↦ h.fits before there.0 x there.1
   ];
 }

@@ -78,11 +78,11 @@ later_steps t u (s ∷ ss) w h = let first = h.0 in (omega (arith, first, w), la
 -- ---- the facts earlier
 
 -- a command changes no earlier facts
-pub facts_earlier : (history : List Stamped) (at t : ℕ) (by : Entity) (command : Command) → t < at → facts (history ++ (record { at = at; by = by; command = command }) ∷ []) t ≡ facts history t
+pub facts_earlier : (history : List Stamped) (at t : ℕ) (by : Entity) (key : Option (List ℕ)) (command : Command) → t < at → facts (history ++ (record { at = at; by = by; key = key; command = command }) ∷ []) t ≡ facts history t
 unfolding facts
-facts_earlier history at t by command w =
+facts_earlier history at t by key command w =
     let none : nat_le at t ≡ false = grind (arith, nat_tests) in
-    let same : up_to t (history ++ (record { at = at; by = by; command = command }) ∷ []) ≡ up_to t history = filter-append (λ (s : Stamped). nat_le s.at t) history ((record { at = at; by = by; command = command }) ∷ []) ∙ rw none (append-nil (up_to t history)) in
+    let same : up_to t (history ++ (record { at = at; by = by; key = key; command = command }) ∷ []) ≡ up_to t history = filter-append (λ (s : Stamped). nat_le s.at t) history ((record { at = at; by = by; key = key; command = command }) ∷ []) ∙ rw none (append-nil (up_to t history)) in
     ap (λ ss. facts_after 0 ss t the_facts.start) same
 
 none_up_to : (c t : ℕ) (history : List Stamped) → AllByRecursion (IsFrom c) history → t < c → up_to t history ≡ []
@@ -173,27 +173,27 @@ lived_next history t d by h first =
 
 -- ---- a command more
 
-pub lived_push : (history : List Stamped) (at : ℕ) (by : Entity) (command : Command) → AllByRecursion (IsBy at) history → AreLived history at → AreLived (history ++ (record { at = at; by = by; command = command }) ∷ []) at
-lived_push history at by command are h =
-    let more = steps_push at by command history are in
+pub lived_push : (history : List Stamped) (at : ℕ) (by : Entity) (key : Option (List ℕ)) (command : Command) → AllByRecursion (IsBy at) history → AreLived history at → AreLived (history ++ (record { at = at; by = by; key = key; command = command }) ∷ []) at
+lived_push history at by key command are h =
+    let more = steps_push at by key command history are in
     let step = command_step at by command (facts history at) in
     record {
       by = rw more (all_push (IsStepBy at) (steps history at) step h.by (omega arith));
       lived = λ v g s x. rw (more, live_push v (steps history at) step) (elim (cases_Bool (nat_le at v)) [
         | inl y ↦
             let same : v ≡ at = grind (arith, nat_tests, y, x) in
-            rw (y, same) (ap (λ (f : Lists). member (live at f) g s) (sym (facts_push at by command history are)))
+            rw (y, same) (ap (λ (f : Lists). member (live at f) g s) (sym (facts_push at by key command history are)))
         | inr n ↦
             let less : v < at = grind (arith, nat_tests, n) in
-            rw n (h.lived v g s (omega (arith, less)) ∙ ap (λ (f : Lists). member (live v f) g s) (sym (facts_earlier history at v by command less)))
+            rw n (h.lived v g s (omega (arith, less)) ∙ ap (λ (f : Lists). member (live v f) g s) (sym (facts_earlier history at v by key command less)))
       ]);
       left = λ v x. rw (more, facts_more v (steps history at) step) (elim (cases_Bool (nat_le at v)) [
         | inl y ↦
             let same : v ≡ at = grind (arith, nat_tests, y, x) in
-            rw (y, same) (sym (facts_push at by command history are))
+            rw (y, same) (sym (facts_push at by key command history are))
         | inr n ↦
             let less : v < at = grind (arith, nat_tests, n) in
-            rw n (h.left v (omega (arith, less)) ∙ sym (facts_earlier history at v by command less))
+            rw n (h.left v (omega (arith, less)) ∙ sym (facts_earlier history at v by key command less))
       ]);
     }
 

@@ -1,5 +1,5 @@
 -- The machine stays in step and records its steps: with a date that comes, with a later clock, and with a command.
-use Rattle.std.proofs.Common.{◌≡◌, ◌≤◌, ◌++◌, ◌∷◌, [], ℕ, List, map, None, Some, arith, refl, sym, ◌∙◌, ap, subst}
+use Rattle.std.proofs.Common.{◌≡◌, ◌≤◌, ◌++◌, ◌∷◌, [], ℕ, List, Option, true, map, None, Some, arith, refl, sym, ◌∙◌, ap, subst}
 use Rattle.reg_base.specs.declared.entity.Entity.{Entity}
 use Rattle.reg_terms.specs.declared.command.Stamped.{Stamped}
 use Rattle.reg_terms.specs.declared.command.Command.{Command}
@@ -17,6 +17,7 @@ use Rattle.reg_effect.specs.declared.live.Live.{Live}
 use Rattle.reg_effect.specs.Member.{member}
 use Rattle.reg_priv.specs.Grants.{grants}
 use Rattle.reg_priv.proofs.Untouched.{stays}
+use Rattle.reg_ops.specs.Forms.{key_fits, takes_key}
 use Rattle.reg_audit.specs.Assigning.{AllMakeNew, MakesNew}
 use Rattle.reg_audit.specs.Audit.{IsAudit}
 use Rattle.reg_audit.specs.Steps.{Step, FollowsOn, left_by}
@@ -28,6 +29,7 @@ use Rattle.reg_current.specs.Holding.{AllHold}
 use Rattle.reg_current.specs.Invariant.{Now}
 use Rattle.reg_machine.specs.Invariant.{IsInStep}
 use Rattle.reg_current.specs.Live.{live}
+use Rattle.reg_machine.specs.Keys.{is_free}
 use Rattle.reg_machine.specs.Past.{AreKnown, AreLived, command_step, date_step, steps}
 use Rattle.reg_machine.specs.Recording.{IsRecorded, Recording, Records, carried_step, settled_after}
 use Rattle.reg_machine.specs.Refusals.{refusal}
@@ -135,11 +137,11 @@ known_then history d r new h is there stands sound =
     let here : new.now.facts ≡ facts history d = stands.facts ∙ ap (facts history) clock in
     rw clock (known_next history r.now.clock d h.in_step.by h.known there (rw here at sound))
 
-known_more : (history : List Stamped) (by : Entity) (c : Command) (r new : Recording) → IsRecorded history r → new.now.clock ≡ r.now.clock → IsInStep (history ++ (record { at = r.now.clock; by = by; command = c }) ∷ []) new.now
-    → IsSound new.now.facts → AreKnown (history ++ (record { at = r.now.clock; by = by; command = c }) ∷ []) new.now.clock
-known_more history by c r new h clock stands sound =
-    let here : new.now.facts ≡ facts (history ++ (record { at = r.now.clock; by = by; command = c }) ∷ []) r.now.clock = stands.facts ∙ ap (facts (history ++ (record { at = r.now.clock; by = by; command = c }) ∷ [])) clock in
-    rw clock (known_push history r.now.clock by c h.in_step.by h.known (rw here at sound))
+known_more : (history : List Stamped) (by : Entity) (key : Option (List ℕ)) (c : Command) (r new : Recording) → IsRecorded history r → new.now.clock ≡ r.now.clock → IsInStep (history ++ (record { at = r.now.clock; by = by; key = key; command = c }) ∷ []) new.now
+    → IsSound new.now.facts → AreKnown (history ++ (record { at = r.now.clock; by = by; key = key; command = c }) ∷ []) new.now.clock
+known_more history by key c r new h clock stands sound =
+    let here : new.now.facts ≡ facts (history ++ (record { at = r.now.clock; by = by; key = key; command = c }) ∷ []) r.now.clock = stands.facts ∙ ap (facts (history ++ (record { at = r.now.clock; by = by; key = key; command = c }) ∷ [])) clock in
+    rw clock (known_push history r.now.clock by key c h.in_step.by h.known (rw here at sound))
 
 stood_then : (history : List Stamped) (d : ℕ) (r new : Recording) → IsRecorded history r → new.now ≡ record { clock = d; facts = date_passed r.now.clock d r.now.facts } → due r.now.clock d (facts history r.now.clock).rows ≡ Some d → IsInStep history new.now → IsSound new.now.facts → AreStood history new.now.clock
 stood_then history d r new h is there stands sound =
@@ -147,12 +149,12 @@ stood_then history d r new h is there stands sound =
     let here : new.now.facts ≡ facts history d = stands.facts ∙ ap (facts history) clock in
     rw clock (stood_next history r.now.clock d h.in_step.by h.stood there (rw here at sound))
 
-stood_more : (history : List Stamped) (by : Entity) (c : Command) (r new : Recording) (es : List Event) → IsRecorded history r → new.now.clock ≡ r.now.clock → IsInStep (history ++ (record { at = r.now.clock; by = by; command = c }) ∷ []) new.now
-    → es ≡ events_of r.now.clock by c r.now.facts → AllHold r.now.clock es r.now.facts → IsSound new.now.facts → AreStood (history ++ (record { at = r.now.clock; by = by; command = c }) ∷ []) new.now.clock
-stood_more history by c r new es h clock stands are hold sound =
-    let here : new.now.facts ≡ facts (history ++ (record { at = r.now.clock; by = by; command = c }) ∷ []) r.now.clock = stands.facts ∙ ap (facts (history ++ (record { at = r.now.clock; by = by; command = c }) ∷ [])) clock in
+stood_more : (history : List Stamped) (by : Entity) (key : Option (List ℕ)) (c : Command) (r new : Recording) (es : List Event) → IsRecorded history r → new.now.clock ≡ r.now.clock → IsInStep (history ++ (record { at = r.now.clock; by = by; key = key; command = c }) ∷ []) new.now
+    → es ≡ events_of r.now.clock by c r.now.facts → AllHold r.now.clock es r.now.facts → IsSound new.now.facts → AreStood (history ++ (record { at = r.now.clock; by = by; key = key; command = c }) ∷ []) new.now.clock
+stood_more history by key c r new es h clock stands are hold sound =
+    let here : new.now.facts ≡ facts (history ++ (record { at = r.now.clock; by = by; key = key; command = c }) ∷ []) r.now.clock = stands.facts ∙ ap (facts (history ++ (record { at = r.now.clock; by = by; key = key; command = c }) ∷ [])) clock in
     let held = subst (λ (f : Lists). AllHold r.now.clock (events_of r.now.clock by c f) f) h.in_step.facts (subst (λ (xs : List Event). AllHold r.now.clock xs r.now.facts) are hold) in
-    rw clock (stood_push history r.now.clock by c h.in_step.by h.stood held (rw here at sound))
+    rw clock (stood_push history r.now.clock by key c h.in_step.by h.stood held (rw here at sound))
 
 -- a date that comes next
 pub next_recorded : (history : List Stamped) (d : ℕ) (r new : Recording) → IsRecorded history r → due r.now.clock d r.now.facts.rows ≡ Some d → new.now ≡ record { clock = d; facts = date_passed r.now.clock d r.now.facts } → Records r.audit new.audit (date_step r.now.clock d r.now.facts)
@@ -188,24 +190,24 @@ later_recorded history u r new h later none is same =
     }
 
 -- a command more
-pub command_recorded : (history : List Stamped) (by : Entity) (c : Command) (r new : Recording) (es : List Event) → IsRecorded history r → refusal history r.now.clock by c ≡ None → es ≡ events_of r.now.clock by c r.now.facts → AllHold r.now.clock es r.now.facts → new.now ≡ record { clock = r.now.clock; facts = settled_after r.now es } → Records r.audit new.audit (carried_step r.now es)
-    → IsSound new.now.facts → IsRecorded (history ++ (record { at = r.now.clock; by = by; command = c }) ∷ []) new
-command_recorded history by c r new es h allowed are hold is records sound =
-    let stands = command_in_step history by c r.now new.now es h.in_step allowed are is in
+pub command_recorded : (history : List Stamped) (by : Entity) (key : Option (List ℕ)) (c : Command) (r new : Recording) (es : List Event) → IsRecorded history r → refusal history r.now.clock by c ≡ None → is_free history by key ≡ true → key_fits (takes_key c) key ≡ true → es ≡ events_of r.now.clock by c r.now.facts → AllHold r.now.clock es r.now.facts → new.now ≡ record { clock = r.now.clock; facts = settled_after r.now es } → Records r.audit new.audit (carried_step r.now es)
+    → IsSound new.now.facts → IsRecorded (history ++ (record { at = r.now.clock; by = by; key = key; command = c }) ∷ []) new
+command_recorded history by key c r new es h allowed free fits are hold is records sound =
+    let stands = command_in_step history by key c r.now new.now es h.in_step allowed free fits are is in
     let step = carried_step r.now es in
     let more = records (steps history r.now.clock) h.audit (carried_follows history r es h hold) in
     let same : step ≡ command_step r.now.clock by c r.now.facts = ap (carried_step r.now) are in
-    let led : steps history r.now.clock ++ step ∷ [] ≡ steps (history ++ (record { at = r.now.clock; by = by; command = c }) ∷ []) r.now.clock =
+    let led : steps history r.now.clock ++ step ∷ [] ≡ steps (history ++ (record { at = r.now.clock; by = by; key = key; command = c }) ∷ []) r.now.clock =
     ap (λ (x : Step). steps history r.now.clock ++ x ∷ []) same
     ∙ (ap (λ (f : Lists). steps history r.now.clock ++ command_step r.now.clock by c f ∷ []) h.in_step.facts
-    ∙ sym (steps_push r.now.clock by c history h.in_step.by)) in
+    ∙ sym (steps_push r.now.clock by key c history h.in_step.by)) in
     record {
       in_step = stands;
       audit = rw is (subst (λ ss. IsAudit ss new.audit) led more);
-      lived = rw is (lived_push history r.now.clock by c h.in_step.by h.lived);
-      known = known_more history by c r new h (ap (λ (n : Now). n.clock) is) stands sound;
-      stood = stood_more history by c r new es h (ap (λ (n : Now). n.clock) is) stands are hold sound;
-      defined = rw is (defined_push history r.now.clock by c h.in_step.by h.defined (subst (λ (f : Lists). AllHold r.now.clock (events_of r.now.clock by c f) f) h.in_step.facts (subst (λ (xs : List Event). AllHold r.now.clock xs r.now.facts) are hold)));
+      lived = rw is (lived_push history r.now.clock by key c h.in_step.by h.lived);
+      known = known_more history by key c r new h (ap (λ (n : Now). n.clock) is) stands sound;
+      stood = stood_more history by key c r new es h (ap (λ (n : Now). n.clock) is) stands are hold sound;
+      defined = rw is (defined_push history r.now.clock by key c h.in_step.by h.defined (subst (λ (f : Lists). AllHold r.now.clock (events_of r.now.clock by c f) f) h.in_step.facts (subst (λ (xs : List Event). AllHold r.now.clock xs r.now.facts) are hold)));
       formed = rw is (carried_formed r.now es (all_suit r.now.clock es r.now.facts hold) h.formed);
     }
 

@@ -1,5 +1,5 @@
 -- The steps of a history as the clock comes to the next date, as it comes later, and after one command more.
-use Rattle.std.proofs.Common.{◌≡◌, ◌≤◌, ◌*◌, ℕ, zero, suc, List, [], ◌∷◌, ◌++◌, length, map, Some, None, arith, refl, sym, ◌∙◌, ap, inl, inr}
+use Rattle.std.proofs.Common.{◌≡◌, ◌≤◌, ◌*◌, ℕ, zero, suc, List, Option, [], ◌∷◌, ◌++◌, length, map, Some, None, arith, refl, sym, ◌∙◌, ap, inl, inr}
 use Rattle.std.proofs.lemmas.List.{append_assoc, append-nil}
 use Rattle.std.specs.List.{AllByRecursion}
 use Rattle.reg_base.specs.declared.entity.Entity.{Entity}
@@ -138,22 +138,22 @@ steps_next t u d history h e =
     let none = passed_none d d (date_passed t d (facts history t)) (due_nowhere d (date_passed t d (facts history t)).rows) in
     steps_later t d history h (omega arith) ∙ ap (λ more. steps history t ++ more) (here ∙ ap (λ rest. date_step t d (facts history t) ∷ rest) none)
 
-after_push : (a at : ℕ) (by : Entity) (command : Command) (ss : List Stamped) (f : Lists) → steps_after a (ss ++ (record { at = at; by = by; command = command }) ∷ []) at f ≡ steps_after a ss at f ++ command_step at by command (facts_after a ss at f) ∷ []
-after_push a at by command [] f =
+after_push : (a at : ℕ) (by : Entity) (key : Option (List ℕ)) (command : Command) (ss : List Stamped) (f : Lists) → steps_after a (ss ++ (record { at = at; by = by; key = key; command = command }) ∷ []) at f ≡ steps_after a ss at f ++ command_step at by command (facts_after a ss at f) ∷ []
+after_push a at by key command [] f =
     let next = acted at by command (pass a at f) in
     ap (λ rest. dates_passed a at f ++ (command_step at by command (pass a at f) ∷ rest)) (passed_none at at next (due_nowhere at next.rows))
-after_push a at by command (s ∷ ss) f =
+after_push a at by key command (s ∷ ss) f =
     let front = dates_passed a s.at f in
     let mid = command_step s.at s.by s.command (pass a s.at f) in
     let next = acted s.at s.by s.command (pass a s.at f) in
-    ap (λ rest. front ++ (mid ∷ rest)) (after_push s.at at by command ss next)
+    ap (λ rest. front ++ (mid ∷ rest)) (after_push s.at at by key command ss next)
     ∙ sym (append_assoc front (mid ∷ steps_after s.at ss at next) (command_step at by command (facts_after s.at ss at next) ∷ []))
 
 -- and so is a command
-pub steps_push : (at : ℕ) (by : Entity) (command : Command) (history : List Stamped) → AllByRecursion (IsBy at) history → steps (history ++ (record { at = at; by = by; command = command }) ∷ []) at ≡ steps history at ++ command_step at by command (facts history at) ∷ []
-steps_push at by command history h =
-    steps_of at (history ++ (record { at = at; by = by; command = command }) ∷ []) (by_more at by command history h)
-    ∙ (after_push 0 at by command history the_facts.start
+pub steps_push : (at : ℕ) (by : Entity) (key : Option (List ℕ)) (command : Command) (history : List Stamped) → AllByRecursion (IsBy at) history → steps (history ++ (record { at = at; by = by; key = key; command = command }) ∷ []) at ≡ steps history at ++ command_step at by command (facts history at) ∷ []
+steps_push at by key command history h =
+    steps_of at (history ++ (record { at = at; by = by; key = key; command = command }) ∷ []) (by_more at by key command history h)
+    ∙ (after_push 0 at by key command history the_facts.start
     ∙ (ap (λ front. front ++ command_step at by command (facts_after 0 history at the_facts.start) ∷ []) (sym (steps_of at history h)) ∙ ap (λ (f : Lists). steps history at ++ command_step at by command f ∷ []) (sym (facts_of at history h))))
 
 -- nothing has happened yet

@@ -1,5 +1,5 @@
 -- At each moment up to the clock the facts are sound, and an object stands exactly where it lives by the steps.
-use Rattle.std.proofs.Common.{◌≡◌, ◌≤◌, ◌<◌, ◌==◌, ℕ, List, [], ◌∷◌, ◌++◌, true, false, None, Some, nat_le, nat_lt, map, arith, refl, sym, ◌∙◌, ap, subst, inl, inr}
+use Rattle.std.proofs.Common.{◌≡◌, ◌≤◌, ◌<◌, ◌==◌, ℕ, List, Option, [], ◌∷◌, ◌++◌, true, false, None, Some, nat_le, nat_lt, map, arith, refl, sym, ◌∙◌, ap, subst, inl, inr}
 use Rattle.std.proofs.lemmas.Bool.{cases_Bool}
 use Rattle.std.proofs.lemmas.Bool.Decides.{nat_tests}
 use Rattle.std.specs.List.{AllByRecursion}
@@ -170,15 +170,15 @@ command_life : (at : ℕ) (by : Entity) (command : Command) (f : Lists) (o : Obj
 unfolding life_of
 command_life at by command f o ss = life_more o ss (command_step at by command f) (first_life o)
 
-pub stood_push : (history : List Stamped) (at : ℕ) (by : Entity) (command : Command) → AllByRecursion (IsBy at) history → AreStood history at → AllHold at (events_of at by command (facts history at)) (facts history at)
-    → IsSound (facts (history ++ (record { at = at; by = by; command = command }) ∷ []) at) → AreStood (history ++ (record { at = at; by = by; command = command }) ∷ []) at
-stood_push history at by command before h hold sound =
-    let more = history ++ (record { at = at; by = by; command = command }) ∷ [] in
+pub stood_push : (history : List Stamped) (at : ℕ) (by : Entity) (key : Option (List ℕ)) (command : Command) → AllByRecursion (IsBy at) history → AreStood history at → AllHold at (events_of at by command (facts history at)) (facts history at)
+    → IsSound (facts (history ++ (record { at = at; by = by; key = key; command = command }) ∷ []) at) → AreStood (history ++ (record { at = at; by = by; key = key; command = command }) ∷ []) at
+stood_push history at by key command before h hold sound =
+    let more = history ++ (record { at = at; by = by; key = key; command = command }) ∷ [] in
     let f = facts history at in
     let es = events_of at by command f in
-    let are : facts more at ≡ acted at by command f = facts_push at by command history before in
+    let are : facts more at ≡ acted at by command f = facts_push at by key command history before in
     let lost = deltas.ended (live at f) (live at (all_happened es f)) in
-    let life : (o : Object) → life_of o (steps more at) ≡ step_life at es o (life_of o (steps history at)) = λ o. ap (life_of o) (steps_push at by command history before) ∙ command_life at by command f o (steps history at) in
+    let life : (o : Object) → life_of o (steps more at) ≡ step_life at es o (life_of o (steps history at)) = λ o. ap (life_of o) (steps_push at by key command history before) ∙ command_life at by command f o (steps history at) in
     let after = λ (o : Object). events_lived at es f o (life_of o (steps history at)) (h.sound at (omega arith)) (all_suit at es f hold) (h.lived o) in
     let lived : (o : Object) → IsLived at (facts more at) o (life_of o (steps more at)) = λ o. rw (are, life o) (lived_on at at (all_happened es f) (settle lost at (all_happened es f)) o (step_life at es o (life_of o (steps history at))) (omega arith) (settle_stands lost at (all_happened es f) o) (settle_made lost at (all_happened es f) o) (after o).0) in
     record {
@@ -188,7 +188,7 @@ stood_push history at by command before h hold sound =
             rw same sound
         | inr n ↦
             let less : v < at = grind (arith, nat_tests, n) in
-            subst IsSound (sym (facts_earlier history at v by command less)) (h.sound v (omega (arith, less)))
+            subst IsSound (sym (facts_earlier history at v by key command less)) (h.sound v (omega (arith, less)))
       ];
       lived = lived;
       stood = λ o v x. elim (cases_Bool (nat_le at v)) [
@@ -197,7 +197,7 @@ stood_push history at by command before h hold sound =
             rw same (lived o).now
         | inr n ↦
             let less : v < at = grind (arith, nat_tests, n) in
-            rw (life o) (ap (stands o) (facts_earlier history at v by command less) ∙ (h.stood o v (omega (arith, less)) ∙ sym ((after o).1 v less)))
+            rw (life o) (ap (stands o) (facts_earlier history at v by key command less) ∙ (h.stood o v (omega (arith, less)) ∙ sym ((after o).1 v less)))
       ];
     }
 

@@ -55,12 +55,12 @@ no_rule : (found : Option ℕ) → is_some found ≡ false → found ≡ None
 no_rule None h = refl
 no_rule (Some rule) h = absurd (let clash : ⊥ = cc in clash)
 
-pub added_where_let : (history before after : List Stamped) (at : ℕ) (by : Entity) (group : List ℕ) (who : Entity) (from until : Option ℕ) (s : ℕ) → IsLegal history → history ≡ before ++ (record { at = at; by = by; command = MemberAdd group who from until }) ∷ after
+pub added_where_let : (history before after : List Stamped) (at : ℕ) (by : Entity) (key : Option (List ℕ)) (group : List ℕ) (who : Entity) (from until : Option ℕ) (s : ℕ) → IsLegal history → history ≡ before ++ (record { at = at; by = by; key = key; command = MemberAdd group who from until }) ∷ after
     → member_of who (facts before at) ≡ Some (Person s) → AllLet at (the_id (group_id group (facts before at))) s (facts before at)
 unfolding checks refusal
-added_where_let history before after at by group who from until s legal is found =
+added_where_let history before after at by key group who from until s legal is found =
     let f : Lists = facts before at in
-    let fine = rest_none (refused (live at f) f by (MemberAdd group who from until)) _ (legal.allowed before after (record { at = at; by = by; command = MemberAdd group who from until }) is) in
+    let fine = rest_none (refused (live at f) f by (MemberAdd group who from until)) _ (legal.allowed before after (record { at = at; by = by; key = key; command = MemberAdd group who from until }) is) in
     let a = all_fail (member_add_checks before at f group who from until) fine in
     let none : veto_on at (the_id (group_id group f)) (member_of who f) f ≡ None = no_rule _ a.1.1.1.1.1.1.1.0 in
     all_let at (the_id (group_id group f)) s f f.rules (subst (λ (m : Option Member). veto_on at (the_id (group_id group f)) m f ≡ None) found none)
@@ -81,12 +81,12 @@ rows_let : (at : ℕ) (f : Lists) (rows : List PersonRow) → rows_veto (live at
 rows_let at f [] h = tt
 rows_let at f (row ∷ rows) h = let parts = none_or (row_veto (live at f) f row) (rows_veto (live at f) f rows) h in (row_let at f row parts.0, rows_let at f rows parts.1)
 
-pub loaded_where_let : (history before after : List Stamped) (at : ℕ) (by : Entity) (name : List ℕ) (created : List (List ℕ)) (removed added : List LoadRow) (job : JobRow) → IsLegal history → history ≡ before ++ (record { at = at; by = by; command = Load name created removed added }) ∷ after
+pub loaded_where_let : (history before after : List Stamped) (at : ℕ) (by : Entity) (key : Option (List ℕ)) (name : List ℕ) (created : List (List ℕ)) (removed added : List LoadRow) (job : JobRow) → IsLegal history → history ≡ before ++ (record { at = at; by = by; key = key; command = Load name created removed added }) ∷ after
     → job_by name (facts before at).jobs ≡ Some job → AllByRecursion (IsLet at (facts before at)) (added_rows job created (facts before at) added)
 unfolding checks refusal
-loaded_where_let history before after at by name created removed added job legal is found =
+loaded_where_let history before after at by key name created removed added job legal is found =
     let f : Lists = facts before at in
-    let fine = rest_none (refused (live at f) f by (Load name created removed added)) _ (legal.allowed before after (record { at = at; by = by; command = Load name created removed added }) is) in
+    let fine = rest_none (refused (live at f) f by (Load name created removed added)) _ (legal.allowed before after (record { at = at; by = by; key = key; command = Load name created removed added }) is) in
     let a = all_fail (all_load_checks before at f by name created removed added) fine in
     let b : AllFail (load_of_checks before at f by job created removed added) = rw found at a.1 in
     rows_let at f (added_rows job created f added) (no_rule _ b.1.0)

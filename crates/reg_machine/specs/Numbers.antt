@@ -43,6 +43,7 @@ number (refusal.BadTable row) = 23
 number (refusal.Failsafe before removes) = 24
 number (refusal.Place kept last) = 25
 number (refusal.Full kind limit) = 26
+number (refusal.OtherCommand kept) = 27
 number refusal.NoRoute = 30
 number refusal.NoMethod = 31
 number refusal.NoLength = 32

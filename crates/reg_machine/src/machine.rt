@@ -1,6 +1,6 @@
 // The machine.
 ghost use Rattle.std.specs.Prelude.{◌≡◌, ◌≤◌, ◌+◌, ◌++◌, ◌∷◌, ◌&&◌, [], ℕ, List, Option, IfOk};
-ghost use Rattle.std.specs.Prelude.{OnOk, None, Some, true, false, length};
+ghost use Rattle.std.specs.Prelude.{OnOk, None, Some, true, false, length, option_map};
 ghost use Rattle.std.specs.List.{list_any, AllByRecursion};
 ghost use Rattle.reg_base.specs.declared.entity.Entity.{Entity};
 ghost use Rattle.reg_terms.specs.declared.command.Command.{Command};
@@ -17,7 +17,7 @@ ghost use Rattle.reg_facts.specs.Jobs.{job_by};
 ghost use Rattle.reg_facts.specs.Suiting.{CanEdit};
 ghost use Rattle.reg_load.specs.LoadChecks.{added_rows};
 ghost use Rattle.reg_effect.specs.Order.{has_live_row};
-ghost use Rattle.reg_ops.specs.Forms.{has_form};
+ghost use Rattle.reg_ops.specs.Forms.{has_form, key_fits, takes_key};
 ghost use Rattle.reg_priv.specs.May.{who_of};
 ghost use Rattle.reg_priv.specs.declared.who.Who.{Who};
 ghost use Rattle.reg_machine.specs.Checks as checks;
@@ -25,7 +25,11 @@ ghost use Rattle.reg_current.specs.Circles as circles;
 ghost use Rattle.reg_current.specs.Dates.{due, is_on, pass_steps};
 ghost use Rattle.reg_machine.specs.Formed.{AreFormed};
 ghost use Rattle.reg_machine.specs.Numbers.{NoneLess, is_load, number, tests};
-ghost use Rattle.reg_machine.specs.History.{State, acted, appended, start};
+ghost use Rattle.reg_machine.specs.History as histories;
+ghost use Rattle.reg_machine.specs.History.{State, appended, start};
+ghost use Rattle.reg_machine.specs.Ids.{made_id};
+ghost use Rattle.reg_machine.specs.Keys.{KeptCommand, is_free, is_kept_as, keyed};
+ghost use Rattle.reg_machine.specs.Telling.{told_of};
 ghost use Rattle.reg_machine.specs.Refusals.{refusal, first_of};
 ghost use Rattle.reg_current.specs.Holding.{AllHold};
 ghost use Rattle.reg_current.specs.Live.{live};
@@ -40,8 +44,9 @@ ghost use Rattle.reg_machine.specs.Past.{log, steps};
 ghost use Rattle.reg_machine.specs.Recording.{carried_steps};
 
 use crate::history::History;
+use crate::keyed::Keyed;
 use crate::recorded::{Recorded, carried_on, passed_on};
-use reg_base::{Entity, GroupId, Moment, Steps};
+use reg_base::{Entity, GroupId, Moment, Steps, Text};
 use reg_demand::refused;
 use reg_edit::events_of;
 use reg_effect::Kept;
@@ -70,22 +75,33 @@ impl<T: Drop> From<AllocFailed<T>> for Spent {
     }
 }
 
-/// A history with one command more.
+/// A history with one command more, given under its key if it has one, that made what has this id.
 fn push_stamped(
     alloc: Global,
     stamped: History,
     at: Moment,
     by: &Entity,
+    key: Option<Text>,
+    id: Option<u64>,
     command: Command,
 ) -> Result<History, Spent>
+    requires form { has_form command ≡ true }
+    requires id { id ≡ made_id command (histories.facts stamped.commands.items at) }
+    requires free { is_free stamped.commands.items by.now key ≡ true }
     ensures { IfOk result (λ h. h.commands.items
-        ≡ stamped.commands.items ++ (record { at = at; by = by.now; command = command }) ∷ []) }
+        ≡ stamped.commands.items
+        ++ (record { at = at; by = by.now; key = key; command = command }) ∷ []) }
 {
     let by = by.copy(alloc)?;
-    let one = Stamped { at, by, command };
-    let after = stamped.then(&one);
+    let one = Stamped {
+        at,
+        by,
+        key,
+        command,
+    };
+    let after = stamped.then(alloc, &one, id);
     drop(one);
-    after.ok_or(Spent)
+    after?.ok_or(Spent)
 }
 
 /// The registry: its history and its clock, and what they give: the facts, the effective
@@ -123,7 +139,7 @@ impl<K: Kept> Machine<K> {
     {
         let recorded = Recorded::start(alloc)?;
         Ok(Machine {
-            stamped: History::new(),
+            stamped: History::new(alloc),
             recorded,
         })
     }
@@ -135,8 +151,8 @@ impl<K: Kept> Machine<K> {
         self.stamped.len()
     }
 
-    /// Each command of the history isn't refused at its moment after those before it, and the
-    /// moments never fall. It does nothing.
+    /// Each command of the history isn't refused at its moment after those before it, the moments
+    /// never fall, and no caller has one key twice. It does nothing.
     pub fn law_legal(&self)
         ensures { IsLegal self.now.history }
     {
@@ -234,16 +250,20 @@ impl<K: Kept> Machine<K> {
     /// and so did each load that adds persons to groups, but for the groups that it made. It does
     /// nothing.
     pub fn law_vetoed(&self)
-        ensures members { (before after : List Stamped) (at : ℕ) (by : Entity) (group : List ℕ)
+        ensures members { (before after : List Stamped) (at : ℕ) (by : Entity)
+            (key : Option (List ℕ)) (group : List ℕ)
             (who : Entity) (from until : Option ℕ) (person : ℕ)
             → self.now.history ≡ before
-            ++ (record { at = at; by = by; command = MemberAdd group who from until }) ∷ after
+            ++ (record { at = at; by = by; key = key; command = MemberAdd group who from until })
+            ∷ after
             → edits.member_of who (facts before at) ≡ Some (Person person)
             → AllLet at (edits.the_id (group_id group (facts before at))) person (facts before at) }
-        ensures loads { (before after : List Stamped) (at : ℕ) (by : Entity) (name : List ℕ)
+        ensures loads { (before after : List Stamped) (at : ℕ) (by : Entity)
+            (key : Option (List ℕ)) (name : List ℕ)
             (created : List (List ℕ)) (removed added : List LoadRow) (job : JobRow)
             → self.now.history ≡ before
-            ++ (record { at = at; by = by; command = Load name created removed added }) ∷ after
+            ++ (record { at = at; by = by; key = key; command = Load name created removed added })
+            ∷ after
             → job_by name (facts before at).jobs ≡ Some job
             → AllByRecursion (IsLet at (facts before at))
             (added_rows job created (facts before at) added) }
@@ -302,6 +322,47 @@ impl<K: Kept> Machine<K> {
         }
         machine.recorded.wait(to);
         Ok(machine)
+    }
+
+    /// The number of the command that this caller gave under this key, and the id of what it made.
+    /// None exactly where there is no such command. It takes no memory.
+    pub fn keyed(&self, by: &Entity, key: &[u8]) -> Option<Keyed>
+        ensures { result ≡ option_map told_of (keyed self.now.history by.now key.now) }
+    {
+        self.stamped.keyed(by, key)
+    }
+
+    /// Whether this caller gave a command under this key, and it has these bytes. It takes no
+    /// memory.
+    pub fn is_kept_as(&self, by: &Entity, key: &[u8], bytes: &[u8]) -> bool
+        ensures { result ≡ is_kept_as (keyed self.now.history by.now key.now) bytes.now }
+    {
+        self.stamped.is_kept_as(by, key, bytes)
+    }
+
+    /// The id of what a command makes that acts now, where it has one and no name.
+    #[tactic(auto, unfolding(crate::specs::Ids::made_id))]
+    pub fn made_id(&self, command: &Command) -> Option<u64>
+        ensures { result ≡ made_id command.now (now_facts self.now) }
+    {
+        match command {
+            Command::AssignAdd { .. } => Some(u64::from(self.facts().made().assigns) + 1),
+            Command::RuleRemoveLost { .. }
+            | Command::RuleEndLost { .. }
+            | Command::RuleVeto { .. }
+            | Command::RuleOnCreate { .. } => Some(u64::from(self.facts().made().rules) + 1),
+            _ => None,
+        }
+    }
+
+    /// A command that was given under a key is told of the same in each history that goes on from
+    /// this one. It does nothing.
+    pub fn law_kept_stays(&self)
+        ensures { (more : List Stamped) (by : Entity) (key : List ℕ) (kept : KeptCommand)
+            → keyed self.now.history by key ≡ Some kept
+            → keyed (self.now.history ++ more) by key ≡ Some kept }
+    {
+        let _ = &self.stamped;
     }
 
     /// The first refusal of a caller's command now (`docs/REGISTRY.md`, "Refusals"), or None.
@@ -522,29 +583,34 @@ impl<K: Kept> Machine<K> {
         }
     }
 
-    /// Takes a command that isn't refused into the history, at the clock, and rules do what
-    /// follows. It takes at most the steps of the changes of live data that the command and the
-    /// rules make.
+    /// Takes a command that isn't refused into the history, at the clock, under its key if it has
+    /// one, and rules do what follows. It takes at most the steps of the changes of live data that
+    /// the command and the rules make.
     pub fn apply<L: Ledger>(
         self,
         alloc: Global,
         by: &Entity,
+        key: Option<Text>,
         command: Command,
         steps: &mut Steps<L>,
     ) -> Result<Machine<K>, Spent>
         requires allowed { refusal self.history self.clock by.now command ≡ None }
         requires form { has_form command ≡ true }
-        ensures appended { IfOk result (λ m. m ≡ appended self by.now command) }
+        requires fits { key_fits (takes_key command) key ≡ true }
+        requires free { is_free self.history by.now key ≡ true }
+        ensures appended { IfOk result (λ m. m ≡ appended self by.now key command) }
         ensures cost { OnOk result (steps.new
             ≤ steps.old + carried_steps (record {
               clock = self.clock;
               facts = now_facts self;
             }) (events_of self.clock by.now command (now_facts self))) }
     {
+        let id = self.made_id(&command);
         let events = self.events_of(alloc, by, &command)?;
         let Machine { stamped, recorded } = self;
         recorded.audit().law_follows();
-        let stamped = push_stamped(alloc, stamped, recorded.current().clock(), by, command)?;
+        let at = recorded.current().clock();
+        let stamped = push_stamped(alloc, stamped, at, by, key, id, command)?;
         let recorded = carried_on(alloc, recorded, events, steps)?;
         Ok(Machine { stamped, recorded })
     }
