@@ -1,5 +1,5 @@
 -- What a message of a route asks of the service, or why it is refused in reading.
-use Rattle.std.specs.Prelude.{ℕ, List, Result, Ok, Err, codes, if◌then◌else◌}
+use Rattle.std.specs.Prelude.{ℕ, List, None, Result, Ok, Err, codes, if◌then◌else◌}
 use Rattle.std.specs.Str.{is_utf8}
 use Rattle.reg_terms.specs.declared.refusal.Refusal.{Refusal}
 use Rattle.reg_terms.specs.declared.refusal.Refusal.TheVariants.{BadRequest}
@@ -31,17 +31,17 @@ told_by r target =
 abbrev pub parameters_of : Route → List ℕ → Result Parameters Refusal
 parameters_of r target = field_refused (told_by r target)
 
--- a query of a caller
+-- a query of a caller, which has no key
 abbrev pub query_request : List ℕ → Route → Parameters → Result Request Refusal
 query_request by r parameters = do
   q ← query_by r parameters
-  Ok (record { by = by; op = op.Query q })
+  Ok (record { by = by; key = None; op = op.Query q })
 
--- the run of a job over the table that a body is, whatever its bytes
+-- the run of a job over the table that a body is, whatever its bytes; it has no key
 abbrev pub load_request : List ℕ → List ℕ → Parameters → Result Request Refusal
 load_request by body parameters = do
   job ← extension_from (codes "job") parameters.path
-  Ok (record { by = by; op = op.Load job body })
+  Ok (record { by = by; key = None; op = op.Load job body })
 
 -- what a caller asks by a body, or by what the target tells
 abbrev pub asked_with : Route → List ℕ → List ℕ → Parameters → Result Request Refusal

@@ -63,6 +63,7 @@ fn query_request(
     let by = Bytes::of(alloc, by)?;
     Ok(Request {
         by,
+        key: None,
         op: Op::Query(query),
     })
 }
@@ -82,6 +83,7 @@ fn load_request(
     let table = Bytes::of(alloc, body)?;
     Ok(Request {
         by,
+        key: None,
         op: Op::Load { job, table },
     })
 }
@@ -114,8 +116,8 @@ fn request_of(alloc: Global, route: Route, by: &[u8], call: &Call) -> Result<Req
     asked_with(alloc, route, by, call.body.bytes(), &parameters)
 }
 
-/// What a message of a route and a caller asks, or why it is refused in reading. The fields of what
-/// is asked have their forms. The only error is out of memory.
+/// What a message of a route and a caller asks, or why it is refused in reading. The key and the
+/// fields of what is asked have their forms. The only error is out of memory.
 pub fn read_call(
     alloc: Global,
     route: Route,

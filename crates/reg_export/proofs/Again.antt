@@ -40,6 +40,7 @@ use Rattle.reg_export.proofs.Rows.{is_asked, is_told}
 kind_again : (kind : SetOp) → composite_kind (kind_word kind) ≡ Some kind
 kind_again set_op.Intersection = refl
 kind_again set_op.Complement = refl
+kind_again set_op.Union = refl
 
 inherit_again : (kind : InheritKind) → inherit_kind (inherit_word kind) ≡ Some kind
 inherit_again inherit.Folder = refl

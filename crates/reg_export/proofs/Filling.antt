@@ -72,7 +72,7 @@ there_kept (f ∷ fs) (k ∷ keyed) key found ms h there =
 
 -- ---- each field is there
 
-found_data : (key : List ℕ) (found : Option Data) (ms : Members) → get_member key ms ≡ None → get_member key (with_data key found ms) ≡ found
+pub found_data : (key : List ℕ) (found : Option Data) (ms : Members) → get_member key ms ≡ None → get_member key (with_data key found ms) ≡ found
 found_data key None ms absent = absent
 found_data key (Some d) ms absent = get_member-put key d ms
 
@@ -87,7 +87,7 @@ all_there (f ∷ fs) (k ∷ keyed) ms one absent =
 
 -- ---- and no other key
 
-known_data : (known : List (List ℕ)) (key : List ℕ) (found : Option Data) (ms : Members) → is_known known key ≡ true → AreKnown known ms → AreKnown known (with_data key found ms)
+pub known_data : (known : List (List ℕ)) (key : List ℕ) (found : Option Data) (ms : Members) → is_known known key ≡ true → AreKnown known ms → AreKnown known (with_data key found ms)
 known_data known key None ms a all = all
 known_data known key (Some d) ms a all = known_put known key d ms a all
 

@@ -3,7 +3,7 @@ use Rattle.std.proofs.Common.{◌≡◌, ◌⊎◌, inl, inr, refl, true, false,
 use Rattle.reg_terms.specs.declared.command.Command.{Command}
 use Rattle.reg_terms.specs.declared.command.Command.TheVariants.{AssignAdd, AssignRemove, AttrAdd, AttrDelete, AttrdefAdd, AttrdefDelete, CompositeClear, CompositeSet, ConsumerAck, ConsumerAdd, FolderAdd, FolderDelete, FolderMove, FolderRename, GrantAdd, GrantRemove, GroupAdd, GroupDelete, GroupMove, GroupRename, InheritAdd, InheritRemove, JobDelete, JobList, JobSimple, Load, MemberAdd, MemberRemove, MemberWindow, RuleDelete, RuleEndLost, RuleOnCreate, RuleRemoveLost, RuleVeto, SubjectAdd, ValueAdd, ValueRemove}
 use Rattle.reg_terms.specs.declared.command.Stamped.{Stamped}
-use Rattle.reg_ops.specs.Forms.{has_form, is_entity, is_moment}
+use Rattle.reg_ops.specs.Forms.{has_form, is_entity, is_moment, key_fits, takes_key}
 use Rattle.reg_export.specs.Lines.{has_id}
 use Rattle.reg_export.specs.Listing.{made_by}
 use Rattle.reg_export.specs.Telling.{IsTold}
@@ -49,5 +49,5 @@ one_id n (Load job created removed added) = inl refl
 one_id n (ConsumerAdd consumer) = inl refl
 one_id n (ConsumerAck consumer seq) = inl refl
 
-pub listed_told : (n : Counts) (s : Stamped) → is_moment s.at ≡ true → is_entity s.by ≡ true → has_form s.command ≡ true → IsTold (made_by n s.command) s
-listed_told n s moment caller form = record { moment = moment; caller = caller; form = form; one_id = one_id n s.command }
+pub listed_told : (n : Counts) (s : Stamped) → is_moment s.at ≡ true → is_entity s.by ≡ true → key_fits (takes_key s.command) s.key ≡ true → has_form s.command ≡ true → IsTold (made_by n s.command) s
+listed_told n s moment caller fits form = record { moment = moment; caller = caller; key = fits; form = form; one_id = one_id n s.command }

@@ -8,6 +8,7 @@ use Rattle.reg_ops.specs.declared.table.CommandKind.{CommandKind}
 use Rattle.reg_ops.specs.declared.table.CommandKind.TheVariants as command
 use Rattle.reg_ops.specs.declared.table.OpKind.TheVariants as op
 use Rattle.reg_json.specs.Fields.{known_keys}
+use Rattle.reg_json.specs.Ops.{command_takes_key}
 use Rattle.reg_json.specs.declared.fields.Carrier.TheVariants.{Line}
 use Rattle.reg_export.specs.Lines.{Keyed, has_key}
 use Rattle.reg_export.specs.Telling.{command_worded}
@@ -18,15 +19,16 @@ pub record KeysFit (keyed : List Keyed) : Type 0 where
   pub one_each : all_differ keyed ≡ true
   pub no_by : has_key (codes "by") keyed ≡ false
   pub no_op : has_key (codes "op") keyed ≡ false
+  pub no_key : has_key (codes "key") keyed ≡ false
   pub no_at : has_key (codes "at") keyed ≡ false
   pub no_number : has_key (codes "number") keyed ≡ false
   pub no_place : has_key (codes "place") keyed ≡ false
-  pub each_known : all_known (known_keys Line keyed) keyed ≡ true
+  pub each_known : all_known (known_keys Line true keyed) keyed ≡ true
 
 pub keys_fit : (k : CommandKind) → KeysFit (command_row k).op.fields
 unfolding known_keys
-keys_fit command.Load = record { one_each = refl; no_by = refl; no_op = refl; no_at = refl; no_number = refl; no_place = refl; each_known = refl }
-keys_fit _ = record { one_each = refl; no_by = refl; no_op = refl; no_at = refl; no_number = refl; no_place = refl; each_known = refl }
+keys_fit command.Load = record { one_each = refl; no_by = refl; no_op = refl; no_key = refl; no_at = refl; no_number = refl; no_place = refl; each_known = refl }
+keys_fit _ = record { one_each = refl; no_by = refl; no_op = refl; no_key = refl; no_at = refl; no_number = refl; no_place = refl; each_known = refl }
 
 -- kinds of field that a request has
 abbrev pub is_asked : FieldKind → Bool
@@ -40,15 +42,16 @@ abbrev pub is_told : FieldKind → Bool
 is_told kind.Table = false
 is_told _ = true
 
--- a request's word names the op, and it has all fields
+-- a request's word names the op, which may have a key, and it has all fields
 pub record IsAsked (k : CommandKind) : Type 0 where
   pub named : kind_named (command_row k).op.word ≡ Some (op.Command k)
+  pub keyed : command_takes_key k ≡ true
   pub kinds : list_all is_asked (field_kinds (command_row k).op) ≡ true
 
 pub asked_row : (k : CommandKind) → (k ≡ command.Load → ⊥) → IsAsked k
 unfolding kind_named
 asked_row command.Load h = absurd (h refl)
-asked_row _ h = record { named = refl; kinds = refl }
+asked_row _ h = record { named = refl; keyed = refl; kinds = refl }
 
 -- a line's word names the command, and it has all fields
 pub record IsLined (k : CommandKind) : Type 0 where

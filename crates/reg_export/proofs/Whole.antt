@@ -34,7 +34,7 @@ use Rattle.reg_json.specs.Replies.{strings}
 use Rattle.reg_json.proofs.Integers.{integer_text as digits}
 use Rattle.reg_json.proofs.Plain.{ArePlain, Ascends, ComesLast, IsPlain, MembersArePlain, read-compact_text, then_member}
 use Rattle.reg_export.specs.Fields.{entity_text, field_data, moment_data, owner_words, row_data, row_items, value_data, word_if}
-use Rattle.reg_export.specs.Lines.{Keyed, command_text, count_data, front, id_data, line_members, request_members, with_data, with_fields}
+use Rattle.reg_export.specs.Lines.{Keyed, command_text, count_data, caller_and_op, front, id_data, key_data, line_members, request_members, with_data, with_fields}
 use Rattle.reg_export.specs.Members.{AreWhole, IsWhole, word_tokens}
 use Rattle.reg_export.proofs.Writing.{line_flat, low_enough}
 
@@ -193,16 +193,22 @@ good_id : (made : Option ℕ) → IfSome made (λ id. id < 2 ^ 64) → IfSome (i
 good_id None h = tt
 good_id (Some id) h = h
 
-front_good : (by word : List ℕ) → IsGood (front by word)
-front_good by word = good_put (codes "by") (string by) (put (codes "op") (string word) no_members) tt (good_put (codes "op") (string word) no_members tt (tt, tt))
+good_key : (under : Option (List ℕ)) → IfSome (key_data under) IsPlain
+good_key None = tt
+good_key (Some text) = tt
+
+front_good : (by : List ℕ) (under : Option (List ℕ)) (word : List ℕ) → IsGood (front by under word)
+front_good by under word =
+    let asked = good_put (codes "by") (string by) (put (codes "op") (string word) no_members) tt (good_put (codes "op") (string word) no_members tt (tt, tt)) in
+    good_data (codes "key") (key_data under) (caller_and_op by word) (good_key under) asked
 
 line_good : (nth place : ℕ) (made : Option ℕ) (s : Stamped) → nth < 2 ^ 64 → place < 2 ^ 64 → IfSome made (λ id. id < 2 ^ 64) → AreWhole (fields_of s.command) → IsGood (line_members nth place made s)
 unfolding line_members request_members
 line_good nth place made s few small fits whole =
     let c = s.command in
     let row = (command_row (kind_of c)).op in
-    let ms = with_fields (fields_of c) row.fields (front (entity_text s.by) row.word) in
-    let fields = good_fields (fields_of c) row.fields (front (entity_text s.by) row.word) whole (front_good (entity_text s.by) row.word) in
+    let ms = with_fields (fields_of c) row.fields (front (entity_text s.by) s.key row.word) in
+    let fields = good_fields (fields_of c) row.fields (front (entity_text s.by) s.key row.word) whole (front_good (entity_text s.by) s.key row.word) in
     let with_id = good_data (codes "id") (id_data made) ms (good_id made fits) fields in
     let with_number = good_put (codes "number") (count_data nth) (with_data (codes "id") (id_data made) ms) few with_id in
     let numbered = put (codes "number") (count_data nth) (with_data (codes "id") (id_data made) ms) in

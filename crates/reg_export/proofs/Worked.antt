@@ -14,7 +14,7 @@ use Rattle.reg_export.specs.Lines.{line_members, request_members}
 
 -- what ann gives the registry at moment 0
 given : Command → Stamped
-given command = record { at = 0; by = entity.Person (codes "uni/ann"); command = command }
+given command = record { at = 0; by = entity.Person (codes "uni/ann"); key = None; command = command }
 
 row : List ℕ → List ℕ → LoadRow
 row group person = record { group = group; person = person }
@@ -31,6 +31,19 @@ member_added : line_members 7 8 None (given (MemberAdd (codes "app:x") (entity.G
     (member (codes "until") (string (text_of 60)) no_members)))))))
 unfolding line_members request_members given
 member_added = refl
+
+-- the same under a key
+member_added_once : line_members 7 8 None (record (given (MemberAdd (codes "app:x") (entity.Group (codes "app:y")) None None)) { key = Some (codes "k1") })
+    ≡ member (codes "at") (string (text_of 0))
+    (member (codes "by") (string (codes "uni/ann"))
+    (member (codes "group") (string (codes "app:x"))
+    (member (codes "key") (string (codes "k1"))
+    (member (codes "member") (string (codes "g:gsa/app:y"))
+    (member (codes "number") (number (unsigned 7))
+    (member (codes "op") (string (codes "member.add"))
+    (member (codes "place") (number (unsigned 8)) no_members)))))))
+unfolding line_members request_members given
+member_added_once = refl
 
 grant_added : line_members 8 70 None (given (GrantAdd (codes "app") Update entity.Everyone))
     ≡ member (codes "at") (string (text_of 0))

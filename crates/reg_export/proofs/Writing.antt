@@ -12,7 +12,7 @@ use Rattle.reg_ops.specs.declared.field.Field.TheVariants as field
 use Rattle.reg_json.specs.Replies.{strings}
 use Rattle.reg_json.proofs.Plain.{all_flat}
 use Rattle.reg_export.specs.Fields.{entity_text, field_data, moment_data, owner_words, row_data, row_items, value_data}
-use Rattle.reg_export.specs.Lines.{Keyed, count_data, front, id_data, line_members, request_members, with_data, with_fields}
+use Rattle.reg_export.specs.Lines.{Keyed, count_data, caller_and_op, front, id_data, key_data, line_members, request_members, with_data, with_fields}
 use Rattle.reg_export.proofs.Putting.{depth_put}
 
 -- ---- data
@@ -62,13 +62,20 @@ flat_id : (made : Option ℕ) → IfSome (id_data made) IsFlat
 flat_id None = tt
 flat_id (Some id) = lit≤ tt
 
+flat_key : (key : Option (List ℕ)) → IfSome (key_data key) IsFlat
+flat_key None = tt
+flat_key (Some text) = lit≤ tt
+
+flat_front : (by : List ℕ) (key : Option (List ℕ)) (word : List ℕ) → AreFlat (front by key word)
+flat_front by key word = flat_data (codes "key") (key_data key) (caller_and_op by word) (flat_key key) (lit≤ tt)
+
 pub line_flat : (nth place : ℕ) (made : Option ℕ) (s : Stamped) → members_depth (line_members nth place made s) ≤ 2
 unfolding line_members request_members
 line_flat nth place made s =
     let c = s.command in
     let row = (command_row (kind_of c)).op in
-    let ms = with_fields (fields_of c) row.fields (front (entity_text s.by) row.word) in
-    let fields : AreFlat ms = flat_fields (fields_of c) row.fields (front (entity_text s.by) row.word) (lit≤ tt) in
+    let ms = with_fields (fields_of c) row.fields (front (entity_text s.by) s.key row.word) in
+    let fields : AreFlat ms = flat_fields (fields_of c) row.fields (front (entity_text s.by) s.key row.word) (flat_front (entity_text s.by) s.key row.word) in
     let more = with_data (codes "id") (id_data made) ms in
     let with_id : AreFlat more = flat_data (codes "id") (id_data made) ms (flat_id made) fields in
     let numbered = put (codes "number") (count_data nth) more in

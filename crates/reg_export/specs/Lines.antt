@@ -1,7 +1,7 @@
 -- The text of an accepted command: compact JSON whose keys ascend by bytes. It has the members of
--- the request that asks for the command, which tell its op, its caller and its fields; its number
--- in the history, its place in the journal, its moment, and the id of what it made, where that has
--- one.
+-- the request that asks for the command, which tell its op, its caller, its key, where it has one,
+-- and its fields; its number in the history, its place in the journal, its moment, and the id of
+-- what it made, where that has one.
 use Rattle.std.specs.Prelude.{ℕ, List, [], ◌∷◌, Bool, true, false, Option, None, Some, codes}
 use Rattle.std.specs.Prelude.{option_map}
 use Rattle.std.specs.List.{list_any}
@@ -34,14 +34,22 @@ with_fields (f ∷ fs) [] ms = ms
 with_fields (f ∷ fs) (k ∷ keyed) ms = with_fields fs keyed (with_data k.0 (field_data f) ms)
 
 -- the caller and the word of an op
-abbrev pub front : List ℕ → List ℕ → Members
-front by word = put (codes "by") (string by) (put (codes "op") (string word) no_members)
+abbrev pub caller_and_op : List ℕ → List ℕ → Members
+caller_and_op by word = put (codes "by") (string by) (put (codes "op") (string word) no_members)
+
+-- a request's key, where there is one
+abbrev pub key_data : Option (List ℕ) → Option Data
+key_data key = option_map string key
+
+-- the caller, the key and the word of an op
+abbrev pub front : List ℕ → Option (List ℕ) → List ℕ → Members
+front by key word = with_data (codes "key") (key_data key) (caller_and_op by word)
 
 -- the members of the request that asks for a command; of a load its rows stand in its table's place
-unfoldable pub request_members : List ℕ → Command → Members
-request_members by c =
+unfoldable pub request_members : List ℕ → Option (List ℕ) → Command → Members
+request_members by key c =
     with_fields (fields_of c) (command_row (kind_of c)).op.fields
-    (front by (command_row (kind_of c)).op.word)
+    (front by key (command_row (kind_of c)).op.word)
 
 -- a whole number
 abbrev pub count_data : ℕ → Data
@@ -58,7 +66,7 @@ line_members number place made s =
     put (codes "at") (moment_data s.at)
     (put (codes "place") (count_data place)
     (put (codes "number") (count_data number)
-    (with_data (codes "id") (id_data made) (request_members (entity_text s.by) s.command))))
+    (with_data (codes "id") (id_data made) (request_members (entity_text s.by) s.key s.command))))
 
 -- the text of the line, without its LF
 unfoldable pub command_text : (number place : ℕ) → Option ℕ → Stamped → List ℕ

@@ -1,6 +1,6 @@
 -- What the object of a line tells: the request that asked for the command, once the members that no
--- request has are taken away; and the command with its number, its place, its moment and its
--- caller.
+-- request has are taken away; and the command with its number, its place, its moment, its caller
+-- and its key.
 use Rattle.std.specs.Prelude.{◌≡◌, ◌⊎◌, ℕ, List, [], ◌∷◌, true, false, Option, None, Some, Result}
 use Rattle.std.specs.Prelude.{Ok, Err, codes, if◌then◌else◌, ok_or, option_and_then, option_map}
 use Rattle.std.specs.Str.{bytes_eq}
@@ -12,13 +12,14 @@ use Rattle.reg_terms.specs.declared.lists.LoadRow.{LoadRow}
 use Rattle.reg_terms.specs.declared.refusal.Refusal.{Refusal}
 use Rattle.reg_terms.specs.declared.refusal.Refusal.TheVariants.{BadMoment, BadName, BadRequest}
 use Rattle.reg_ops.specs.Forms.{are_load_rows, are_names, has_form, is_entity, is_moment}
+use Rattle.reg_ops.specs.Forms.{key_fits, takes_key}
 use Rattle.reg_ops.specs.Table.{command_named, command_row, commands, made_command}
 use Rattle.reg_ops.specs.declared.field.Field.{Field}
 use Rattle.reg_ops.specs.declared.field.Field.TheVariants as field
 use Rattle.reg_ops.specs.declared.field.FieldKind.{FieldKind}
 use Rattle.reg_ops.specs.declared.field.FieldKind.TheVariants as kind
 use Rattle.reg_ops.specs.declared.table.CommandKind.{CommandKind}
-use Rattle.reg_json.specs.Fields.{entity_from, number_at, text_at}
+use Rattle.reg_json.specs.Fields.{entity_from, key_at, key_from, number_at, text_at}
 use Rattle.reg_json.specs.Ops.{form_at}
 use Rattle.reg_json.specs.Steps.{◌>>=◌}
 use Rattle.reg_json.specs.Taking.{all_of, items_in, text_in, texts_in}
@@ -101,25 +102,34 @@ caller_at d = do
   text ← text_at (codes "by") d
   entity_from (codes "by") text
 
--- the number in the history, the place in the journal, and the command with its moment and caller
+-- the key that stands under `key`, if one does
+unfoldable pub line_key : Data → Result (Option (List ℕ)) Refusal
+line_key d = do
+  text ← key_at true d
+  key_from text
+
+-- the number in the history, the place in the journal, and the command with its moment, its caller
+-- and its key
 unfoldable pub line_in : Data → Result (ℕ × ℕ × Stamped) Refusal
 line_in d = do
   number ← number_at 0 18446744073709551615 (codes "number") d
   place ← number_at 0 18446744073709551615 (codes "place") d
   moment ← moment_at d
   by ← caller_at d
+  key ← line_key d
   word ← text_at (codes "op") d
   known ← ok_or (command_worded word) (BadRequest (codes "op"))
   fields ← all_told (command_row known).op.fields d
   command ← ok_or (made_command known fields) (BadRequest [])
-  Ok (number, place, record { at = moment; by = by; command = command })
+  Ok (number, place, record { at = moment; by = by; key = key; command = command })
 
 -- ---- which lines are read back
 
--- a moment, a caller and a command that have their forms, which all accepted ones have; and an id
--- that was made only where no field of the op has that key
+-- a moment, a caller, a key and a command that have their forms, which all accepted ones have; and
+-- an id that was made only where no field of the op has that key
 pub record IsTold (made : Option ℕ) (s : Stamped) : Type 0 where
   pub moment : is_moment s.at ≡ true
   pub caller : is_entity s.by ≡ true
+  pub key : key_fits (takes_key s.command) s.key ≡ true
   pub form : has_form s.command ≡ true
   pub one_id : (made ≡ None) ⊎ (has_id s.command ≡ false)

@@ -8,12 +8,12 @@ ghost use Rattle.reg_ops.specs.declared.field.Field.TheVariants as field;
 ghost use Rattle.reg_json.specs.AdminReplies.{scope_word};
 ghost use Rattle.reg_json.specs.Replies.{kind_word};
 ghost use Rattle.reg_export.specs.Fields.{def_word, inherit_word};
-ghost use Rattle.reg_export.specs.Lines.{id_data, is_nothing, with_data, with_fields};
+ghost use Rattle.reg_export.specs.Lines.{id_data, is_nothing, key_data, with_data, with_fields};
 ghost use Rattle.reg_export.specs.Members.{AreWhole, IsWhole, members_of, part_data};
 ghost use Rattle.reg_export.specs.Members.{reference_data};
 
 use crate::members::{Part, put_member};
-use reg_base::Privilege;
+use reg_base::{Privilege, Text};
 use reg_ops::{FieldKind, FieldRef, fields_of};
 use reg_terms::{Command, DefKind, InheritKind, Scope, SetOp, Value, privilege_name};
 use std::alloc::AllocError;
@@ -25,6 +25,7 @@ fn kind_word<'a>(kind: SetOp) -> &'a str
     match kind {
         SetOp::Intersection => "intersection",
         SetOp::Complement => "complement",
+        SetOp::Union => "union",
     }
 }
 
@@ -165,6 +166,20 @@ pub fn put_id<'a>(
 {
     match made {
         Some(id) => put_member(members, "id", Part::Number(id)),
+        None => Ok(members),
+    }
+}
+
+/// Puts the key that a command was given under, where there is one.
+pub fn put_key<'a>(
+    members: Vec<(&'a str, Part<'a>)>,
+    key: &'a Option<Text>,
+) -> Result<Vec<(&'a str, Part<'a>)>, AllocError>
+    ensures { IfOk result (λ ms. members_of ms.items
+        ≡ with_data (codes "key") (key_data key.now) (members_of members.entry.items)) }
+{
+    match key {
+        Some(key) => put_member(members, "key", Part::Text(key.as_str())),
         None => Ok(members),
     }
 }

@@ -10,7 +10,7 @@ ghost use Rattle.reg_json.specs.Reading.{json_of};
 ghost use Rattle.reg_export.specs.Lines.{command_text, line_members};
 ghost use Rattle.reg_export.specs.Members.{members_of};
 
-use crate::fields::{law_command_is_whole, law_id_is_whole, put_fields, put_id};
+use crate::fields::{law_command_is_whole, law_id_is_whole, put_fields, put_id, put_key};
 use crate::members::{Part, put_member, write_members};
 use json::Writer;
 use reg_ops::{FieldRef, command_row, fields_of, kind_of};
@@ -18,7 +18,7 @@ use reg_terms::Stamped;
 use std::alloc::{AllocError, Global};
 
 /// So many members a line has at the most.
-const MOST: usize = 12;
+const MOST: usize = 13;
 
 /// Most lines have no more bytes.
 const USUAL: usize = 256;
@@ -41,6 +41,7 @@ fn line_members<'a>(
     let members = Vec::with_capacity(alloc, MOST)?;
     let members = put_member(members, "op", Part::Text(row.word))?;
     let members = put_member(members, "by", Part::Entity(&stamped.by))?;
+    let members = put_key(members, &stamped.key)?;
     let members = put_fields(members, row.fields, fields)?;
     let members = put_id(members, made)?;
     let members = put_member(members, "number", Part::Number(number))?;

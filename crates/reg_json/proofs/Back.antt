@@ -21,7 +21,7 @@ use Rattle.reg_terms.specs.declared.admin_shown.GoneShown.{GoneShown}
 use Rattle.reg_terms.specs.declared.admin_shown.JobShown.{JobShown}
 use Rattle.reg_terms.specs.declared.admin_shown.RuleShown.{RuleShown}
 use Rattle.reg_terms.specs.declared.kinds.SetOp.{SetOp}
-use Rattle.reg_terms.specs.declared.kinds.SetOp.TheVariants.{Intersection, Complement}
+use Rattle.reg_terms.specs.declared.kinds.SetOp.TheVariants.{Intersection, Complement, Union}
 use Rattle.reg_terms.specs.declared.shown.AssignShown.{AssignShown}
 use Rattle.reg_terms.specs.declared.shown.FactorsShown.{FactorsShown}
 use Rattle.reg_terms.specs.declared.shown.GrantShown.{GrantShown}
@@ -61,6 +61,7 @@ rows_again rows h = all_again row_data row_from row_fits row_again rows h
 word_again : (kind : SetOp) → composite_kind (kind_word kind) ≡ Some kind
 word_again Intersection = refl
 word_again Complement = refl
+word_again Union = refl
 
 factors_again : (factors : FactorsShown) → factors_from (factors_data (Some factors)) ≡ Some factors
 unfolding factors_from kind_in text_in
@@ -216,6 +217,7 @@ refusal_again (refusal.Full kind limit) h = refl
 refusal_again (refusal.Vetoed rule) h = refl
 refusal_again (refusal.BadTable row) h = refl
 refusal_again (refusal.Failsafe before removes) h = refl
+refusal_again (refusal.OtherCommand n) h = refl
 refusal_again refusal.NoRoute h = refl
 refusal_again refusal.NoMethod h = refl
 refusal_again refusal.NoLength h = refl
@@ -254,6 +256,7 @@ fault_again (refusal.Full kind limit) = refl
 fault_again (refusal.Vetoed rule) = refl
 fault_again (refusal.BadTable row) = refl
 fault_again (refusal.Failsafe before removes) = refl
+fault_again (refusal.OtherCommand n) = refl
 fault_again refusal.NoRoute = refl
 fault_again refusal.NoMethod = refl
 fault_again refusal.NoLength = refl
@@ -405,6 +408,7 @@ refusal_plain (refusal.Place kept last) h =
 refusal_plain (refusal.Full kind limit) h = rw h refl
 refusal_plain (refusal.Vetoed rule) h = rw h refl
 refusal_plain (refusal.BadTable row) h = rw h refl
+refusal_plain (refusal.OtherCommand n) h = rw h refl
 refusal_plain (refusal.Failsafe before removes) h =
     let both = and_parts (is_u64 before) (is_u64 removes) h in
     rw (both.0, both.1) refl
@@ -464,6 +468,7 @@ refusal_flat (refusal.Full kind limit) = lit≤ tt
 refusal_flat (refusal.Vetoed rule) = lit≤ tt
 refusal_flat (refusal.BadTable row) = lit≤ tt
 refusal_flat (refusal.Failsafe before removes) = lit≤ tt
+refusal_flat (refusal.OtherCommand n) = lit≤ tt
 refusal_flat refusal.NoRoute = lit≤ tt
 refusal_flat refusal.NoMethod = lit≤ tt
 refusal_flat refusal.NoLength = lit≤ tt

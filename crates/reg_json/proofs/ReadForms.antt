@@ -6,33 +6,36 @@ use Rattle.std.proofs.lemmas.Bool.{and_from, and_parts, le-leb}
 use Rattle.std.proofs.lemmas.Str.{is_utf8-from_IsUtf8}
 use Rattle.std.proofs.Math.Bool.{and-true}
 use Rattle.serde_json.specs.Data.{Data}
-use Rattle.serde_json.specs.Find.{get, as_object}
+use Rattle.serde_json.specs.Find.{get}
 use Rattle.reg_base.specs.Names.{is_extension, is_name, is_person, is_source, name_of}
 use Rattle.reg_base.specs.Entities.{entity_of}
 use Rattle.reg_base.specs.MomentText.{moment_of}
 use Rattle.reg_base.specs.declared.entity.Entity.TheVariants.{Person, Group}
 use Rattle.reg_terms.specs.Limits.{max_display, max_moment}
-use Rattle.reg_ops.specs.Forms.{is_display, is_entity, is_folder_text, is_object_text, is_optional_moment, is_value, suits_some, is_field, has_form, query_has_form, op_has_form}
+use Rattle.reg_ops.specs.Forms.{is_display, is_entity, is_folder_text, is_object_text, is_optional_moment, is_value, suits_some, is_field, has_form, query_has_form, op_has_form, takes_key, op_takes_key, key_fits}
 use Rattle.reg_ops.specs.Parts.{field_kind}
-use Rattle.reg_ops.specs.Table.{row_of, field_kinds, made, op_fields, IsMade}
+use Rattle.reg_ops.specs.Table.{row_of, field_kinds, kind_of, made, op_fields, op_kind, IsMade}
 use Rattle.reg_ops.specs.declared.field.FieldKind.{FieldKind}
 use Rattle.reg_ops.specs.declared.field.FieldKind.TheVariants as kind
 use Rattle.reg_ops.specs.declared.field.Field.{Field}
 use Rattle.reg_ops.specs.declared.table.OpKind.{OpKind}
 use Rattle.reg_terms.specs.declared.refusal.Refusal.{Refusal}
 use Rattle.reg_terms.specs.declared.refusal.Refusal.TheVariants.{BadMoment, BadName, BadRequest}
+use Rattle.reg_terms.specs.declared.command.Command.{Command}
+use Rattle.reg_terms.specs.declared.command.Command.TheVariants.{Load}
 use Rattle.reg_terms.specs.declared.request.Op.{Op}
 use Rattle.reg_terms.specs.declared.request.Op.TheVariants as asked
 use Rattle.reg_terms.specs.declared.request.Request.{Request}
 use Rattle.reg_json.specs.declared.fields.Carrier.{Carrier}
 use Rattle.reg_json.specs.declared.fields.Carrier.TheVariants.{Line, Body}
+use Rattle.reg_json.specs.declared.ops.Asked.{Asked}
 use Rattle.reg_json.specs.Steps.{◌>>=◌}
-use Rattle.reg_json.specs.Fields.{text_at, text_or_empty, optional_text_at, known_keys, no_other, display_at, set_op_at, inherit_kind_at, scope_at, privilege_at, whole_number, is_within, number_at, name_from, folder_from, extension_from, source_from, object_from, entity_from, moment_from}
+use Rattle.reg_json.specs.Fields.{text_at, text_or_empty, optional_text_at, display_at, set_op_at, inherit_kind_at, scope_at, privilege_at, whole_number, is_within, number_at, name_from, folder_from, extension_from, key_at, key_from, source_from, object_from, entity_from, moment_from}
 use Rattle.reg_json.specs.Attributes.{owners_named, owners_at, flag_at, def_kind_at, value_of, value_from, value_at, are_owners, owners_among}
 use Rattle.reg_json.specs.Taking.{texts_in}
-use Rattle.reg_json.specs.Ops.{form_at, all_stand, all_forms, fields_in, asked_in}
+use Rattle.reg_json.specs.Ops.{form_at, all_forms, command_takes_key, kind_takes_key, stand_alone, op_in, asked_in}
 use Rattle.reg_json.specs.Reading.{data_of, known_kind, request_in, reading_of, body_in, body_reading_of}
-use Rattle.reg_json.specs.Forms.{IsFormed, ReadForm}
+use Rattle.reg_json.specs.Forms.{IsFormed}
 use Rattle.reg_json.proofs.Moments.{read_within}
 use Rattle.reg_json.proofs.Options.{some_tested, either}
 
@@ -194,18 +197,78 @@ form_is (asked.Command c) = refl
 form_is (asked.Query q) = refl
 form_is (asked.Load job table) = sym (and-true (is_extension job))
 
-made_form : TableMakes → (k : OpKind) (fs : List Field) → AreForms (field_kinds (row_of k)) fs → IfSome (made k fs) ReadForm
+-- a command may have a key where its kind may
+command_takes : (c : Command) → takes_key c ≡ command_takes_key (kind_of c)
+command_takes (Load job created removed added) = refl
+command_takes _ = refl
+
+op_takes : (o : Op) → op_takes_key o ≡ kind_takes_key (op_kind o)
+op_takes (asked.Command c) = command_takes c
+op_takes (asked.Query q) = refl
+op_takes (asked.Load job table) = refl
+
+-- an op whose fields have their forms, and that may have a key where its kind may
+record Suits (k : OpKind) (o : Op) : Type 0 where
+  formed : op_has_form o ≡ true
+  takes : op_takes_key o ≡ kind_takes_key k
+
+made_form : TableMakes → (k : OpKind) (fs : List Field) → AreForms (field_kinds (row_of k)) fs → IfSome (made k fs) (Suits k)
 made_form table k fs q =
     let m = table k fs q.are_kinds in
     let fits : op_has_form m.op ≡ true = form_is m.op ∙ ap (list_all is_field) m.has_these ∙ q.fit in
-    subst (λ (found : Option Op). IfSome found ReadForm) (sym m.made_so) fits
+    let may : op_takes_key m.op ≡ kind_takes_key k = op_takes m.op ∙ ap kind_takes_key m.is_kind in
+    subst (λ (found : Option Op). IfSome found (Suits k)) (sym m.made_so) (record { formed = fits; takes = may })
 
-asked_kept : TableMakes → (carrier : Carrier) (k : OpKind) (d : Data) → Keeps ReadForm (asked_in carrier k d)
-unfolding asked_in fields_in
+op_kept : TableMakes → (k : OpKind) (d : Data) → Keeps (Suits k) (op_in k d)
+unfolding op_in
+op_kept table k d =
+    let read : Keeps (AreForms (field_kinds (row_of k))) (all_forms (row_of k).fields d) = all_kept (row_of k).fields d in
+    step read (λ xs q. some_ok (Suits k) (made k xs) (BadRequest []) (made_form table k xs q))
+
+-- ---- the key
+
+-- a text stands only where it may
+abbrev may_stand : Bool → Option (List ℕ) → Bool
+may_stand may None = true
+may_stand may (Some text) = may
+
+any_stands : (found : Option (List ℕ)) → may_stand true found ≡ true
+any_stands None = refl
+any_stands (Some text) = refl
+
+-- what holds of each value
+always : {B : Type 0} {Q : B → Type 0} (m : Result B Refusal) → ((x : B) → Q x) → Keeps Q m
+always (Ok x) h = last (h x)
+always (Err e) h = record { kept = tt }
+
+key_stands : (may : Bool) (d : Data) → Keeps (λ found. may_stand may found ≡ true) (key_at may d)
+unfolding key_at
+key_stands true d = always (optional_text_at (codes "key") d) any_stands
+key_stands false d = last refl
+
+key_form : (may : Bool) (found : Option (List ℕ)) → may_stand may found ≡ true → Keeps (λ key. key_fits may key ≡ true) (key_from found)
+unfolding key_from
+key_form may None h = last refl
+key_form may (Some text) h = step (extension_form (codes "key") text) (λ key e. last (and_from may (is_extension key) h e))
+
+-- ---- what is asked
+
+-- a key and an op that have their forms
+record Fits (a : Asked) : Type 0 where
+  fields : op_has_form a.op ≡ true
+  key_so : key_fits (op_takes_key a.op) a.key ≡ true
+
+fit_both : (k : OpKind) (key : Option (List ℕ)) (o : Op) → key_fits (kind_takes_key k) key ≡ true → Suits k o → Fits (record { key = key; op = o })
+fit_both k key o fits suits = record { fields = suits.formed; key_so = rw suits.takes fits }
+
+asked_kept : TableMakes → (carrier : Carrier) (k : OpKind) (d : Data) → Keeps Fits (asked_in carrier k d)
+unfolding asked_in
 asked_kept table carrier k d =
-    let fs = (row_of k).fields in
-    let read : Keeps (AreForms (field_kinds (row_of k))) (fields_in carrier fs d) = pass (all_stand fs d) (λ stand. pass (no_other (known_keys carrier fs) (as_object d)) (λ known. all_kept fs d)) in
-    step read (λ xs q. some_ok ReadForm (made k xs) (BadRequest []) (made_form table k xs q))
+    step (key_stands (kind_takes_key k) d) (λ found may.
+    pass (stand_alone carrier (kind_takes_key k) (row_of k).fields d) (λ alone.
+    step (key_form (kind_takes_key k) found may) (λ key fits.
+    step (op_kept table k d) (λ o suits.
+    last (fit_both k key o fits suits)))))
 
 request_kept : TableMakes → (d : Data) → Keeps IsFormed (request_in d)
 unfolding request_in
@@ -213,7 +276,7 @@ request_kept table d =
     pass_text _ _ (λ word.
     pass (known_kind word) (λ known.
     pass_text _ _ (λ by.
-    step (asked_kept table Line known d) (λ o good. last good))))
+    step (asked_kept table Line known d) (λ a good. last (record { fields = good.fields; key = good.key_so })))))
 
 reading_kept : TableMakes → (line : List ℕ) → Keeps IsFormed (reading_of line)
 unfolding reading_of
@@ -231,7 +294,7 @@ unfolding body_in
 body_kept table by d =
     pass_text _ _ (λ word.
     pass (known_kind word) (λ known.
-    step (asked_kept table Body known d) (λ o good. last good)))
+    step (asked_kept table Body known d) (λ a good. last (record { fields = good.fields; key = good.key_so }))))
 
 body_reading_kept : TableMakes → (by body : List ℕ) → Keeps IsFormed (body_reading_of by body)
 unfolding body_reading_of

@@ -1,8 +1,8 @@
 -- The fields of a request: first that they are texts that may stand there, and later that the texts
 -- have their forms.
-use Rattle.std.specs.Prelude.{ℕ, List, [], ◌∷◌, Bool, true, Option, Some, None, Result, Ok, Err}
-use Rattle.std.specs.Prelude.{codes, option_and_then, option_map, map, ◌&&◌, nat_le, if◌then◌else◌}
-use Rattle.std.specs.Prelude.{ok_or}
+use Rattle.std.specs.Prelude.{ℕ, List, [], ◌∷◌, Bool, true, false, Option, Some, None, Result, Ok}
+use Rattle.std.specs.Prelude.{Err, codes, option_and_then, option_map, map, ◌&&◌, nat_le, ok_or}
+use Rattle.std.specs.Prelude.{if◌then◌else◌}
 use Rattle.std.specs.List.{list_any}
 use Rattle.std.specs.Str.{bytes_eq}
 use Rattle.serde_json.specs.Data.{Data, Members, no_members, member}
@@ -20,7 +20,7 @@ use Rattle.reg_terms.specs.declared.kinds.InheritKind.TheVariants.{Folder, Group
 use Rattle.reg_terms.specs.declared.kinds.Scope.{Scope}
 use Rattle.reg_terms.specs.declared.kinds.Scope.TheVariants.{One, Sub}
 use Rattle.reg_terms.specs.declared.kinds.SetOp.{SetOp}
-use Rattle.reg_terms.specs.declared.kinds.SetOp.TheVariants.{Intersection, Complement}
+use Rattle.reg_terms.specs.declared.kinds.SetOp.TheVariants.{Intersection, Complement, Union}
 use Rattle.reg_terms.specs.declared.refusal.Refusal.{Refusal}
 use Rattle.reg_terms.specs.declared.refusal.Refusal.TheVariants.{BadRequest, BadName, BadMoment}
 use Rattle.reg_json.specs.declared.fields.Carrier.{Carrier}
@@ -36,10 +36,16 @@ key_list (member k d ms) = k ∷ key_list ms
 abbrev pub keys : List (List ℕ × FieldKind) → List (List ℕ)
 keys fields = map (λ (f : List ℕ × FieldKind). f.0) fields
 
--- the keys that an object of these fields may have: a line names its caller too, a body doesn't
-unfoldable pub known_keys : Carrier → List (List ℕ × FieldKind) → List (List ℕ)
-known_keys Line fields = codes "by" ∷ codes "op" ∷ keys fields
-known_keys Body fields = codes "op" ∷ keys fields
+-- `key` in front of these keys, where it may stand
+abbrev pub with_key : Bool → List (List ℕ) → List (List ℕ)
+with_key true ks = codes "key" ∷ ks
+with_key false ks = ks
+
+-- the keys that an object of these fields may have, `key` where it may stand: a line names its
+-- caller too, a body doesn't
+unfoldable pub known_keys : Carrier → Bool → List (List ℕ × FieldKind) → List (List ℕ)
+known_keys Line takes fields = codes "by" ∷ codes "op" ∷ with_key takes (keys fields)
+known_keys Body takes fields = codes "op" ∷ with_key takes (keys fields)
 
 -- the first key that isn't known
 abbrev pub other_key : List (List ℕ) → List (List ℕ) → Option (List ℕ)
@@ -71,6 +77,11 @@ text_if_some key (Some d) = ok_or (option_map Some (as_str d)) (BadRequest key)
 unfoldable pub optional_text_at : List ℕ → Data → Result (Option (List ℕ)) Refusal
 optional_text_at key d = text_if_some key (get key d)
 
+-- the text under `key`, where it may stand, which may be left out
+unfoldable pub key_at : Bool → Data → Result (Option (List ℕ)) Refusal
+key_at true d = optional_text_at (codes "key") d
+key_at false d = Ok None
+
 -- the display text
 unfoldable pub display_at : List ℕ → Data → Result (List ℕ) Refusal
 display_at key d = do
@@ -82,7 +93,8 @@ display_at key d = do
 abbrev pub composite_kind : List ℕ → Option SetOp
 composite_kind word =
     if bytes_eq word (codes "intersection") then Some Intersection else
-    (if bytes_eq word (codes "complement") then Some Complement else None)
+    (if bytes_eq word (codes "complement") then Some Complement else
+    (if bytes_eq word (codes "union") then Some Union else None))
 
 -- how a composite is made
 unfoldable pub set_op_at : List ℕ → Data → Result SetOp Refusal
@@ -147,6 +159,13 @@ folder_from field text = if is_folder_text text then Ok text else Err (BadName f
 -- the extension that a field's text is
 unfoldable pub extension_from : List ℕ → List ℕ → Result (List ℕ) Refusal
 extension_from field text = if is_extension text then Ok text else Err (BadName field)
+
+-- the request's key that a text is, if there is one: it has the form of an extension
+unfoldable pub key_from : Option (List ℕ) → Result (Option (List ℕ)) Refusal
+key_from None = Ok None
+key_from (Some text) = do
+  key ← extension_from (codes "key") text
+  Ok (Some key)
 
 -- the source of persons that a field's text is
 unfoldable pub source_from : List ℕ → List ℕ → Result (List ℕ) Refusal

@@ -1,14 +1,9 @@
--- What holds of a request that was read: the op's fields have their forms. Who asks may be any
--- text.
+-- What holds of a request that was read. Who asks may be any text.
 use Rattle.std.specs.Prelude.{◌≡◌, true}
-use Rattle.reg_ops.specs.Forms.{op_has_form}
+use Rattle.reg_ops.specs.Forms.{key_fits, op_has_form, op_takes_key}
 use Rattle.reg_terms.specs.declared.request.Request.{Request}
-use Rattle.reg_terms.specs.declared.request.Op.{Op}
 
--- the fields of an op have their forms
-abbrev pub ReadForm : Op → Type 0
-ReadForm o = op_has_form o ≡ true
-
--- so have those of what a request asks
-abbrev pub IsFormed : Request → Type 0
-IsFormed request = ReadForm request.op
+-- the fields of what is asked have their forms, and its key, which a command alone has
+pub record IsFormed (request : Request) : Type 0 where
+  pub fields : op_has_form request.op ≡ true
+  pub key : key_fits (op_takes_key request.op) request.key ≡ true

@@ -1,21 +1,26 @@
--- What an object asks, by the row of its op: first its fields stand there and no others do, then
--- each has its form.
-use Rattle.std.specs.Prelude.{ℕ, List, [], ◌∷◌, Bool, true, Result, Ok, Err, ok_or}
+-- What an object asks, by the row of its op: first its key and its fields stand there and no others
+-- do, then each has its form.
+use Rattle.std.specs.Prelude.{ℕ, List, [], ◌∷◌, Bool, true, false, Result, Ok, Err, ok_or}
 use Rattle.serde_json.specs.Data.{Data}
 use Rattle.serde_json.specs.Find.{as_object}
 use Rattle.reg_ops.specs.declared.field.FieldKind.{FieldKind}
 use Rattle.reg_ops.specs.declared.field.FieldKind.TheVariants as kind
 use Rattle.reg_ops.specs.declared.field.Field.{Field}
 use Rattle.reg_ops.specs.declared.field.Field.TheVariants as field
+use Rattle.reg_ops.specs.declared.table.CommandKind.{CommandKind}
+use Rattle.reg_ops.specs.declared.table.CommandKind.TheVariants as command
 use Rattle.reg_ops.specs.declared.table.OpKind.{OpKind}
+use Rattle.reg_ops.specs.declared.table.OpKind.TheVariants as op
 use Rattle.reg_terms.specs.declared.request.Op.{Op}
 use Rattle.reg_terms.specs.declared.refusal.Refusal.{Refusal}
 use Rattle.reg_terms.specs.declared.refusal.Refusal.TheVariants.{BadRequest}
 use Rattle.reg_ops.specs.Table.{row_of, made}
 use Rattle.reg_json.specs.declared.fields.Carrier.{Carrier}
+use Rattle.reg_json.specs.declared.ops.Asked.{Asked}
 use Rattle.reg_json.specs.Steps.{◌>>=◌}
 use Rattle.reg_json.specs.Attributes.{owners_at, flag_at, def_kind_at, value_at}
 use Rattle.reg_json.specs.Fields.{known_keys, no_other, text_at, optional_text_at, display_at}
+use Rattle.reg_json.specs.Fields.{key_at, key_from}
 use Rattle.reg_json.specs.Fields.{set_op_at, inherit_kind_at, scope_at, privilege_at, number_at}
 use Rattle.reg_json.specs.Fields.{name_from, folder_from, extension_from, source_from, entity_from}
 use Rattle.reg_json.specs.Fields.{object_from, moment_from}
@@ -164,15 +169,34 @@ all_forms (f ∷ fs) d = do
 
 -- ---- by the table
 
--- the values of these fields, and no other key
-unfoldable pub fields_in : Carrier → List (List ℕ × FieldKind) → Data → Result (List Field) Refusal
-fields_in carrier fs d = do
-  stand ← all_stand fs d
-  known ← no_other (known_keys carrier fs) (as_object d)
-  all_forms fs d
+-- a command of a kind may be given under a key: any may but a load
+abbrev pub command_takes_key : CommandKind → Bool
+command_takes_key command.Load = false
+command_takes_key _ = true
 
--- what an object asks whose op is of a kind
-unfoldable pub asked_in : Carrier → OpKind → Data → Result Op Refusal
-asked_in carrier k d = do
-  fields ← fields_in carrier (row_of k).fields d
+-- so may what a request asks
+abbrev pub kind_takes_key : OpKind → Bool
+kind_takes_key (op.Command k) = command_takes_key k
+kind_takes_key (op.Query k) = false
+kind_takes_key op.Load = false
+
+-- these fields stand there, and no other key, but `key` where it may
+unfoldable pub stand_alone : Carrier → Bool → List (List ℕ × FieldKind) → Data → Result Bool Refusal
+stand_alone carrier takes fs d = do
+  stand ← all_stand fs d
+  no_other (known_keys carrier takes fs) (as_object d)
+
+-- the op of a kind, whose fields have their forms
+unfoldable pub op_in : OpKind → Data → Result Op Refusal
+op_in k d = do
+  fields ← all_forms (row_of k).fields d
   ok_or (made k fields) (BadRequest [])
+
+-- what an object asks whose op is of a kind, and its key: the key stands in front of the fields
+unfoldable pub asked_in : Carrier → OpKind → Data → Result Asked Refusal
+asked_in carrier k d = do
+  text ← key_at (kind_takes_key k) d
+  alone ← stand_alone carrier (kind_takes_key k) (row_of k).fields d
+  key ← key_from text
+  asked ← op_in k d
+  Ok (record { key = key; op = asked })

@@ -1,5 +1,6 @@
--- What a line asks: a JSON object (RFC 8259) with `op`, `by` and the op's fields, and nothing else.
--- A body has no `by`: who asks is told beside it.
+-- What a line asks: a JSON object (RFC 8259) with `op`, `by` and the op's fields, with `key` where
+-- the op is a command that may have one, and nothing else. A body has no `by`: who asks is told
+-- beside it.
 use Rattle.std.specs.Prelude.{ℕ, List, [], Option, Some, None, Result, Ok, Err, length, nat_le}
 use Rattle.std.specs.Prelude.{codes, if◌then◌else◌, ok_or}
 use Rattle.std.specs.Str.{is_utf8}
@@ -34,15 +35,15 @@ data_of line = if nat_le (length line) max_line then json_of line else Err (TooL
 abbrev pub known_kind : List ℕ → Result OpKind Refusal
 known_kind word = ok_or (kind_named word) (BadRequest (codes "op"))
 
--- what an object asks, or why it is refused: the first fault in the order of op, by, the op's
--- fields, other keys, and the fields' forms; by may be any text
+-- what an object asks, or why it is refused: the first fault in the order of op, by, key, the op's
+-- fields, other keys, and the forms of the key and of the fields; by may be any text
 unfoldable pub request_in : Data → Result Request Refusal
 request_in d = do
   word ← text_at (codes "op") d
   known ← known_kind word
   by ← text_at (codes "by") d
   asked ← asked_in Line known d
-  Ok (record { by = by; op = asked })
+  Ok (record { by = by; key = asked.key; op = asked.op })
 
 -- what a line asks, or why it is refused: first its length and its bytes count
 unfoldable pub reading_of : List ℕ → Result Request Refusal
@@ -57,7 +58,7 @@ body_in by d = do
   word ← text_at (codes "op") d
   known ← known_kind word
   asked ← asked_in Body known d
-  Ok (record { by = by; op = asked })
+  Ok (record { by = by; key = asked.key; op = asked.op })
 
 -- what a body asks for this caller, or why it is refused
 unfoldable pub body_reading_of : List ℕ → List ℕ → Result Request Refusal

@@ -9,8 +9,8 @@ use Rattle.reg_terms.specs.declared.refusal.Refusal.TheVariants as refusal
 -- what a refusal carries: nothing, a limit, a field or an object by its text, an object and the
 -- privilege that is demanded on it, the moment asked of and the clock's by their texts, a use, a
 -- kind of which there would be more than its limit, the rule that forbids, a record of a table, how
--- many rows there were before a load and how many it would remove, or the number that a consumer
--- had and the log's last
+-- many rows there were before a load and how many it would remove, the number that a consumer had
+-- and the log's last, or the number of the command that is kept
 pub data Carries : Type 0 where
   nothing : Carries
   limit : ℕ → Carries
@@ -24,6 +24,7 @@ pub data Carries : Type 0 where
   rule : ℕ → Carries
   row : ℕ → Carries
   removal : ℕ → ℕ → Carries
+  command : ℕ → Carries
 
 -- a refusal by its number, its word and what it carries
 unfoldable pub refused : ℕ → List ℕ → Carries → Data
@@ -76,6 +77,10 @@ refused code word (removal before removes) =
     (member (codes "code") (number (unsigned code))
     (member (codes "refused") (string word)
     (member (codes "removes") (number (unsigned removes)) no_members))))
+refused code word (command n) =
+    json.object (member (codes "code") (number (unsigned code))
+    (member (codes "number") (number (unsigned n))
+    (member (codes "refused") (string word) no_members)))
 
 -- each refusal as JSON data
 unfoldable pub refusal_data : Refusal → Data
@@ -107,6 +112,7 @@ refusal_data (refusal.Failsafe before removes) =
     refused 24 (codes "Failsafe") (removal before removes)
 refusal_data (refusal.Place kept last) = refused 25 (codes "Place") (places kept last)
 refusal_data (refusal.Full kind n) = refused 26 (codes "Full") (count kind n)
+refusal_data (refusal.OtherCommand n) = refused 27 (codes "OtherCommand") (command n)
 refusal_data refusal.NoRoute = refused 30 (codes "NoRoute") nothing
 refusal_data refusal.NoMethod = refused 31 (codes "NoMethod") nothing
 refusal_data refusal.NoLength = refused 32 (codes "NoLength") nothing

@@ -11,7 +11,7 @@ use Rattle.reg_terms.specs.Privileges.{line_of}
 use Rattle.reg_terms.specs.declared.kinds.AttrValue.{AttrValue}
 use Rattle.reg_terms.specs.declared.kinds.AttrValue.TheVariants as value
 use Rattle.reg_terms.specs.declared.kinds.SetOp.{SetOp}
-use Rattle.reg_terms.specs.declared.kinds.SetOp.TheVariants.{Intersection, Complement}
+use Rattle.reg_terms.specs.declared.kinds.SetOp.TheVariants.{Intersection, Complement, Union}
 use Rattle.reg_terms.specs.declared.query.Answer.{Answer}
 use Rattle.reg_terms.specs.declared.query.Answer.TheVariants as answer
 use Rattle.reg_terms.specs.declared.shown.AssignShown.{AssignShown}
@@ -47,6 +47,7 @@ row_items rows = items_of (map row_data rows)
 abbrev pub kind_word : SetOp → List ℕ
 kind_word Intersection = codes "intersection"
 kind_word Complement = codes "complement"
+kind_word Union = codes "union"
 
 -- the factors of a composite as JSON data, or null
 abbrev pub factors_data : Option FactorsShown → Data

@@ -5,7 +5,7 @@ use Rattle.reg_json.specs.declared.said.Said.{Said}
 use Rattle.reg_json.specs.declared.said.Carried.{Carried}
 use Rattle.reg_json.specs.declared.said.Carried.TheVariants as carried
 use Rattle.reg_json.specs.Refusals.{Carries, nothing, limit, field, object, demand, used, count}
-use Rattle.reg_json.specs.Refusals.{moments, places, rule, row, removal, refused}
+use Rattle.reg_json.specs.Refusals.{moments, places, rule, row, removal, command, refused}
 
 abbrev pub carries : Carried → Carries
 carries carried.Nothing = nothing
@@ -20,6 +20,7 @@ carries (carried.Places kept last) = places kept last
 carries (carried.Rule id) = rule id
 carries (carried.Row n) = row n
 carries (carried.Removal before removes) = removal before removes
+carries (carried.Command n) = command n
 
 abbrev pub said_data : Said → Data
 said_data said = refused said.code said.word.now (carries said.carried)

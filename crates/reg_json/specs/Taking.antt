@@ -515,8 +515,11 @@ other_refusal code d =
     if has (codes "limit") d then limit_from d else
     (if has (codes "asked") d then future_from d else
     (if has (codes "kept") d then place_from d else
-    (if has (codes "rule") d then option_map (λ v. refusal.Vetoed v) (number_in (codes "rule") d)
-    else load_refusal code d)))
+    (if has (codes "rule") d
+    then option_map (λ v. refusal.Vetoed v) (number_in (codes "rule") d) else
+    (if has (codes "number") d
+    then option_map (λ v. refusal.OtherCommand v) (number_in (codes "number") d)
+    else load_refusal code d))))
 
 -- a refusal, by its number and what it carries
 unfoldable pub refusal_from : Data → Option Refusal

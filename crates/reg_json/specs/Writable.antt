@@ -101,6 +101,7 @@ refusal_fits (refusal.Full kind limit) = is_u64 limit
 refusal_fits (refusal.Vetoed rule) = is_u64 rule
 refusal_fits (refusal.BadTable row) = is_u64 row
 refusal_fits (refusal.Failsafe before removes) = is_u64 before && is_u64 removes
+refusal_fits (refusal.OtherCommand number) = is_u64 number
 refusal_fits _ = true
 
 -- the counts of a load have 64 bits

@@ -2,7 +2,7 @@
 ghost use Rattle.std.specs.Prelude.{◌≡◌, option_map};
 ghost use Rattle.reg_json.specs.Steps.{Gives};
 ghost use Rattle.reg_json.specs.Fields.{name_from, folder_from, extension_from, source_from};
-ghost use Rattle.reg_json.specs.Fields.{object_from, entity_from, moment_from};
+ghost use Rattle.reg_json.specs.Fields.{key_from, object_from, entity_from, moment_from};
 
 use crate::fault::{ReadFault, bad_moment, bad_name};
 use reg_base::{Entity, Moment, Name, Text, is_extension, is_source};
@@ -43,6 +43,20 @@ pub fn extension_from(alloc: Global, field: &str, text: &str) -> Result<Text, Re
         Ok(extension)
     } else {
         Err(bad_name(alloc, field))
+    }
+}
+
+/// The request's key that a text is, if there is one.
+#[tactic(auto, unfolding(crate::specs::Fields::key_from))]
+pub fn key_from(alloc: Global, text: Option<&str>) -> Result<Option<Text>, ReadFault>
+    ensures { Gives (λ k. k) result (key_from (option_map (λ s. s.now) text.entry)) }
+{
+    match text {
+        Some(text) => {
+            let key = extension_from(alloc, "key", text)?;
+            Ok(Some(key))
+        }
+        None => Ok(None),
     }
 }
 

@@ -10,7 +10,7 @@ ghost use Rattle.reg_json.specs.Reading.{reading_of};
 
 use reg_ops::law_ops;
 
-/// The fields of a request that is read have their forms.
+/// The key and the fields of a request that is read have their forms.
 pub fn law_read_is_formed()
     ensures { (line : List ℕ) (request : Request) → reading_of line ≡ Ok request
         → IsFormed request }

@@ -2,19 +2,21 @@
 ghost use Rattle.std.specs.Prelude.{◌≡◌, map};
 ghost use Rattle.serde_json.specs.View.{view};
 ghost use Rattle.reg_json.specs.Steps.{Gives};
-ghost use Rattle.reg_json.specs.Ops.{stands_at, form_at, all_stand, all_forms, fields_in, asked_in};
+ghost use Rattle.reg_json.specs.Ops.{stands_at, form_at, all_stand, all_forms, stand_alone};
+ghost use Rattle.reg_json.specs.Ops.{command_takes_key, kind_takes_key, op_in, asked_in};
 
 use crate::attributes::{def_kind_at, flag_at, owners_at, value_at};
 use crate::fault::{ReadFault, bad};
 use crate::fields::{
-    Carrier, display_at, inherit_kind_at, no_other, number_at, optional_text_at, privilege_at,
-    scope_at, set_op_at, text_at,
+    Carrier, display_at, inherit_kind_at, key_at, no_other, number_at, optional_text_at,
+    privilege_at, scope_at, set_op_at, text_at,
 };
 use crate::forms::{
-    entity_from, extension_from, folder_from, moment_from, name_from, object_from, source_from,
+    entity_from, extension_from, folder_from, key_from, moment_from, name_from, object_from,
+    source_from,
 };
 use reg_base::{Bytes, Text};
-use reg_ops::{Field, FieldKind, OpKind, made, row_of};
+use reg_ops::{CommandKind, Field, FieldKind, OpKind, made, row_of};
 use reg_terms::Op;
 use serde_json::Value;
 use std::alloc::Global;
@@ -216,35 +218,73 @@ fn all_forms(
     }
 }
 
-#[tactic(auto, unfolding(crate::specs::Ops::fields_in))]
-fn fields_in(
-    alloc: Global,
-    carrier: Carrier,
-    value: &Value,
-    fields: &[(&'static str, FieldKind)],
-) -> Result<VecDeque<Field>, ReadFault>
-    ensures { Gives (λ fs. fs.items) result
-        (fields_in carrier (map (λ f. (f.0.now, f.1)) fields.now) (view value.now)) }
-{
-    all_stand(alloc, value, fields)?;
-    no_other(alloc, carrier, value, fields)?;
-    all_forms(alloc, value, fields)
+/// What an object asks: its key, if it has one, and its op.
+#[derive(Drop)]
+pub struct Asked {
+    pub key: Option<Text>,
+    pub op: Op,
 }
 
-/// What an object asks whose op is of a kind.
+/// Whether a command of a kind may be given under a key: any may but a load.
+fn command_takes_key(kind: CommandKind) -> bool
+    ensures { result ≡ command_takes_key kind }
+{
+    !matches!(kind, CommandKind::Load)
+}
+
+/// Whether what a request asks may have a key.
+fn kind_takes_key(kind: OpKind) -> bool
+    ensures { result ≡ kind_takes_key kind }
+{
+    match kind {
+        OpKind::Command(command) => command_takes_key(command),
+        OpKind::Query(_) | OpKind::Load => false,
+    }
+}
+
+/// These fields stand there, and no other key, but `key` where it may.
+#[tactic(auto, unfolding(crate::specs::Ops::stand_alone))]
+fn stand_alone(
+    alloc: Global,
+    carrier: Carrier,
+    takes: bool,
+    value: &Value,
+    fields: &[(&'static str, FieldKind)],
+) -> Result<bool, ReadFault>
+    ensures { Gives (λ b. b) result
+        (stand_alone carrier takes (map (λ f. (f.0.now, f.1)) fields.now) (view value.now)) }
+{
+    all_stand(alloc, value, fields)?;
+    no_other(alloc, carrier, takes, value, fields)
+}
+
+/// The op of a kind, whose fields have their forms.
+#[tactic(auto, unfolding(crate::specs::Ops::op_in))]
+fn op_in(alloc: Global, value: &Value, kind: OpKind) -> Result<Op, ReadFault>
+    ensures { Gives (λ o. o) result (op_in kind (view value.now)) }
+{
+    let fields = all_forms(alloc, value, row_of(kind).fields)?;
+    match made(kind, fields) {
+        Some(op) => Ok(op),
+        // no fields come here that make nothing, since each is of its kind
+        None => Err(bad(alloc, "")),
+    }
+}
+
+/// What an object asks whose op is of a kind, and its key.
 #[tactic(auto, unfolding(crate::specs::Ops::asked_in))]
 pub fn asked_in(
     alloc: Global,
     carrier: Carrier,
     value: &Value,
     kind: OpKind,
-) -> Result<Op, ReadFault>
-    ensures { Gives (λ o. o) result (asked_in carrier kind (view value.now)) }
+) -> Result<Asked, ReadFault>
+    ensures { Gives (λ a. a) result (asked_in carrier kind (view value.now)) }
 {
-    let fields = fields_in(alloc, carrier, value, row_of(kind).fields)?;
-    match made(kind, fields) {
-        Some(op) => Ok(op),
-        // no fields come here that make nothing, since each is of its kind
-        None => Err(bad(alloc, "")),
-    }
+    let takes = kind_takes_key(kind);
+    let text = key_at(alloc, value, takes)?;
+    stand_alone(alloc, carrier, takes, value, row_of(kind).fields)?;
+    let key = key_from(alloc, text)?;
+    let op = op_in(alloc, value, kind)?;
+    Ok(Asked { key, op })
 }

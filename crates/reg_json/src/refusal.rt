@@ -50,6 +50,11 @@ fn said(refusal: &Refusal) -> Said<'_>
         ),
         Refusal::Place { kept, last } => Said::new(25, "Place", Carried::Places(*kept, *last)),
         Refusal::Full { kind, limit } => Said::new(26, "Full", Carried::Count(kind, *limit)),
+        Refusal::OtherCommand { number } => Said::new(
+            27,
+            "OtherCommand",
+            Carried::Command(*number),
+        ),
         Refusal::NoRoute => Said::new(30, "NoRoute", Carried::Nothing),
         Refusal::NoMethod => Said::new(31, "NoMethod", Carried::Nothing),
         Refusal::NoLength => Said::new(32, "NoLength", Carried::Nothing),

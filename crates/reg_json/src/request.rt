@@ -8,7 +8,7 @@ ghost use Rattle.reg_json.specs.Reading.{body_reading_of};
 
 use crate::fault::{ReadFault, bad};
 use crate::fields::{Carrier, text_at};
-use crate::ops::asked_in;
+use crate::ops::{Asked, asked_in};
 use crate::words::op_named;
 use reg_base::Bytes;
 use reg_ops::{OpKind, law_ops};
@@ -60,8 +60,8 @@ fn request_in(alloc: Global, value: &Value) -> Result<Request, ReadFault>
     let kind = known_kind(alloc, word)?;
     let by = text_at(alloc, value, "by")?;
     let by = Bytes::of(alloc, by.as_bytes())?;
-    let op = asked_in(alloc, Carrier::Line, value, kind)?;
-    Ok(Request { by, op })
+    let Asked { key, op } = asked_in(alloc, Carrier::Line, value, kind)?;
+    Ok(Request { by, key, op })
 }
 
 #[tactic(auto, unfolding(crate::specs::Reading::reading_of))]
@@ -75,8 +75,8 @@ fn reading_of(alloc: Global, line: &[u8]) -> Result<Request, ReadFault>
 }
 
 /// What a line asks, or why it is refused (`docs/REQUESTS.md`, "Reading"): TooLong, BadRequest,
-/// BadName or BadMoment. The fields of a request that is read have their forms. The only error is
-/// out of memory.
+/// BadName or BadMoment. The key and the fields of a request that is read have their forms. The
+/// only error is out of memory.
 pub fn read_request(alloc: Global, line: &[u8]) -> Result<Result<Request, Refusal>, AllocError>
     ensures value { IfOk result (λ r. r ≡ reading_of line.now) }
     ensures form { IfOk result (λ r. IfOk r IsFormed) }
@@ -96,8 +96,8 @@ fn body_in(alloc: Global, by: &[u8], value: &Value) -> Result<Request, ReadFault
     let word = text_at(alloc, value, "op")?;
     let kind = known_kind(alloc, word)?;
     let by = Bytes::of(alloc, by)?;
-    let op = asked_in(alloc, Carrier::Body, value, kind)?;
-    Ok(Request { by, op })
+    let Asked { key, op } = asked_in(alloc, Carrier::Body, value, kind)?;
+    Ok(Request { by, key, op })
 }
 
 #[tactic(auto, unfolding(crate::specs::Reading::body_reading_of))]

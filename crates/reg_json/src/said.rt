@@ -42,6 +42,8 @@ pub enum Carried<'a> {
     Row(u64),
     /// How many rows there were before a load, and how many it would remove.
     Removal(u64, u64),
+    /// The number of the command that is kept.
+    Command(u64),
 }
 
 impl<'a> Said<'a> {
@@ -248,6 +250,18 @@ fn put_removal(
     put_object(out, &[before, code, word, removes])
 }
 
+#[tactic(auto, unfolding(crate::specs::Refusals::refused))]
+fn put_command(out: &mut Writer, code: u64, word: &str, number: u64) -> Result<(), AllocError>
+    ensures ok { OnOk result (out.new.tokens
+        ≡ out.old.tokens ++ json_tokens (outline (refused code word.now (say.command number)))) }
+    ensures before { out.new.before ≡ out.old.before }
+{
+    let code = ("code", Scalar::Number(code));
+    let number = ("number", Scalar::Number(number));
+    let word = ("refused", Scalar::Text(word));
+    put_object(out, &[code, number, word])
+}
+
 /// Writes what a refusal says. The only error is out of memory.
 pub fn put_said(out: &mut Writer, said: &Said<'_>) -> Result<(), AllocError>
     ensures ok { OnOk result (out.new.tokens
@@ -274,5 +288,6 @@ pub fn put_said(out: &mut Writer, said: &Said<'_>) -> Result<(), AllocError>
         Carried::Rule(rule) => put_rule(out, code, word, *rule),
         Carried::Row(row) => put_row(out, code, word, *row),
         Carried::Removal(before, removes) => put_removal(out, code, word, *before, *removes),
+        Carried::Command(number) => put_command(out, code, word, *number),
     }
 }

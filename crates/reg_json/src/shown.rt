@@ -43,6 +43,7 @@ fn kind_word(kind: SetOp) -> &'static str
     match kind {
         SetOp::Intersection => "intersection",
         SetOp::Complement => "complement",
+        SetOp::Union => "union",
     }
 }
 

@@ -6,10 +6,11 @@ ghost use Rattle.json.specs.Tree.{json_tokens};
 ghost use Rattle.serde_json.specs.Data.{array};
 ghost use Rattle.serde_json.specs.Written.{outline};
 ghost use Rattle.reg_json.specs.Replies.{value_data, value_items, assign_data, assign_items};
+ghost use Rattle.reg_json.specs.Values.{value_tokens};
 
 use crate::flat::put_moment;
 use json::Writer;
-use reg_terms::{AssignShown, AttrValue};
+use reg_terms::{AssignShown, AttrValue, AttrValues};
 use std::alloc::AllocError;
 
 #[tactic(auto, using(crate::proofs::Integers::integer_text))]
@@ -25,15 +26,39 @@ fn put_value(out: &mut Writer, value: &AttrValue) -> Result<(), AllocError>
     }
 }
 
-fn put_values(out: &mut Writer, values: &[&AttrValue]) -> Result<(), AllocError>
-    ensures ok { OnOk result (out.new.tokens
-        ≡ out.old.tokens ++ json_tokens (outline (array (value_items (map deref values.now))))) }
+/// Writes values one behind the other.
+fn put_few(out: &mut Writer, values: &[AttrValue]) -> Result<(), AllocError>
+    ensures ok { OnOk result (out.new.tokens ≡ out.old.tokens ++ value_tokens values.now) }
     ensures before { out.new.before ≡ out.old.before }
 {
-    out.begin_array()?;
+    for value in values {
+        put_value(out, value)?;
+    }
+    Ok(())
+}
+
+/// Writes lent values one behind the other.
+fn put_many(out: &mut Writer, values: &[&AttrValue]) -> Result<(), AllocError>
+    ensures ok { OnOk result (out.new.tokens
+        ≡ out.old.tokens ++ value_tokens (map deref values.now)) }
+    ensures before { out.new.before ≡ out.old.before }
+{
     for value in values {
         put_value(out, *value)?;
     }
+    Ok(())
+}
+
+/// Writes values as an array. Few of them take no memory beside that of the text.
+fn put_values(out: &mut Writer, values: &AttrValues) -> Result<(), AllocError>
+    ensures ok { OnOk result (out.new.tokens
+        ≡ out.old.tokens ++ json_tokens (outline (array (value_items values.now)))) }
+    ensures before { out.new.before ≡ out.old.before }
+{
+    let (few, many) = values.parts()?;
+    out.begin_array()?;
+    put_few(out, few)?;
+    put_many(out, &many)?;
     out.end_array()
 }
 
@@ -56,11 +81,10 @@ fn put_assign(out: &mut Writer, assign: &AssignShown) -> Result<(), AllocError>
         ≡ out.old.tokens ++ json_tokens (outline (assign_data assign.now))) }
     ensures before { out.new.before ≡ out.old.before }
 {
-    let values = assign.values.list()?;
     out.begin_object()?;
     put_front(out, assign)?;
     out.key("values")?;
-    put_values(out, &values)?;
+    put_values(out, &assign.values)?;
     out.end_object()
 }
 

@@ -195,6 +195,9 @@ fn other_refusal(alloc: Global, code: u64, value: &Value) -> Result<Refusal, Tak
     } else if has(value, "rule") {
         let rule = number_in(value, "rule")?;
         Ok(Refusal::Vetoed { rule })
+    } else if has(value, "number") {
+        let number = number_in(value, "number")?;
+        Ok(Refusal::OtherCommand { number })
     } else {
         load_refusal(code, value)
     }

@@ -1,0 +1,7 @@
+use Rattle.std.proofs.Common.{◌≡◌, ◌++◌, drop}
+use Rattle.reg_json.specs.Values.{value_tokens}
+use Rattle.reg_json.proofs.shown_attributes.put_few.Given as goal
+
+-- what is written, and the values to come, are all
+abbrev pub invariant-loop-value : goal.invariant-loop-value
+invariant-loop-value l = (l.out.before ≡ l.fn.out.before) × (l.out.tokens ++ value_tokens (drop l.value-index l.values) ≡ l.fn.out.tokens ++ value_tokens l.fn.values)
