@@ -9,11 +9,15 @@ use Rattle.reg_base.specs.declared.entity.Entity.{Entity}
 use Rattle.reg_base.specs.declared.entity.Entity.TheVariants.{Person, Group, System, Everyone}
 use Rattle.reg_terms.specs.declared.command.Command.{Command}
 use Rattle.reg_terms.specs.declared.request.Op.TheVariants as op
-use Rattle.reg_ops.specs.Forms.{is_entity, has_form, op_has_form}
+use Rattle.reg_ops.specs.Forms.{is_entity, has_form, key_fits, op_has_form, op_takes_key, takes_key}
 
 -- a command that is asked has its form
 pub command_form : (command : Command) → op_has_form (op.Command command) ≡ true → has_form command ≡ true
 command_form command form = form
+
+-- and so has its key
+pub command_key : (command : Command) (key : Option (List ℕ)) → key_fits (op_takes_key (op.Command command)) key ≡ true → key_fits (takes_key command) key ≡ true
+command_key command key fits = fits
 
 -- an entity that a text names has its form
 either : (b : Bool) (x y : Option Entity) → IfSome x (λ e. is_entity e ≡ true) → IfSome y (λ e. is_entity e ≡ true) → IfSome (if b then x else y) (λ e. is_entity e ≡ true)

@@ -1,20 +1,21 @@
 -- What a keeper has after a request.
-use Rattle.std.proofs.Common.{◌≡◌, ◌≤◌, ◌<◌, ◌^◌, ◌++◌, ◌∷◌, [], List, ℕ, Bool, Option, Some, None, Result, Ok, Err, true, false, refl, ap, sym, ◌∙◌, append-nil, subst, arith, option_map, length, length-append, ◌⊎◌, inl, inr}
+use Rattle.std.proofs.Common.{◌≡◌, ◌≤◌, ◌++◌, ◌∷◌, [], List, ℕ, Bool, Option, Some, None, Result, Ok, Err, true, false, suc, refl, ap, sym, ◌∙◌, append-nil, subst, arith, option_map, length, length-append, ◌⊎◌, inl, inr}
 use Rattle.std.specs.Prelude.{IfSome, is_some}
 use Rattle.std.proofs.lemmas.List.{take_all, take_at}
 use Rattle.reg_outside.specs.Disk.{Leaves}
 use Rattle.reg_outside.specs.Faults.{Rose}
 use Rattle.reg_terms.specs.declared.command.Stamped.{Stamped}
-use Rattle.reg_terms.specs.declared.request.Op.TheVariants as op
 use Rattle.reg_machine.specs.History.{State, appended, facts}
+use Rattle.reg_machine.specs.Ids.{made_id}
+use Rattle.reg_machine.specs.Keys.{is_free}
 use Rattle.reg_machine.specs.Refusals.{refusal}
 use Rattle.reg_wire.specs.Payload.{payload, stamped_of}
 use Rattle.reg_keep.specs.declared.keeper.Keeper.{Ghosts}
 use Rattle.reg_keep.specs.Keeping.{IsOneOf, AreOneOf}
 use Rattle.reg_service.specs.Opening.{payloads_of, IsServed, Reopens}
-use Rattle.reg_service.specs.Ids.{made_id}
-use Rattle.reg_service.specs.Kept.{KeptOn, IsBetween, Stopped, IsAcknowledged}
-use Rattle.reg_service.specs.Turn.{ordered, answered, at_moment, Carries, GoesOn, KeepsHistory}
+use Rattle.reg_service.specs.Kept.{KeptOn, IsBetween, Stopped, IsAcknowledged, IsLoaded, IsSafe}
+use Rattle.reg_service.specs.KeptAt.{IsKeptAt}
+use Rattle.reg_service.specs.Turn.{decided, answered, at_moment, Carries, GoesOn, KeepsHistory}
 use Rattle.reg_service.specs.declared.service.Next.{Next}
 use Rattle.reg_terms.specs.declared.query.Answer.{Answer}
 use Rattle.reg_terms.specs.declared.refusal.Refusal.{Refusal}
@@ -99,13 +100,13 @@ told_failed (Some ps) new p (inr e) = rw e refl
 
 -- after an append that failed a stop leaves the history with the command or without it
 pub stopped_one : {K : Type 0} (g : Ghosts K) (s : State) (st : Stamped) (old new : K) → IsServed s (g.payloads old) (g.has_failed old) → st.at ≡ s.clock
-    → refusal s.history s.clock st.by st.command ≡ None → stamped_of (payload st) ≡ Some st
+    → is_free s.history st.by st.key ≡ true → refusal s.history s.clock st.by st.command ≡ None → stamped_of (payload st) ≡ Some st
     → ((r : Result (List (List ℕ)) ℕ) → g.keep_moment old ≤ g.keep_moment new → g.stop_leaves new r → g.stopped_since new (g.keep_moment old) r)
     → IfSome (g.payloads old) (λ ps. Leaves g.keep_moment g.stopped_since (IsOneOf ps (payload st)) old new) → IfSome (g.payloads old) (λ ps. Stopped g s.history (s.history ++ st ∷ []) new)
-stopped_one g s st old new served at sure back counts leaves = stopped (g.payloads old) served.payloads leaves
+stopped_one g s st old new served at free sure back counts leaves = stopped (g.payloads old) served.payloads leaves
   where
     again : Reopens (s.history ++ st ∷ [])
-    again = opens_more s.history st back (omega (arith, served.last)) (subst (λ (n : ℕ). refusal s.history n st.by st.command ≡ None) (sym at) sure) (whole_reopens s.history served.opens)
+    again = opens_more s.history st back (omega (arith, served.last)) free (subst (λ (n : ℕ). refusal s.history n st.by st.command ≡ None) (sym at) sure) (whole_reopens s.history served.opens)
 
     stopped : (o : Option (List (List ℕ))) → IfSome o (λ ps. ps ≡ payloads_of s.history) → IfSome o (λ ps. Leaves g.keep_moment g.stopped_since (IsOneOf ps (payload st)) old new)
         → IfSome o (λ ps. Stopped g s.history (s.history ++ st ∷ []) new)
@@ -155,59 +156,77 @@ served_later s m to told failed v later is =
 
 -- an accepted command that is kept is served
 pub served_one : (s m : State) (st : Stamped) (bytes : List ℕ) (told told2 : Option (List (List ℕ))) (failed failed2 : Bool) → IsServed s told failed → st.at ≡ s.clock
-    → refusal s.history s.clock st.by st.command ≡ None → stamped_of (payload st) ≡ Some st → m ≡ appended s st.by st.command → bytes ≡ payload st → told2 ≡ option_map (λ ps. ps ++ bytes ∷ []) told → failed2 ≡ false → IsServed m told2 failed2
-served_one s m st bytes told told2 failed failed2 served at sure back is same kept going =
-    rw is (served_more s st told told2 failed failed2 served at sure back (subst (λ (b : List ℕ). told2 ≡ option_map (λ ps. ps ++ b ∷ []) told) same kept) going)
+    → is_free s.history st.by st.key ≡ true → refusal s.history s.clock st.by st.command ≡ None → stamped_of (payload st) ≡ Some st → m ≡ appended s st.by st.key st.command → bytes ≡ payload st → told2 ≡ option_map (λ ps. ps ++ bytes ∷ []) told → failed2 ≡ false → IsServed m told2 failed2
+served_one s m st bytes told told2 failed failed2 served at free sure back is same kept going =
+    rw is (served_more s st told told2 failed failed2 served at free sure back (subst (λ (b : List ℕ). told2 ≡ option_map (λ ps. ps ++ b ∷ []) told) same kept) going)
 
 with_payload : {K : Type 0} (g : Ghosts K) (st : Stamped) (bytes : List ℕ) (old new : K) → bytes ≡ payload st → IfSome (g.payloads old) (λ ps. Leaves g.keep_moment g.stopped_since (IsOneOf ps bytes) old new)
     → IfSome (g.payloads old) (λ ps. Leaves g.keep_moment g.stopped_since (IsOneOf ps (payload st)) old new)
 with_payload g st bytes old new is l = subst (λ (b : List ℕ). IfSome (g.payloads old) (λ ps. Leaves g.keep_moment g.stopped_since (IsOneOf ps b) old new)) is l
 
 -- and each stop meanwhile leaves the history with it or without it
-pub kept_ok : {K : Type 0} (g : Ghosts K) (s m : State) (st : Stamped) (bytes : List ℕ) (old new : K) → IsServed s (g.payloads old) (g.has_failed old) → st.at ≡ s.clock → m ≡ appended s st.by st.command
+pub kept_ok : {K : Type 0} (g : Ghosts K) (s m : State) (st : Stamped) (bytes : List ℕ) (old new : K) → IsServed s (g.payloads old) (g.has_failed old) → st.at ≡ s.clock → m ≡ appended s st.by st.key st.command
     → bytes ≡ payload st → g.keep_name new ≡ g.keep_name old → g.keep_faults old ≤ g.keep_faults new → g.payloads new ≡ option_map (λ ps. ps ++ bytes ∷ []) (g.payloads old)
     → IfSome (g.payloads old) (λ ps. Leaves g.keep_moment g.stopped_since (IsOneOf ps bytes) old new) → KeptOn g s.history old m.history new
 kept_ok g s m st bytes old new served at is same object later kept leaves =
-    let history : m.history ≡ s.history ++ st ∷ [] = ap (λ (t : State). t.history) is ∙ ap (λ (n : ℕ). s.history ++ (record { at = n; by = st.by; command = st.command }) ∷ []) (sym at) in
+    let history : m.history ≡ s.history ++ st ∷ [] = ap (λ (t : State). t.history) is ∙ ap (λ (n : ℕ). s.history ++ (record { at = n; by = st.by; key = st.key; command = st.command }) ∷ []) (sym at) in
     rw history (kept_one g s st old new served object later (told_kept (g.payloads old) (g.payloads new) (λ ps. ps ++ bytes ∷ []) kept) (with_payload g st bytes old new same leaves))
 
 -- an append that failed
 pub kept_err : {K : Type 0} (g : Ghosts K) (s : State) (st : Stamped) (bytes : List ℕ) (old new : K) (expected : List Stamped) → IsServed s (g.payloads old) (g.has_failed old) → st.at ≡ s.clock
-    → refusal s.history s.clock st.by st.command ≡ None → stamped_of (payload st) ≡ Some st → expected ≡ s.history ++ st ∷ []
+    → is_free s.history st.by st.key ≡ true → refusal s.history s.clock st.by st.command ≡ None → stamped_of (payload st) ≡ Some st → expected ≡ s.history ++ st ∷ []
     → bytes ≡ payload st → g.keep_name new ≡ g.keep_name old → g.keep_faults old ≤ g.keep_faults new → Rose (g.keep_faults old) (g.keep_faults new) → AreOneOf (g.payloads old) bytes (g.payloads new)
     → ((t : ℕ) (r : Result (List (List ℕ)) ℕ) → t ≤ g.keep_moment new → g.stop_leaves new r → g.stopped_since new t r)
     → IfSome (g.payloads old) (λ ps. Leaves g.keep_moment g.stopped_since (IsOneOf ps bytes) old new)
     → (x : List Stamped) × ((x ≡ s.history) ⊎ (x ≡ expected)) × KeptOn g s.history old x new × IfSome (g.payloads old) (λ ps. Stopped g s.history x new) × Rose (g.keep_faults old) (g.keep_faults new)
-kept_err g s st bytes old new expected served at sure back would same object later rose failed counts leaves =
+kept_err g s st bytes old new expected served at free sure back would same object later rose failed counts leaves =
     let all = with_payload g st bytes old new same leaves in (
       s.history ++ st ∷ [],
       inr (sym would),
       kept_one g s st old new served object later (told_failed (g.payloads old) (g.payloads new) bytes failed) all,
-      stopped_one g s st old new served at sure back (λ r le left. counts (g.keep_moment old) r le left) all,
+      stopped_one g s st old new served at free sure back (λ r le left. counts (g.keep_moment old) r le left) all,
       rose,
     )
 
 -- what an accepted command would lead to
-pub would_keep : (s : State) (st : Stamped) → st.at ≡ s.clock → refusal s.history s.clock st.by st.command ≡ None → (ordered s (Some st.by) st.command).1.history ≡ s.history ++ st ∷ []
+pub would_keep : (s : State) (st : Stamped) → st.at ≡ s.clock → refusal s.history s.clock st.by st.command ≡ None → (decided s st.by st.key st.command (refusal s.history s.clock st.by st.command)).1.history ≡ s.history ++ st ∷ []
 would_keep s st at sure = rw (sure, ← at) refl
 
--- a command that was kept is acknowledged
+-- all that a service has is safe
+safe_now : {K : Type 0} (g : Ghosts K) (s : State) (k : K) → IsServed s (g.payloads k) (g.has_failed k)
+    → ((r : Result (List (List ℕ)) ℕ) → g.has_failed k ≡ false → g.stop_leaves k r → (ps : List (List ℕ)) × (g.payloads k ≡ Some ps) × (r ≡ Ok ps)) → IsSafe g s.history k
+safe_now g s k served now = record { payloads = served.payloads; stops = leaves_history g s k served now }
+
+one_more : (s m : State) (st : Stamped) → m ≡ appended s st.by st.key st.command → m.history ≡ s.history ++ (record { at = s.clock; by = st.by; key = st.key; command = st.command }) ∷ []
+one_more s m st is = ap (λ (t : State). t.history) is
+
+-- a command that was kept now is one more
+pub loaded_one : {K : Type 0} (g : Ghosts K) (s m : State) (st : Stamped) (k : K) (n : ℕ) → IsServed m (g.payloads k) (g.has_failed k)
+    → ((r : Result (List (List ℕ)) ℕ) → g.has_failed k ≡ false → g.stop_leaves k r → (ps : List (List ℕ)) × (g.payloads k ≡ Some ps) × (r ≡ Ok ps))
+    → m ≡ appended s st.by st.key st.command → n ≡ length m.history → IsLoaded g s.history n (next.Go (record { state = m; keeper = k }))
+loaded_one g s m st k n served now is count =
+    let one : Stamped = record { at = s.clock; by = st.by; key = st.key; command = st.command } in
+    ((one, one_more s m st is), count, safe_now g m k served now)
+
+-- and is acknowledged
 pub acknowledged_one : {K : Type 0} (g : Ghosts K) (s m : State) (st : Stamped) (k : K) (n : ℕ) (id : Option ℕ) → IsServed m (g.payloads k) (g.has_failed k)
     → ((r : Result (List (List ℕ)) ℕ) → g.has_failed k ≡ false → g.stop_leaves k r → (ps : List (List ℕ)) × (g.payloads k ≡ Some ps) × (r ≡ Ok ps))
-    → m ≡ appended s st.by st.command → n ≡ length m.history → id ≡ made_id st.command (facts s.history s.clock) → IsAcknowledged g s.history n id (next.Go (record { state = m; keeper = k }))
+    → m ≡ appended s st.by st.key st.command → n ≡ length m.history → id ≡ made_id st.command (facts s.history s.clock) → IsAcknowledged g s.history n id (next.Go (record { state = m; keeper = k }))
 acknowledged_one g s m st k n id served now is count made =
-    let one : Stamped = record { at = s.clock; by = st.by; command = st.command } in
-    let history : m.history ≡ s.history ++ one ∷ [] = ap (λ (t : State). t.history) is in (
-      one,
-      history,
-      count ∙ ap (λ (l : List Stamped). length l) history,
-      made,
-      subst (λ (l : List Stamped). IfSome (g.payloads k) (λ ps. ps ≡ payloads_of l)) history served.payloads,
-      λ r left. subst (λ (l : List Stamped). r ≡ Ok (payloads_of l)) history (leaves_history g m k served now r left),
-    )
+    let one : Stamped = record { at = s.clock; by = st.by; key = st.key; command = st.command } in
+    let history : m.history ≡ s.history ++ one ∷ [] = one_more s m st is in
+    let number : n ≡ suc (length s.history) = omega (arith, count, ap (λ (l : List Stamped). length l) history, length-append s.history (one ∷ [])) in
+    let kept : IsKeptAt n id m.history = (s.history, [], one, history, number, made) in
+    (inl (one, history, count), kept, safe_now g m k served now)
+
+-- and so is one that was kept before
+pub acknowledged_again : {K : Type 0} (g : Ghosts K) (s : State) (k : K) (n : ℕ) (id : Option ℕ) → IsServed s (g.payloads k) (g.has_failed k)
+    → ((r : Result (List (List ℕ)) ℕ) → g.has_failed k ≡ false → g.stop_leaves k r → (ps : List (List ℕ)) × (g.payloads k ≡ Some ps) × (r ≡ Ok ps))
+    → IsKeptAt n id s.history → IsAcknowledged g s.history n id (next.Go (record { state = s; keeper = k }))
+acknowledged_again g s k n id served now kept = (inr refl, kept, safe_now g s k served now)
 
 -- an answered query leaves the history, and the clock as it was moved
-answered_keeps : (s : State) (r : Result Answer Refusal) (told : Reply) (after : State) → told ≡ answered r → after.history ≡ s.history → KeepsHistory s told after
+pub answered_keeps : (s : State) (r : Result Answer Refusal) (told : Reply) (after : State) → told ≡ answered r → after.history ≡ s.history → KeepsHistory s told after
 answered_keeps s (Ok a) told after is same = rw is same
 answered_keeps s (Err e) told after is same = rw is same
 

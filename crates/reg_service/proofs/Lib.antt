@@ -1,4 +1,6 @@
+pub mod Keyed
 pub mod Forms
+pub mod Judging
 pub mod Keeping
 pub mod LoadKeys
 pub mod LoadStanding
@@ -6,4 +8,5 @@ pub mod LoadsPass
 pub mod LoadsFull
 pub mod Loads
 pub mod Migrating
+pub mod Once
 pub mod Opens

@@ -1,7 +1,7 @@
--- What a file of format 1 opens to, and what its records open to in format 2.
-use Rattle.std.proofs.Common.{◌≡◌, ◌≤◌, ◌∷◌, [], List, ℕ, Option, Some, None, Result, Ok, Err, true, false, refl, ap, sym, ◌∙◌, subst, arith, ◌⊎◌, inl, inr, ⊎_elim}
+-- What a file of format 1 opens to, and what its recoded payloads open to.
+use Rattle.std.proofs.Common.{◌≡◌, ◌∷◌, [], List, ℕ, Option, Some, None, Result, Ok, Err, true, false, refl, ap, sym, ◌∙◌, subst, arith, inl, inr}
 use Rattle.std.specs.Prelude.{IfSome, ⊤}
-use Rattle.reg_outside.specs.Disk.{Changes, Leaves, Same, After}
+use Rattle.reg_outside.specs.Disk.{Changes, Leaves, Same}
 use Rattle.reg_outside.specs.Faults.{Rose}
 use Rattle.reg_outside.specs.declared.disk.Disk.{Ghosts}
 use Rattle.reg_terms.specs.declared.command.Stamped.{Stamped}
@@ -14,11 +14,9 @@ use Rattle.reg_keep.specs.declared.begin.InitFault.{InitFault}
 use Rattle.reg_keep.specs.declared.begin.InitFault.TheVariants as init_fault
 use Rattle.reg_keep.specs.declared.open.OpenFault.{OpenFault}
 use Rattle.reg_keep.specs.declared.open.OpenFault.TheVariants as open_fault
-use Rattle.reg_recode.specs.Recoded.{recoded_payload, recoded, all_recoded, opened_recoded, payloads_recoded, WasOrRecoded}
-use Rattle.reg_recode.specs.declared.fault.RecodeFault.{RecodeFault}
-use Rattle.reg_recode.specs.declared.fault.RecodeFault.TheVariants.{Read, Fill}
+use Rattle.reg_recode.specs.Recoded.{recoded_payload, recoded, all_recoded, payloads_recoded, WasOrRecoded}
 use Rattle.reg_service.specs.Opening.{after_stamped, after_payload, after_old_payload, or_place, and_then, judged, judged_old, judged_all, judged_all_old, opens, opens_old}
-use Rattle.reg_service.specs.Migrating.{WasOrMigrated, OpensOld, IsDamagedOld, OpenedOld, IsSame, MigrateEnds, fault_of_open, fault_of_recode}
+use Rattle.reg_service.specs.Migrating.{WasOrMigrated, OpensOld, IsDamagedOld, OpenedOld, MigrateEnds, fault_of_fill, fault_of_open}
 use Rattle.reg_service.specs.declared.migration.MigrateFault.{MigrateFault}
 use Rattle.reg_service.proofs.Keeping.{leaves_by}
 use Rattle.reg_service.proofs.Opens.{Records, judged_same}
@@ -42,34 +40,9 @@ judged_recoded law s (r ∷ rs) =
     ap (λ (o : Option State). and_then (or_place r.0 o) (λ a. judged a (recoded rs))) (after_recoded law s r.1)
     ∙ same_then (or_place r.0 (after_old_payload s r.1)) (λ a. judged a (recoded rs)) (λ a. judged_old a rs) (λ a. judged_recoded law a rs)
 
-judged_as : SaysTheSame → (o : Result Records ℕ) (records : Records) (r : Result State ℕ) → all_recoded o ≡ Ok records → judged start records ≡ r → judged_all_old o ≡ r
-judged_as law (Ok old) records r is good =
-    let same : recoded old ≡ records = cc in
-    sym (judged_recoded law start old) ∙ (ap (λ (l : Records). judged start l) same ∙ good)
-judged_as law (Err place) records r is good = absurd (cc)
-
--- a file of which the recoded records are a history
-pub opened_well : SaysTheSame → (held : Option (List ℕ)) (records : Records) (s : State) → IfSome held (λ bytes. opened_recoded bytes ≡ Ok records) → IfSome held (λ bytes. begins_new bytes ≡ false)
-    → judged start records ≡ Ok s → OpensOld held
-opened_well law None records s is own good = tt
-opened_well law (Some file) records s is own good = (own, (s, judged_as law (opened_old file) records (Ok s) is good))
-
-damaged_records : SaysTheSame → (at : ℕ) (held : Option (List ℕ)) (records : Records) → IfSome held (λ bytes. opened_recoded bytes ≡ Ok records) → IfSome held (λ bytes. begins_new bytes ≡ false)
-    → judged start records ≡ Err at → IsDamagedOld at held
-damaged_records law at None records is own bad = tt
-damaged_records law at (Some file) records is own bad = (own, judged_as law (opened_old file) records (Err at) is bad)
-
 damaged_frames : (at : ℕ) (held : Option (List ℕ)) → IfSome held (λ bytes. opened_old bytes ≡ Err at) → IfSome held (λ bytes. begins_new bytes ≡ false) → IsDamagedOld at held
 damaged_frames at None is own = tt
 damaged_frames at (Some file) is own = (own, ap judged_all_old is)
-
--- a file of which they aren't
-pub opened_ill : SaysTheSame → (f : OpenFault) (held : Option (List ℕ)) (records : Records) (was is : ℕ) → IfSome held (λ bytes. opened_recoded bytes ≡ Ok records) → IfSome held (λ bytes. begins_new bytes ≡ false)
-    → ((at : ℕ) → f ≡ open_fault.Damaged at → judged start records ≡ Err at) → (f ≡ open_fault.OtherFormat → ⊥) → (f ≡ open_fault.Fault → ⊥) → is ≡ was → OpenedOld {T = ⊤} (Err f) held was is
-opened_ill law (open_fault.Damaged at) held records was is were own bad other failed still = (damaged_records law at held records were own (bad at refl), still)
-opened_ill law open_fault.OtherFormat held records was is were own bad other failed still = absurd (other refl)
-opened_ill law open_fault.Fault held records was is were own bad other failed still = absurd (failed refl)
-opened_ill law open_fault.NoMemory held records was is were own bad other failed still = still
 
 -- a file that isn't read
 pub opened_not : (f : OpenFault) (held : Option (List ℕ)) (was is : ℕ) → ((at : ℕ) → f ≡ open_fault.Damaged at → IfSome held (λ bytes. opened_old bytes ≡ Err at))
@@ -132,26 +105,14 @@ same_both : (P Q : Type 0) (held : Option (List ℕ)) → IfSome held (λ file. 
 same_both P Q None unfit p q = tt
 same_both P Q (Some file) unfit p q = (q unfit, p unfit)
 
--- a file that opens as one of format 1 and wasn't written anew
-pub ended_writing : {E : Type 0} (g : Ghosts E) (f : RecodeFault) (held : Option (List ℕ)) (was is : ℕ) (old new : E) → OpensOld held
-    → ((at : ℕ) → f ≡ Read (open_fault.Damaged at) → IfSome held (λ bytes. opened_old bytes ≡ Err at)) → ((at : ℕ) → f ≡ Read (open_fault.Damaged at) → IfSome held (λ bytes. begins_new bytes ≡ false))
-    → (f ≡ Read open_fault.OtherFormat → IfSome held (λ bytes. begins_new bytes ≡ true)) → (f ≡ Read open_fault.Fault → Rose was is)
-    → ((at : ℕ) → f ≡ Read (open_fault.Damaged at) → is ≡ was) → (f ≡ Read open_fault.OtherFormat → is ≡ was) → (f ≡ Read open_fault.NoMemory → is ≡ was) → ((why : InitFault) → f ≡ Fill why → is ≡ was)
-    → ((why : OpenFault) → f ≡ Read why → new ≡ old) → (f ≡ Fill init_fault.Exists → IfSome (g.contents old) (λ bytes. is_unfit bytes ≡ true)) → (f ≡ Fill init_fault.Fault → Rose (g.faults old) (g.faults new))
-    → (f ≡ Fill init_fault.Exists → g.faults new ≡ g.faults old) → IfSome (g.contents old) (λ bytes. is_unfit bytes ≡ true → Changes g.moment g.may_leave g.left_since Same old new)
-    → IfSome (g.contents old) (λ bytes. is_unfit bytes ≡ true → g.contents new ≡ g.contents old) → MigrateEnds {T = ⊤} g (Err (fault_of_recode f)) held was is old new
-ended_writing g (Read (open_fault.Damaged at)) held was is old new found damaged own other rose still still_other still_memory still_filling unread exists fault still_exists untouched same =
-    (damaged_frames at held (damaged at refl) (own at refl), still at refl, unread (open_fault.Damaged at) refl)
-ended_writing g (Read open_fault.OtherFormat) held was is old new found damaged own other rose still still_other still_memory still_filling unread exists fault still_exists untouched same =
-    (other refl, still_other refl, unread open_fault.OtherFormat refl)
-ended_writing g (Read open_fault.Fault) held was is old new found damaged own other rose still still_other still_memory still_filling unread exists fault still_exists untouched same =
-    inl (rose refl, unread open_fault.Fault refl)
-ended_writing g (Read open_fault.NoMemory) held was is old new found damaged own other rose still still_other still_memory still_filling unread exists fault still_exists untouched same =
-    (still_memory refl, unread open_fault.NoMemory refl)
-ended_writing g (Fill init_fault.Exists) held was is old new found damaged own other rose still still_other still_memory still_filling unread exists fault still_exists untouched same =
-    (found, exists refl, still_filling init_fault.Exists refl, still_exists refl, same_both (Changes g.moment g.may_leave g.left_since Same old new) (g.contents new ≡ g.contents old) (g.contents old) (exists refl) untouched same)
-ended_writing g (Fill init_fault.Fault) held was is old new found damaged own other rose still still_other still_memory still_filling unread exists fault still_exists untouched same =
-    inr (fault refl, still_filling init_fault.Fault refl)
+-- a file that opens as one of format 1, where a second one wasn't filled
+pub ended_writing : {E : Type 0} (g : Ghosts E) (f : InitFault) (held : Option (List ℕ)) (count : ℕ) (old new : E) → OpensOld held
+    → (f ≡ init_fault.Exists → IfSome (g.contents old) (λ bytes. is_unfit bytes ≡ true)) → (f ≡ init_fault.Fault → Rose (g.faults old) (g.faults new)) → (f ≡ init_fault.Exists → g.faults new ≡ g.faults old)
+    → IfSome (g.contents old) (λ bytes. is_unfit bytes ≡ true → Changes g.moment g.may_leave g.left_since Same old new) → IfSome (g.contents old) (λ bytes. is_unfit bytes ≡ true → g.contents new ≡ g.contents old)
+    → MigrateEnds {T = ⊤} g (Err (fault_of_fill f)) held count count old new
+ended_writing g init_fault.Exists held count old new found exists fault still untouched same =
+    (found, exists refl, refl, still refl, same_both (Changes g.moment g.may_leave g.left_since Same old new) (g.contents new ≡ g.contents old) (g.contents old) (exists refl) untouched same)
+ended_writing g init_fault.Fault held count old new found exists fault still untouched same = inr (fault refl, refl)
 
 -- one that doesn't open
 pub ended_opening : {E : Type 0} (g : Ghosts E) (f : OpenFault) (held : Option (List ℕ)) (was is : ℕ) (old : E) → OpenedOld {T = ⊤} (Err f) held was is → MigrateEnds {T = ⊤} g (Err (fault_of_open f)) held was is old old
@@ -160,20 +121,6 @@ ended_opening g open_fault.OtherFormat held was is old o = (o.0, o.1, refl)
 ended_opening g open_fault.Fault held was is old o = inl (o, refl)
 ended_opening g open_fault.NoMemory held was is old o = (o, refl)
 
--- the first disk was read before
-pub ended_later : {T E : Type 0} (g : Ghosts E) (r : Result T MigrateFault) (held held_then : Option (List ℕ)) (was was_then is : ℕ) (old new : E) → held_then ≡ held → was_then ≡ was
-    → MigrateEnds g r held_then was_then is old new → MigrateEnds g r held was is old new
-ended_later g r held held_then was was_then is old new same still ends =
-    subst (λ (h : Option (List ℕ)). MigrateEnds g r h was is old new) same (subst (λ (n : ℕ). MigrateEnds g r held_then n is old new) still ends)
-
--- a disk that is only read, twice
-pub read_twice : {D : Type 0} (g : Ghosts D) (old mid new : D) → Changes g.moment g.may_leave g.left_since Same old mid → Changes g.moment g.may_leave g.left_since Same mid new → Changes g.moment g.may_leave g.left_since Same old new
-read_twice g old mid new one two = record {
-  later = omega (arith, one.later, two.later);
-  leaves = λ c left. through c (two.leaves c left);
-  since = λ t c le left. ⊎_elim (λ was. one.since t c le was) (λ from. inr (through c from)) (two.since t c (omega (arith, le, one.later)) left);
-  keeps = λ t c le left. two.keeps t c (omega (arith, le, one.later)) (one.keeps t c le left);
-}
-  where
-    through : (c : List ℕ) → After Same (g.may_leave mid) c → After Same (g.may_leave old) c
-    through c from = let was = one.leaves from.0 from.1 in (was.0, was.1, from.2 ∙ was.2)
+-- the first disk's count of faults stayed
+pub ended_still : {T E : Type 0} (g : Ghosts E) (r : Result T MigrateFault) (held : Option (List ℕ)) (was is : ℕ) (old new : E) → is ≡ was → MigrateEnds g r held is is old new → MigrateEnds g r held was is old new
+ended_still g r held was is old new still ends = subst (λ (n : ℕ). MigrateEnds g r held n is old new) still ends

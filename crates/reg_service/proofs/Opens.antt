@@ -1,11 +1,12 @@
 -- What records open to, and that a history with one more accepted command opens again.
 use Rattle.std.proofs.Common.{◌≡◌, ◌≤◌, ◌++◌, ◌∷◌, [], List, ℕ, Bool, Option, Some, None, Result, Ok, Err, true, false, refl, ap, sym, ◌∙◌, append_assoc, append-nil, subst, map, arith, option_map, zero, suc, ◌+◌, length, length-append, take, drop, ◌⊎◌, inl, inr}
-use Rattle.std.specs.Prelude.{IfSome, nat_lt, if◌then◌else◌}
+use Rattle.std.specs.Prelude.{IfSome, nat_lt, if◌then◌else◌, ◌||◌, not}
 use Rattle.std.proofs.lemmas.Bool.Decides.{nat_tests}
 use Rattle.std.proofs.lemmas.List.{take-append-drop, take-append-le, map-append, length-take-le, take_all, take_at}
 use Rattle.reg_terms.specs.declared.command.Stamped.{Stamped}
 use Rattle.reg_terms.specs.declared.refusal.Refusal.{Refusal}
 use Rattle.reg_machine.specs.History.{State, start, appended}
+use Rattle.reg_machine.specs.Keys.{is_free}
 use Rattle.reg_machine.specs.Refusals.{refusal}
 use Rattle.reg_wire.specs.Payload.{payload, stamped_of, IsWritable}
 use Rattle.reg_service.specs.Opening.{payloads_of, last_from, at_last, accepted, after_stamped, after_payload, or_place, and_then, judged, IsServed, Reopens, FrontsReopen}
@@ -60,7 +61,7 @@ pub record IsAfter (s : State) (bytes : List ℕ) (t : State) : Type 0 where
 accepted_after : (s t : State) (bytes : List ℕ) (stamped : Stamped) (r : Option Refusal) → payload stamped ≡ bytes → accepted s stamped r ≡ Some t → IsAfter s bytes t
 accepted_after s t bytes stamped (Some r) p e = absurd (cc)
 accepted_after s t bytes stamped None p e =
-    let is : appended (record { history = s.history; clock = stamped.at }) stamped.by stamped.command ≡ t = cc in
+    let is : appended (record { history = s.history; clock = stamped.at }) stamped.by stamped.key stamped.command ≡ t = cc in
     subst (λ (x : State). IsAfter s bytes x) is (record {
       history = payloads_more s.history stamped ∙ ap (λ (b : List ℕ). payloads_of s.history ++ b ∷ []) p;
       one = stamped;
@@ -68,14 +69,14 @@ accepted_after s t bytes stamped None p e =
       clock = sym (last_more 0 s.history stamped);
     })
 
-in_time_after : (s t : State) (bytes : List ℕ) (stamped : Stamped) (early : Bool) → payload stamped ≡ bytes
-    → (if early then None else accepted s stamped (refusal s.history stamped.at stamped.by stamped.command)) ≡ Some t → IsAfter s bytes t
+in_time_after : (s t : State) (bytes : List ℕ) (stamped : Stamped) (barred : Bool) → payload stamped ≡ bytes
+    → (if barred then None else accepted s stamped (refusal s.history stamped.at stamped.by stamped.command)) ≡ Some t → IsAfter s bytes t
 in_time_after s t bytes stamped true p e = absurd (cc)
 in_time_after s t bytes stamped false p e = accepted_after s t bytes stamped (refusal s.history stamped.at stamped.by stamped.command) p e
 
 stamped_after : IsOnePayload → (s t : State) (bytes : List ℕ) (found : Option Stamped) → stamped_of bytes ≡ found → after_stamped s found ≡ Some t → IsAfter s bytes t
 stamped_after law s t bytes None is e = absurd (cc)
-stamped_after law s t bytes (Some stamped) is e = in_time_after s t bytes stamped (nat_lt stamped.at s.clock) (law bytes stamped is).0 e
+stamped_after law s t bytes (Some stamped) is e = in_time_after s t bytes stamped (nat_lt stamped.at s.clock || not (is_free s.history stamped.by stamped.key)) (law bytes stamped is).0 e
 
 payload_after : IsOnePayload → (s t : State) (bytes : List ℕ) → after_payload s bytes ≡ Some t → IsAfter s bytes t
 unfolding after_payload
@@ -149,32 +150,32 @@ fronts_more h s fronts whole n le = cases (or_last n (length h) (omega (arith, l
     cases (inl short) = subst Reopens (sym (take-append-le n h (s ∷ []) short)) (fronts n short)
     cases (inr all) = subst Reopens (sym (take_all n (h ++ s ∷ []) (omega (arith, length-append h (s ∷ []), all)))) whole
 
-after_written : (history : List Stamped) (stamped : Stamped) → stamped_of (payload stamped) ≡ Some stamped → last_from 0 history ≤ stamped.at → refusal history stamped.at stamped.by stamped.command ≡ None
+after_written : (history : List Stamped) (stamped : Stamped) → stamped_of (payload stamped) ≡ Some stamped → last_from 0 history ≤ stamped.at → is_free history stamped.by stamped.key ≡ true → refusal history stamped.at stamped.by stamped.command ≡ None
     → after_payload (at_last history) (payload stamped) ≡ Some (at_last (history ++ stamped ∷ []))
 unfolding after_payload
-after_written history stamped back later sure =
+after_written history stamped back later free sure =
     let in_time : nat_lt stamped.at (last_from 0 history) ≡ false = grind (arith, nat_tests) in
     let clock : stamped.at ≡ last_from 0 (history ++ stamped ∷ []) = sym (last_more 0 history stamped) in
-    rw (back, in_time, sure) (ap (λ (n : ℕ). Some (record { history = history ++ stamped ∷ []; clock = n })) clock)
+    rw (back, in_time, free, sure) (ap (λ (n : ℕ). Some (record { history = history ++ stamped ∷ []; clock = n })) clock)
 
-pub opens_more : (history : List Stamped) (stamped : Stamped) → stamped_of (payload stamped) ≡ Some stamped → last_from 0 history ≤ stamped.at → refusal history stamped.at stamped.by stamped.command ≡ None
+pub opens_more : (history : List Stamped) (stamped : Stamped) → stamped_of (payload stamped) ≡ Some stamped → last_from 0 history ≤ stamped.at → is_free history stamped.by stamped.key ≡ true → refusal history stamped.at stamped.by stamped.command ≡ None
     → ((records : Records) → texts records ≡ payloads_of history → judged start records ≡ Ok (at_last history))
     → (records : Records) → texts records ≡ payloads_of (history ++ stamped ∷ []) → judged start records ≡ Ok (at_last (history ++ stamped ∷ []))
-opens_more history stamped back later sure opens records is =
+opens_more history stamped back later free sure opens records is =
     let s = split_last records (payloads_of history) (payload stamped) (is ∙ payloads_more history stamped) in
-    let one : after_payload (at_last history) s.last.1 ≡ Some (at_last (history ++ stamped ∷ [])) = rw s.end (after_written history stamped back later sure) in
+    let one : after_payload (at_last history) s.last.1 ≡ Some (at_last (history ++ stamped ∷ [])) = rw s.end (after_written history stamped back later free sure) in
     rw (s.joined, judged_append start s.front (s.last ∷ []), opens s.front s.before, one) refl
 
 -- an accepted command that is kept is served
 pub served_more : (s : State) (stamped : Stamped) (told told2 : Option (List (List ℕ))) (failed failed2 : Bool) → IsServed s told failed → stamped.at ≡ s.clock
-    → refusal s.history s.clock stamped.by stamped.command ≡ None → stamped_of (payload stamped) ≡ Some stamped → told2 ≡ option_map (λ ps. ps ++ payload stamped ∷ []) told → failed2 ≡ false
-    → IsServed (appended s stamped.by stamped.command) told2 failed2
-served_more s stamped told told2 failed failed2 served at sure back kept going =
-    let same : appended s stamped.by stamped.command ≡ record { history = s.history ++ stamped ∷ []; clock = s.clock } = rw (← at) refl in
+    → is_free s.history stamped.by stamped.key ≡ true → refusal s.history s.clock stamped.by stamped.command ≡ None → stamped_of (payload stamped) ≡ Some stamped → told2 ≡ option_map (λ ps. ps ++ payload stamped ∷ []) told → failed2 ≡ false
+    → IsServed (appended s stamped.by stamped.key stamped.command) told2 failed2
+served_more s stamped told told2 failed failed2 served at free sure back kept going =
+    let same : appended s stamped.by stamped.key stamped.command ≡ record { history = s.history ++ stamped ∷ []; clock = s.clock } = rw (← at) refl in
     rw same (record {
       payloads = with_one told served.payloads kept;
       going = going;
-      opens = fronts_more s.history stamped served.opens (opens_more s.history stamped back (omega (arith, served.last)) (subst (λ (n : ℕ). refusal s.history n stamped.by stamped.command ≡ None) (sym at) sure) (whole_reopens s.history served.opens));
+      opens = fronts_more s.history stamped served.opens (opens_more s.history stamped back (omega (arith, served.last)) free (subst (λ (n : ℕ). refusal s.history n stamped.by stamped.command ≡ None) (sym at) sure) (whole_reopens s.history served.opens));
       last = omega (arith, last_more 0 s.history stamped);
     })
   where

@@ -9,8 +9,7 @@ use Rattle.reg_service.specs.declared.service.Next.{Next}
 use Rattle.reg_service.specs.declared.service.Next.TheVariants as next
 use Rattle.reg_service.specs.declared.service.Cause.{Cause}
 use Rattle.reg_service.specs.declared.service.Cause.TheVariants as cause
-use Rattle.reg_machine.specs.History.{facts}
-use Rattle.reg_service.specs.Ids.{made_id}
+use Rattle.reg_service.specs.KeptAt.{IsKeptAt}
 use Rattle.reg_service.specs.Opening.{payloads_of, FrontsReopen}
 
 -- the payloads of one of the histories from the first to the second, which goes on from it
@@ -87,18 +86,28 @@ LeavesFaults g old (next.Go s) = g.keep_faults s.keeper ≡ g.keep_faults old
 LeavesFaults g old (next.Stop cause.Memory keeper) = g.keep_faults keeper ≡ g.keep_faults old
 LeavesFaults g old (next.Stop cause.Disk keeper) = Unit {0}
 
--- The service goes on with a history that has one command more, at this place, and this is the id
--- of what it made; the keeper's payloads are this history's, where they are told, and each stop
--- leaves it.
+-- the history with one command more, which has this number; or as it was
+abbrev pub IsNumbered : List Stamped → ℕ → List Stamped → Type 0
+IsNumbered before number after =
+    ((one : Stamped) × (after ≡ before ++ one ∷ []) × (number ≡ length after)) ⊎ (after ≡ before)
+
+-- the keeper's payloads are this history's, where they are told, and each stop leaves it
+pub record IsSafe {K : Type 0} (g : Ghosts K) (history : List Stamped) (keeper : K) : Type 0 where
+  pub payloads : IfSome (g.payloads keeper) (λ ps. ps ≡ payloads_of history)
+  pub stops : (r : Result (List (List ℕ)) ℕ) → g.stop_leaves keeper r
+      → r ≡ Ok (payloads_of history)
+
+-- The service goes on with a history in which a command has this number, and made what has this id:
+-- one more than before, or one that was kept before under its key. All of it is safe.
 abbrev pub IsAcknowledged : {K : Type 0} → Ghosts K → List Stamped → ℕ → Option ℕ → Next K → Type 0
 IsAcknowledged g before number id (next.Go s) =
-    (one : Stamped) × (s.state.history ≡ before ++ one ∷ [])
-    × (number ≡ length (before ++ one ∷ [])) × (id ≡ made_id one.command (facts before one.at))
-    × IfSome (g.payloads s.keeper) (λ ps. ps ≡ payloads_of (before ++ one ∷ []))
-    × ((r : Result (List (List ℕ)) ℕ) → g.stop_leaves s.keeper r
-    → r ≡ Ok (payloads_of (before ++ one ∷ [])))
+    IsNumbered before number s.state.history × IsKeptAt number id s.state.history
+    × IsSafe g s.state.history s.keeper
 IsAcknowledged g before number id (next.Stop why keeper) = ⊥
 
--- the same of a load's command, whatever the id of what it made
+-- The service goes on with a load's command more, which has this number. All of it is safe.
 abbrev pub IsLoaded : {K : Type 0} → Ghosts K → List Stamped → ℕ → Next K → Type 0
-IsLoaded g before number n = (id : Option ℕ) × IsAcknowledged g before number id n
+IsLoaded g before number (next.Go s) =
+    ((one : Stamped) × (s.state.history ≡ before ++ one ∷ [])) × (number ≡ length s.state.history)
+    × IsSafe g s.state.history s.keeper
+IsLoaded g before number (next.Stop why keeper) = ⊥

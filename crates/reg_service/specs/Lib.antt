@@ -1,4 +1,5 @@
-pub mod Ids
+pub mod Again
+pub mod KeptAt
 pub mod Kept
 pub mod Loads
 pub mod Marked

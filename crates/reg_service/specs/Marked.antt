@@ -18,7 +18,8 @@ use Rattle.reg_machine.specs.History.{State}
 use Rattle.reg_keep.specs.declared.keeper.Keeper.{Ghosts}
 use Rattle.reg_service.specs.Opening.{payloads_of, Served}
 use Rattle.reg_service.specs.Kept.{KeptOn, IsBetween, keeper_of}
-use Rattle.reg_service.specs.Turn.{Follows, GoesOn, KeepsHistory, last_reply}
+use Rattle.reg_service.specs.KeptAt.{IsKeptAt}
+use Rattle.reg_service.specs.Turn.{Follows, GoesOn, KeepsHistory, KeepsNumber, last_reply}
 use Rattle.reg_service.specs.declared.service.Cause.{Cause}
 use Rattle.reg_service.specs.declared.service.Cause.TheVariants as cause
 use Rattle.reg_service.specs.declared.service.Next.{Next}
@@ -413,9 +414,21 @@ stopped_numbers : (why : Cause) → number_of (last_reply why) ≡ None
 stopped_numbers cause.Memory = refl
 stopped_numbers cause.Disk = refl
 
+-- a command that stands in a history has no greater number than it has commands
+kept_within : (n : ℕ) (id : Option ℕ) (h : List Stamped) → IsKeptAt n id h → n ≤ length h
+kept_within n id h k =
+    let long = ap (λ (l : List Stamped). length l) k.3 in
+    omega (arith, long, length-append k.0 (k.2 ∷ k.1), k.4)
+
+number_within : (s : State) (n : ℕ) (id : Option ℕ) (after : State) → KeepsNumber s n id after
+    → n ≤ length after.history
+number_within s n id after (inl h) = omega (arith, h.2)
+number_within s n id after (inr h) =
+    omega (arith, ap (λ (l : List Stamped). length l) h.0, kept_within n id s.history h.1)
+
 going_numbers : (s : State) (told : Reply) (after : State) → KeepsHistory s told after
     → IfSome (number_of told) (λ n. n ≤ length after.history)
-going_numbers s (reply.Number n id) after h = omega (arith, h.2)
+going_numbers s (reply.Number n id) after h = number_within s n id after h
 going_numbers s (reply.Loaded n counts) after h = omega (arith, h.2)
 going_numbers s (reply.Answer a) after h = tt
 going_numbers s (reply.Refused r) after h = tt

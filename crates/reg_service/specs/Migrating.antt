@@ -6,11 +6,11 @@ use Rattle.reg_outside.specs.declared.disk.Disk.{Ghosts}
 use Rattle.reg_machine.specs.History.{State, start}
 use Rattle.reg_keep.specs.Begin.{is_unfit}
 use Rattle.reg_keep.specs.Frames.{begins_new}
+use Rattle.reg_keep.specs.declared.begin.InitFault.{InitFault}
 use Rattle.reg_keep.specs.declared.begin.InitFault.TheVariants as init_fault
 use Rattle.reg_keep.specs.declared.open.OpenFault.{OpenFault}
 use Rattle.reg_keep.specs.declared.open.OpenFault.TheVariants as open_fault
-use Rattle.reg_recode.specs.declared.fault.RecodeFault.{RecodeFault}
-use Rattle.reg_recode.specs.declared.fault.RecodeFault.TheVariants.{Read, Fill}
+use Rattle.reg_recode.specs.Recoded.{AreRecoded}
 use Rattle.reg_service.specs.Opening.{opens, opens_old}
 use Rattle.reg_service.specs.declared.migration.MigrateFault.{MigrateFault}
 use Rattle.reg_service.specs.declared.migration.MigrateFault.TheVariants as fault
@@ -26,6 +26,10 @@ WasOrMigrated file was c =
 abbrev pub OpensOld : Option (List ℕ) → Type 0
 OpensOld held =
     IfSome held (λ file. (begins_new file ≡ false) × ((s : State) × (opens_old file ≡ Ok s)))
+
+-- these are the recoded records of a file that opens as one of format 1, where it is told
+abbrev pub AreMigrated : Option (List ℕ) → List (ℕ × List ℕ) → Type 0
+AreMigrated held records = AreRecoded held records × OpensOld held
 
 -- the file isn't of format 2, and as one of format 1 it is damaged at this place, where it is told
 abbrev pub IsDamagedOld : ℕ → Option (List ℕ) → Type 0
@@ -72,8 +76,7 @@ fault_of_open open_fault.OtherFormat = fault.OtherFormat
 fault_of_open open_fault.Fault = fault.Disk
 fault_of_open open_fault.NoMemory = fault.Memory
 
--- the same, where it wasn't written anew
-abbrev pub fault_of_recode : RecodeFault → MigrateFault
-fault_of_recode (Read why) = fault_of_open why
-fault_of_recode (Fill init_fault.Exists) = fault.Exists
-fault_of_recode (Fill init_fault.Fault) = fault.Disk
+-- the same, where the second file wasn't filled
+abbrev pub fault_of_fill : InitFault → MigrateFault
+fault_of_fill init_fault.Exists = fault.Exists
+fault_of_fill init_fault.Fault = fault.Disk

@@ -1,10 +1,12 @@
 -- What a journal opens to, in either format: the history of its payloads, where each reads back as a
 -- command that is accepted there.
-use Rattle.std.specs.Prelude.{◌≡◌, ℕ, ◌≤◌, List, [], ◌∷◌, Bool, false, Option, Some, None, Result}
+use Rattle.std.specs.Prelude.{◌≡◌, ℕ, ◌≤◌, ◌||◌, List, [], ◌∷◌, Bool, false, not, Option, Some}
+use Rattle.std.specs.Prelude.{None, Result}
 use Rattle.std.specs.Prelude.{Ok, Err, map, nat_lt, if◌then◌else◌, IfSome, length, take}
 use Rattle.reg_terms.specs.declared.command.Stamped.{Stamped}
 use Rattle.reg_terms.specs.declared.refusal.Refusal.{Refusal}
 use Rattle.reg_machine.specs.History.{State, start, appended}
+use Rattle.reg_machine.specs.Keys.{is_free}
 use Rattle.reg_machine.specs.Refusals.{refusal}
 use Rattle.reg_wire.specs.Payload.{payload, stamped_of}
 use Rattle.reg_wire.specs.OldPayload.{stamped_of_old}
@@ -26,14 +28,18 @@ at_last history = record { history = history; clock = last_from 0 history }
 -- a command that isn't refused acts at its moment
 abbrev pub accepted : State → Stamped → Option Refusal → Option State
 accepted s stamped None =
-    Some (appended (record { history = s.history; clock = stamped.at }) stamped.by stamped.command)
+    Some (appended (record {
+      history = s.history;
+      clock = stamped.at;
+    }) stamped.by stamped.key stamped.command)
 accepted s stamped (Some r) = None
 
--- the state after a stamped command, unless its moment is less than the clock or it is refused
+-- the state after a stamped command, unless its moment is less than the clock, its caller has its
+-- key already, or it is refused
 abbrev pub after_stamped : State → Option Stamped → Option State
 after_stamped s None = None
 after_stamped s (Some stamped) =
-    if nat_lt stamped.at s.clock then None
+    if nat_lt stamped.at s.clock || not (is_free s.history stamped.by stamped.key) then None
     else accepted s stamped (refusal s.history stamped.at stamped.by stamped.command)
 
 -- the state after a payload
@@ -55,7 +61,7 @@ and_then (Ok s) more = more s
 and_then (Err place) more = Err place
 
 -- the state after these records, of which each payload is taken so, or the place of the first whose
--- payload is no command's, falls in time, or is refused
+-- payload is no command's, falls in time, has a key that its caller has, or is refused
 abbrev pub judged_by : (State → List ℕ → Option State) → State → List (ℕ × List ℕ)
     → Result State ℕ
 judged_by take_one s [] = Ok s

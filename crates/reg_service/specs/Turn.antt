@@ -1,12 +1,12 @@
 -- One request: the reply, and the registry after it.
 use Rattle.std.specs.Prelude.{◌≡◌, ◌⊎◌, ℕ, List, [], ◌∷◌, ◌++◌, Option, Some, None, Result, Ok, Err}
-use Rattle.std.specs.Prelude.{length, max, true}
+use Rattle.std.specs.Prelude.{length, max, true, if◌then◌else◌}
 use Rattle.reg_base.specs.Entities.{entity_of}
 use Rattle.reg_base.specs.declared.entity.Entity.{Entity}
 use Rattle.reg_terms.specs.declared.command.Command.{Command}
 use Rattle.reg_terms.specs.declared.command.Stamped.{Stamped}
 use Rattle.reg_terms.specs.declared.refusal.Refusal.{Refusal}
-use Rattle.reg_terms.specs.declared.refusal.Refusal.TheVariants.{NoCaller}
+use Rattle.reg_terms.specs.declared.refusal.Refusal.TheVariants.{NoCaller, OtherCommand}
 use Rattle.reg_machine.specs.History.{State, appended, facts}
 use Rattle.reg_machine.specs.Refusals.{refusal}
 use Rattle.reg_machine.specs.Loads.{load_outcome}
@@ -18,8 +18,10 @@ use Rattle.reg_terms.specs.declared.request.Op.TheVariants as op
 use Rattle.reg_terms.specs.declared.reply.LoadCounts.{LoadCounts}
 use Rattle.reg_terms.specs.declared.reply.Reply.{Reply}
 use Rattle.reg_terms.specs.declared.reply.Reply.TheVariants as reply
-use Rattle.reg_ops.specs.Forms.{op_has_form}
-use Rattle.reg_service.specs.Ids.{made_id}
+use Rattle.reg_ops.specs.Forms.{op_has_form, key_fits, op_takes_key}
+use Rattle.reg_machine.specs.Ids.{made_id}
+use Rattle.reg_machine.specs.Keys.{KeptCommand, keyed, same_command}
+use Rattle.reg_service.specs.KeptAt.{IsKeptAt}
 use Rattle.reg_service.specs.declared.service.Next.{Next}
 use Rattle.reg_service.specs.declared.service.Next.TheVariants as next
 use Rattle.reg_service.specs.declared.service.Cause.{Cause}
@@ -29,26 +31,51 @@ use Rattle.reg_service.specs.declared.service.Cause.TheVariants as cause
 abbrev pub at_moment : State → ℕ → State
 at_moment s m = record { history = s.history; clock = max s.clock m }
 
--- a command that isn't refused is appended and answered with its place in the history, and the id
--- of what it made
-abbrev pub decided : State → Entity → Command → Option Refusal → Reply × State
-decided s by command None = (
-  reply.Number (length (appended s by command).history)
+-- a command that isn't refused is appended, under its key if it has one, and answered with its
+-- place in the history, and the id of what it made
+abbrev pub decided : State → Entity → Option (List ℕ) → Command → Option Refusal → Reply × State
+decided s by key command None = (
+  reply.Number (length (appended s by key command).history)
       (made_id command (facts s.history s.clock)),
-  appended s by command,
+  appended s by key command,
 )
-decided s by command (Some r) = (reply.Refused r, s)
+decided s by key command (Some r) = (reply.Refused r, s)
+
+-- the reply to a command under a key that its caller has: that of then, or that it was another
+abbrev pub answered_again : KeptCommand → Command → Reply
+answered_again k command =
+    if same_command k.command command then reply.Number k.number k.id
+    else reply.Refused (OtherCommand k.number)
+
+-- what may be told of a command under a key, by what is kept under it: nothing where nothing is,
+-- else the reply, or that there was no memory for it
+abbrev pub MayTellAgain : Option KeptCommand → Command → Option Reply → Type 0
+MayTellAgain None command told = told ≡ None
+MayTellAgain (Some k) command told =
+    (told ≡ Some (answered_again k command)) ⊎ (told ≡ Some reply.NoMemory)
+
+-- an entity's command under a key, by what is kept under it: a command that is kept acts no more
+abbrev pub ordered_again : State → Entity → List ℕ → Command → Option KeptCommand → Reply × State
+ordered_again s by key command None =
+    decided s by (Some key) command (refusal s.history s.clock by command)
+ordered_again s by key command (Some k) = (answered_again k command, s)
+
+-- an entity's command, by its key if it has one
+abbrev pub ordered_by : State → Entity → Option (List ℕ) → Command → Reply × State
+ordered_by s by None command =
+    decided s by None command (refusal s.history s.clock by command)
+ordered_by s by (Some key) command = ordered_again s by key command (keyed s.history by key)
 
 -- the command of an entity, unless it is refused; the text of no entity is nobody's
-abbrev pub ordered : State → Option Entity → Command → Reply × State
-ordered s None command = (reply.Refused NoCaller, s)
-ordered s (Some by) command = decided s by command (refusal s.history s.clock by command)
+abbrev pub ordered : State → Option Entity → Option (List ℕ) → Command → Reply × State
+ordered s None key command = (reply.Refused NoCaller, s)
+ordered s (Some by) key command = ordered_by s by key command
 
 -- a load that isn't refused is the command of its plan: it is appended, and answered with its place
 -- and what the plan counts
 abbrev pub loaded : State → Entity → Result (Command × LoadCounts) Refusal → Reply × State
 loaded s by (Ok plan) =
-    (reply.Loaded (length (appended s by plan.0).history) plan.1, appended s by plan.0)
+    (reply.Loaded (length (appended s by None plan.0).history) plan.1, appended s by None plan.0)
 loaded s by (Err r) = (reply.Refused r, s)
 
 -- an entity's load of a table for a job; the text of no entity is nobody's
@@ -62,15 +89,16 @@ answered (Ok a) = reply.Answer a
 answered (Err r) = reply.Refused r
 
 -- the reply to what is asked at the clock, and the state after it
-abbrev pub requested : State → List ℕ → Op → Reply × State
-requested s by (op.Command command) = ordered s (entity_of by) command
-requested s by (op.Query query) = (answered (told s.history s.clock by query), s)
-requested s by (op.Load job table) = load_ordered s (entity_of by) job table
+abbrev pub requested : State → List ℕ → Option (List ℕ) → Op → Reply × State
+requested s by key (op.Command command) = ordered s (entity_of by) key command
+requested s by key (op.Query query) = (answered (told s.history s.clock by query), s)
+requested s by key (op.Load job table) = load_ordered s (entity_of by) job table
 
 -- the reply to a reading at a moment, and the state after it
 abbrev pub turn : State → ℕ → Result Request Refusal → Reply × State
 turn s m (Err r) = (reply.Refused r, at_moment s m)
-turn s m (Ok request) = requested (at_moment s m) request.by request.op
+turn s m (Ok request) =
+    requested (at_moment s m) request.by request.key request.op
 
 -- there was no memory to answer: the history stays, and the clock moved or not
 pub record WantsMemory (s : State) (m : ℕ) (told : Reply) (after : State) : Type 0 where
@@ -112,11 +140,17 @@ counted counts (reply.Refused r) = reply.Refused r
 counted counts reply.NoMemory = reply.NoMemory
 counted counts reply.KeepFault = reply.KeepFault
 
--- an accepted command alone goes into the history, at its end; whatever else is answered leaves the
--- history as it was
+-- a new command goes into the history, at its end, and its number is its place; one that was kept
+-- under its key is told of, and leaves the history as it was
+abbrev pub KeepsNumber : State → ℕ → Option ℕ → State → Type 0
+KeepsNumber s n id after =
+    ((stamped : Stamped) × (after.history ≡ s.history ++ stamped ∷ []) × (n ≡ length after.history))
+    ⊎ ((after.history ≡ s.history) × IsKeptAt n id s.history)
+
+-- a command that is accepted goes into the history, unless it was kept before; whatever else is
+-- answered leaves the history as it was
 abbrev pub KeepsHistory : State → Reply → State → Type 0
-KeepsHistory s (reply.Number n id) after =
-    (stamped : Stamped) × (after.history ≡ s.history ++ stamped ∷ []) × (n ≡ length after.history)
+KeepsHistory s (reply.Number n id) after = KeepsNumber s n id after
 KeepsHistory s (reply.Loaded n counts) after =
     (stamped : Stamped) × (after.history ≡ s.history ++ stamped ∷ []) × (n ≡ length after.history)
 KeepsHistory s (reply.Answer a) after = after.history ≡ s.history
@@ -132,9 +166,10 @@ GoesOn s m (told, next.Go after) =
     × ((after.state.clock ≡ s.clock) ⊎ (after.state.clock ≡ max s.clock m))
 GoesOn s m (told, next.Stop why keeper) = Unit {0}
 
--- the fields of what is asked have their forms
-abbrev pub HasForm : Request → Type 0
-HasForm request = op_has_form request.op ≡ true
+-- the fields of what is asked have their forms, and its key, which a command alone has
+pub record HasForm (request : Request) : Type 0 where
+  pub fields : op_has_form request.op ≡ true
+  pub key : key_fits (op_takes_key request.op) request.key ≡ true
 
 -- a query is asked
 abbrev pub IsQuery : Op → Type 0

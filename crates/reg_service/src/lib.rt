@@ -3,7 +3,8 @@
 //! of format 1 written as one of format 2, on another disk.
 #![tactic(auto)]
 
-mod ids;
+mod again;
+mod migrated;
 mod migration;
 mod opening;
 mod service;

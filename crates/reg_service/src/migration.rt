@@ -1,15 +1,17 @@
-// Migrating: a journal of format 1 on one disk, written as one of format 2 on another. Whether its
-// commands are accepted is judged over what will be written, before anything is.
-ghost use Rattle.std.specs.Prelude.{◌≡◌, ◌≤◌, ℕ, List, IfSome, OnOk};
+// Migrating: a journal of format 1 on one disk, written as one of format 2 on another. Its commands
+// are judged while their payloads are recoded, before anything is written.
+ghost use Rattle.std.specs.Prelude.{◌≡◌, ◌≤◌, ℕ, List, Option, IfOk, IfSome, OnOk};
 ghost use Rattle.reg_outside.specs.Disk.{Changes, Leaves, Same, Only};
+ghost use Rattle.reg_keep.specs.Frames.{AreShort, payloads_of_records};
+ghost use Rattle.reg_recode.specs.Recoded.{AreRecoded};
 ghost use Rattle.reg_service.specs.Opening.{opens, opens_old};
-ghost use Rattle.reg_service.specs.Migrating.{OpensOld, OpenedOld, WasOrMigrated, MigrateEnds};
-ghost use Rattle.reg_service.specs.Migrating.{fault_of_open, fault_of_recode};
+ghost use Rattle.reg_service.specs.Migrating.{AreMigrated, OpenedOld, WasOrMigrated, MigrateEnds};
+ghost use Rattle.reg_service.specs.Migrating.{fault_of_fill, fault_of_open};
 
-use crate::opening::replay;
-use reg_keep::{InitFault, OpenFault};
+use crate::migrated::judge_old;
+use reg_keep::{InitFault, OpenFault, Records, read_old};
 use reg_outside::Disk;
-use reg_recode::{RecodeFault, read_recoded, recoded_says_the_same, write_recoded};
+use reg_recode::{fill_recoded, recoded_says_the_same};
 use std::alloc::Global;
 use thiserror::Error;
 
@@ -45,71 +47,60 @@ fn fault_of_open(fault: OpenFault) -> MigrateFault
     }
 }
 
-fn fault_of_recode(fault: RecodeFault) -> MigrateFault
-    ensures { result ≡ fault_of_recode fault }
+fn fault_of_fill(fault: InitFault) -> MigrateFault
+    ensures { result ≡ fault_of_fill fault }
 {
     match fault {
-        RecodeFault::Read(why) => fault_of_open(why),
-        RecodeFault::Fill(InitFault::Exists) => MigrateFault::Exists,
-        RecodeFault::Fill(InitFault::Fault) => MigrateFault::Disk,
+        InitFault::Exists => MigrateFault::Exists,
+        InitFault::Fault => MigrateFault::Disk,
     }
 }
 
-/// Whether a file opens as one of format 1. The disk is only read.
-fn open_old<D: Disk>(alloc: Global, disk: &mut D) -> Result<(), OpenFault>
+/// The records of format 2 of a file that opens as one of format 1. The disk is only read.
+fn open_old<D: Disk>(alloc: Global, disk: &mut D) -> Result<Records, OpenFault>
     ensures opened { OpenedOld result (D.contents disk.old) (D.faults disk.old)
         (D.faults disk.new) }
+    ensures records { IfOk result (λ made. AreRecoded (D.contents disk.old) made) }
+    ensures short { IfOk result (λ made. AreShort (payloads_of_records made)) }
     ensures same { D.contents disk.new ≡ D.contents disk.old }
     ensures crash { Changes D.moment D.may_leave D.left_since Same disk.old disk.new }
     ensures object { D.name disk.new ≡ D.name disk.old }
     ensures later { D.faults disk.old ≤ D.faults disk.new }
 {
-    recoded_says_the_same();
-    match read_recoded(alloc, disk) {
+    match read_old(alloc, disk) {
+        Ok(records) => judge_old(alloc, records),
         Err(fault) => Err(fault),
-        Ok(records) => match replay(alloc, records) {
-            Ok(machine) => {
-                drop(machine);
-                Ok(())
-            }
-            Err(fault) => Err(fault),
-        },
     }
 }
 
-/// Writes a file that opens as one of format 1 to a second disk in format 2, and gives that back.
-/// The first is only read.
-fn write_new<D: Disk, E: Disk>(
-    alloc: Global,
-    disk: &mut D,
-    second: E,
-) -> (Result<(), MigrateFault>, E)
-    requires { OpensOld (D.contents disk.old) }
-    ensures ends { MigrateEnds ⟦<E as Disk>⟧ result.0 (D.contents disk.old) (D.faults disk.old)
-        (D.faults disk.new) second result.1 }
-    ensures same { D.contents disk.new ≡ D.contents disk.old }
-    ensures crash { Changes D.moment D.may_leave D.left_since Same disk.old disk.new }
-    ensures object { D.name disk.new ≡ D.name disk.old }
-    ensures later { D.faults disk.old ≤ D.faults disk.new }
-    ensures images { IfSome (D.contents disk.old) (λ file. Leaves E.moment E.left_since
+/// Writes these records to a disk as a journal of format 2, and gives the disk back. What is said
+/// of it holds of each file of format 1 whose recoded records they are.
+fn write_new<E: Disk>(second: E, records: Records) -> (Result<(), MigrateFault>, E)
+    requires short { AreShort (payloads_of_records records) }
+    ensures ends { (held : Option (List ℕ)) → (count : ℕ) → AreMigrated held records
+        → MigrateEnds ⟦<E as Disk>⟧ result.0 held count count second result.1 }
+    ensures images { (held : Option (List ℕ)) → AreMigrated held records
+        → IfSome held (λ file. Leaves E.moment E.left_since
         (WasOrMigrated file (E.may_leave second)) second result.1) }
-    ensures done { OnOk result.0 (IfSome (D.contents disk.old) (λ file. (c : List ℕ)
-        → E.may_leave result.1 c → opens c ≡ opens_old file)) }
-    ensures bytes { OnOk result.0 (IfSome (D.contents disk.old) (λ file.
-        IfSome (E.contents result.1) (λ held. opens held ≡ opens_old file))) }
+    ensures done { (held : Option (List ℕ)) → AreMigrated held records
+        → OnOk result.0 (IfSome held (λ file. (c : List ℕ) → E.may_leave result.1 c
+        → opens c ≡ opens_old file)) }
+    ensures bytes { (held : Option (List ℕ)) → AreMigrated held records
+        → OnOk result.0 (IfSome held (λ file. IfSome (E.contents result.1) (λ found. opens found
+        ≡ opens_old file))) }
     ensures durable { OnOk result.0 (Only (E.contents result.1) (E.may_leave result.1)) }
-    ensures object_second { E.name result.1 ≡ E.name second }
-    ensures later_second { E.faults second ≤ E.faults result.1 }
+    ensures object { E.name result.1 ≡ E.name second }
+    ensures later { E.faults second ≤ E.faults result.1 }
 {
     recoded_says_the_same();
-    match write_recoded(alloc, disk, second) {
+    match fill_recoded(second, records) {
         Ok(second) => (Ok(()), second),
-        Err((fault, second)) => (Err(fault_of_recode(fault)), second),
+        Err((fault, second)) => (Err(fault_of_fill(fault)), second),
     }
 }
 
 /// Writes the journal of format 1 on the first disk to the second one, in format 2, and gives both
-/// disks back. The first is only read, twice. The second is written by `Journal::fill`, once the
+/// disks back. The first is only read, once. The second is written by `Journal::fill`, once the
 /// first has opened: so a call that was stopped is repeated over what it left.
 ///
 /// `OtherFormat` comes exactly where the first file begins with the header of format 2, and of any
@@ -149,8 +140,8 @@ pub fn migrate<D: Disk, E: Disk>(
 {
     match open_old(alloc, &mut disk) {
         Err(fault) => (Err(fault_of_open(fault)), disk, second),
-        Ok(()) => {
-            let (ended, second) = write_new(alloc, &mut disk, second);
+        Ok(records) => {
+            let (ended, second) = write_new(second, records);
             (ended, disk, second)
         }
     }

@@ -1,22 +1,34 @@
-// The machine of a journal's records. A command is dropped by a call of `drop`: dropped in place,
-// it is taken apart by its kinds at each exit, and its proof is then ten times as large.
+// The machine of a journal's records. A stamped command is dropped by a call of `drop`: dropped in
+// place, its command is taken apart by its kinds at each exit, and its proof is then ten times as
+// large.
 ghost use Rattle.std.specs.Prelude.{◌≡◌, ◌≤◌, is_some, true, ℕ, Ok, Err, Some, None, IfOk, IfErr};
 ghost use Rattle.std.specs.Prelude.{IsErrOf};
 ghost use Rattle.reg_machine.specs.History.{start, appended};
+ghost use Rattle.reg_machine.specs.Keys.{is_free};
 ghost use Rattle.reg_machine.specs.Refusals.{refusal};
 ghost use Rattle.reg_keep.specs.declared.open.OpenFault.TheVariants.{Damaged};
-ghost use Rattle.reg_ops.specs.Forms.{has_form};
+ghost use Rattle.reg_wire.specs.Payload.{IsWritable};
 ghost use Rattle.reg_service.specs.Opening.{judged, or_place, accepted, after_stamped};
 ghost use Rattle.reg_service.specs.Opening.{after_payload};
 
 use crate::uncounted::{advance, apply};
-use reg_base::{Entity, Moment};
+use reg_base::{Entity, Moment, Text};
 use reg_effect::Incremental;
 use reg_facts::{Command, Stamped};
 use reg_keep::{OpenFault, Records};
 use reg_machine::Machine;
 use reg_wire::decode;
 use std::alloc::{AllocError, Global};
+
+/// Whether a caller has no command under this key, where there is one.
+fn is_free(machine: &Machine<Incremental>, by: &Entity, key: &Option<Text>) -> bool
+    ensures { result ≡ is_free machine.now.history by.now key.now }
+{
+    match key {
+        Some(key) => machine.keyed(by, key.bytes()).is_none(),
+        None => true,
+    }
+}
 
 /// Whether a command is refused now.
 fn is_refused(
@@ -47,93 +59,100 @@ fn moved(
     }
 }
 
-/// The machine after a command that isn't refused.
+/// The machine after a command that isn't refused, and whose key is free.
 fn taken(
     alloc: Global,
     machine: Machine<Incremental>,
-    by: &Entity,
-    command: Command,
+    stamped: Stamped,
 ) -> Result<Option<Machine<Incremental>>, AllocError>
-    requires allowed { refusal machine.history machine.clock by.now command ≡ None }
-    requires form { has_form command ≡ true }
-    ensures { IfOk result (λ found. found ≡ Some (appended machine by.now command)) }
+    requires allowed { refusal machine.history machine.clock stamped.by stamped.command ≡ None }
+    requires writable { IsWritable stamped }
+    requires free { is_free machine.history stamped.by stamped.key ≡ true }
+    ensures { IfOk result (λ found. found
+        ≡ Some (appended machine stamped.by stamped.key stamped.command)) }
 {
-    match apply(alloc, machine, by, command) {
+    let Stamped {
+        by,
+        key,
+        command,
+        ..
+    } = stamped;
+    let applied = apply(alloc, machine, &by, key, command);
+    drop(by);
+    match applied {
         Ok(machine) => Ok(Some(machine)),
         Err(_) => Err(AllocError),
     }
 }
 
-/// The machine after a command at the clock. None where it is refused.
+/// The machine after a command at the clock, whose key is free. None where it is refused.
 fn decided(
-    alloc: Global,
-    machine: Machine<Incremental>,
-    by: &Entity,
-    command: Command,
-) -> Result<Option<Machine<Incremental>>, AllocError>
-    requires { has_form command ≡ true }
-    ensures { IfOk result (λ found. found
-        ≡ accepted machine (record {
-          at = machine.clock;
-          by = by.now;
-          command = command;
-        }) (refusal machine.history machine.clock by.now command)) }
-{
-    match is_refused(alloc, &machine, by, &command) {
-        Ok(false) => taken(alloc, machine, by, command),
-        Ok(true) => {
-            drop(command);
-            Ok(None)
-        }
-        Err(AllocError) => {
-            drop(command);
-            Err(AllocError)
-        }
-    }
-}
-
-/// The machine after a command that acts at a moment. None where it is refused.
-fn act(
-    alloc: Global,
-    machine: Machine<Incremental>,
-    at: Moment,
-    by: &Entity,
-    command: Command,
-) -> Result<Option<Machine<Incremental>>, AllocError>
-    requires form { has_form command ≡ true }
-    requires later { machine.clock ≤ at }
-    ensures { IfOk result (λ found. found
-        ≡ accepted machine (record {
-          at = at;
-          by = by.now;
-          command = command;
-        }) (refusal machine.history at by.now command)) }
-{
-    match moved(alloc, machine, at) {
-        Ok(machine) => decided(alloc, machine, by, command),
-        Err(AllocError) => {
-            drop(command);
-            Err(AllocError)
-        }
-    }
-}
-
-/// The machine after a stamped command. None where its moment is less than the clock, or it is
-/// refused.
-fn accept(
     alloc: Global,
     machine: Machine<Incremental>,
     stamped: Stamped,
 ) -> Result<Option<Machine<Incremental>>, AllocError>
-    requires { has_form stamped.command ≡ true }
+    requires writable { IsWritable stamped }
+    requires free { is_free machine.history stamped.by stamped.key ≡ true }
+    ensures { IfOk result (λ found. found
+        ≡ accepted machine (record {
+          at = machine.clock;
+          by = stamped.by;
+          key = stamped.key;
+          command = stamped.command;
+        }) (refusal machine.history machine.clock stamped.by stamped.command)) }
+{
+    match is_refused(alloc, &machine, &stamped.by, &stamped.command) {
+        Ok(false) => taken(alloc, machine, stamped),
+        Ok(true) => {
+            drop(stamped);
+            Ok(None)
+        }
+        Err(AllocError) => {
+            drop(stamped);
+            Err(AllocError)
+        }
+    }
+}
+
+/// The machine after a command that acts at its moment, whose key is free. None where it is
+/// refused.
+fn act(
+    alloc: Global,
+    machine: Machine<Incremental>,
+    stamped: Stamped,
+) -> Result<Option<Machine<Incremental>>, AllocError>
+    requires writable { IsWritable stamped }
+    requires later { machine.clock ≤ stamped.at }
+    requires free { is_free machine.history stamped.by stamped.key ≡ true }
+    ensures { IfOk result (λ found. found
+        ≡ accepted machine stamped
+        (refusal machine.history stamped.at stamped.by stamped.command)) }
+{
+    match moved(alloc, machine, stamped.at) {
+        Ok(machine) => decided(alloc, machine, stamped),
+        Err(AllocError) => {
+            drop(stamped);
+            Err(AllocError)
+        }
+    }
+}
+
+/// The machine after a stamped command. None where its moment is less than the clock, its caller
+/// has its key already, or it is refused.
+pub fn accept(
+    alloc: Global,
+    machine: Machine<Incremental>,
+    stamped: Stamped,
+) -> Result<Option<Machine<Incremental>>, AllocError>
+    requires { IsWritable stamped }
     ensures { IfOk result (λ found. found ≡ after_stamped machine (Some stamped)) }
 {
-    let Stamped { at, by, command } = stamped;
-    if at.micros() < machine.clock().micros() {
-        drop(command);
+    let falls = stamped.at.micros() < machine.clock().micros();
+    if falls || !is_free(&machine, &stamped.by, &stamped.key) {
+        drop(stamped);
         return Ok(None);
     }
-    act(alloc, machine, at, &by, command)
+    act(alloc, machine, stamped)
 }
 
 /// The machine after a payload. None where it is no command's, or that command isn't accepted.

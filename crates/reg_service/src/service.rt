@@ -1,8 +1,9 @@
 // One request after another, over a keeper. A command is dropped by a call of `drop`, as in
 // `opening`: else each exit takes it apart by its kinds.
-ghost use Rattle.std.specs.Prelude.{◌≡◌, ℕ, List, Option, Result, true, false, Ok, Err, None, IfOk};
-ghost use Rattle.std.specs.Prelude.{IfErr, IfSome, Some};
+ghost use Rattle.std.specs.Prelude.{◌≡◌, ◌⊎◌, ℕ, List, Option, Result, true, false, Ok, Err, None};
+ghost use Rattle.std.specs.Prelude.{IfErr, IfOk, IfSome, Some, if◌then◌else◌};
 ghost use Rattle.reg_machine.specs.History.{start};
+ghost use Rattle.reg_machine.specs.Keys.{is_free, is_kept_as, keyed};
 ghost use Rattle.reg_machine.specs.Refusals.{refusal};
 ghost use Rattle.reg_machine.specs.Loads.{load_outcome};
 ghost use Rattle.reg_keep.specs.Frames.{payloads_of_records};
@@ -11,29 +12,29 @@ ghost use Rattle.reg_base.specs.Names.{is_extension};
 ghost use Rattle.reg_base.specs.declared.entity.Entity.{Entity};
 ghost use Rattle.reg_terms.specs.declared.command.Stamped.{Stamped};
 ghost use Rattle.reg_terms.specs.declared.reply.LoadCounts.{LoadCounts};
-ghost use Rattle.reg_ops.specs.Forms.{is_entity, has_form};
+ghost use Rattle.reg_ops.specs.Forms.{is_entity, has_form, key_fits, takes_key};
 ghost use Rattle.reg_wire.specs.Payload.{IsWritable};
 ghost use Rattle.reg_service.specs.Opening.{payloads_of, judged, FrontsReopen, IsServed};
 ghost use Rattle.reg_service.specs.Kept.{KeepsNext, KeptOn, IsAcknowledged, IsLoaded, LeavesKeeper};
 ghost use Rattle.reg_service.specs.Kept.{LeavesFaults, keeper_of};
+ghost use Rattle.reg_service.specs.KeptAt.{IsKeptAt};
 ghost use Rattle.reg_service.specs.Loads.{IsRefusedForRoom, LoadsIfRoom};
 ghost use Rattle.reg_service.specs.Marks.{LeavesSince};
 ghost use Rattle.reg_service.specs.Turn.{turn, requested, HasForm, IsQuery, Carries, Follows};
 ghost use Rattle.reg_service.specs.Turn.{GoesOn, MovesTo, at_moment, counted, load_ordered};
-ghost use Rattle.reg_service.specs.Turn.{loaded, ordered};
+ghost use Rattle.reg_service.specs.Turn.{MayTellAgain, decided, loaded, ordered, ordered_by};
 
-use crate::ids::made_id;
 use crate::opening::replay;
 use crate::uncounted::{advance, apply};
 use reg_base::{Bytes, Entity, Moment, Text};
 use reg_effect::Incremental;
 use reg_facts::{Command, Refusal, Stamped};
 use reg_keep::{KeepFault, Keeper, OpenFault, Records};
-use reg_machine::Machine;
+use reg_machine::{Keyed, Machine};
 use reg_outside::Stamp;
 use reg_terms::LoadCounts;
 use reg_view::{Op, Query, Question, Reply, Request, ask};
-use reg_wire::{encode, payload_reads_back, read_is_payload};
+use reg_wire::{command_bytes, encode, payload_reads_back, read_is_payload};
 use std::alloc::{AllocError, Global};
 use std::marker::Model;
 
@@ -117,7 +118,7 @@ fn asked<K: Keeper>(
     query: Query,
 ) -> (Reply, Next<K>)
     requires { IsServed machine (K.payloads keeper) (K.has_failed keeper) }
-    ensures turn { Carries machine (requested machine by (Op.Query query)) result }
+    ensures turn { Carries machine (requested machine by None (Op.Query query)) result }
     ensures kept { (expected : List Stamped)
         → KeepsNext ⟦<K as Keeper>⟧ machine.history expected keeper result.1 }
     ensures still { LeavesFaults ⟦<K as Keeper>⟧ keeper result.1 }
@@ -145,12 +146,18 @@ fn keep<K: Keeper>(
 ) -> (Reply, Next<K>)
     requires served { IsServed machine (K.payloads keeper) (K.has_failed keeper) }
     requires accepted { refusal machine.history machine.clock stamped.by stamped.command ≡ None }
+    requires free { is_free machine.history stamped.by stamped.key ≡ true }
     requires now { stamped.at ≡ machine.clock }
     requires writable { IsWritable stamped }
-    ensures turn { Carries machine (ordered machine (Some stamped.by) stamped.command) result }
+    ensures turn { Carries machine (decided machine stamped.by stamped.key stamped.command
+        (refusal machine.history machine.clock stamped.by stamped.command)) result }
     ensures kept { KeepsNext ⟦<K as Keeper>⟧ machine.history
-        (ordered machine (Some stamped.by) stamped.command).1.history keeper result.1 }
+        (decided machine stamped.by stamped.key stamped.command
+        (refusal machine.history machine.clock stamped.by stamped.command)).1.history keeper
+        result.1 }
     ensures still { LeavesFaults ⟦<K as Keeper>⟧ keeper result.1 }
+    ensures added { (n : ℕ) (id : Option ℕ) → result.0 ≡ Reply.Number n id
+        → IsLoaded ⟦<K as Keeper>⟧ machine.history n result.1 }
     ensures acknowledged { (n : ℕ) (id : Option ℕ) → result.0 ≡ Reply.Number n id
         → IsAcknowledged ⟦<K as Keeper>⟧ machine.history n id result.1 }
 {
@@ -161,9 +168,14 @@ fn keep<K: Keeper>(
         return (Reply::NoMemory, Next::Go(Service { machine, keeper }));
     };
     payload_reads_back();
-    let Stamped { by, command, .. } = stamped;
-    let id = made_id(&machine, &command);
-    let applied = apply(alloc, machine, &by, command);
+    let Stamped {
+        by,
+        key,
+        command,
+        ..
+    } = stamped;
+    let id = machine.made_id(&command);
+    let applied = apply(alloc, machine, &by, key, command);
     drop(by);
     let Ok(machine) = applied else {
         return (Reply::NoMemory, Next::Stop(Cause::Memory, keeper));
@@ -180,26 +192,27 @@ fn keep<K: Keeper>(
     }
 }
 
-/// Carries out an entity's command, unless it is refused.
-fn carried_out<K: Keeper>(
+/// Decides an entity's command, whose key is free, and keeps it unless it is refused.
+fn decided<K: Keeper>(
     alloc: Global,
     machine: Machine<Incremental>,
     keeper: K,
-    by: Entity,
-    command: Command,
+    stamped: Stamped,
 ) -> (Reply, Next<K>)
     requires served { IsServed machine (K.payloads keeper) (K.has_failed keeper) }
-    requires caller { is_entity by ≡ true }
-    requires form { has_form command ≡ true }
-    ensures turn { Carries machine (ordered machine (Some by) command) result }
+    requires free { is_free machine.history stamped.by stamped.key ≡ true }
+    requires now { stamped.at ≡ machine.clock }
+    requires writable { IsWritable stamped }
+    ensures turn { Carries machine (decided machine stamped.by stamped.key stamped.command
+        (refusal machine.history machine.clock stamped.by stamped.command)) result }
     ensures kept { KeepsNext ⟦<K as Keeper>⟧ machine.history
-        (ordered machine (Some by) command).1.history keeper result.1 }
+        (decided machine stamped.by stamped.key stamped.command
+        (refusal machine.history machine.clock stamped.by stamped.command)).1.history keeper
+        result.1 }
     ensures still { LeavesFaults ⟦<K as Keeper>⟧ keeper result.1 }
     ensures acknowledged { (n : ℕ) (id : Option ℕ) → result.0 ≡ Reply.Number n id
         → IsAcknowledged ⟦<K as Keeper>⟧ machine.history n id result.1 }
 {
-    let at = machine.clock();
-    let stamped = Stamped { at, by, command };
     match machine.decide(alloc, &stamped.by, &stamped.command) {
         Err(AllocError) => {
             drop(stamped);
@@ -216,19 +229,115 @@ fn carried_out<K: Keeper>(
     }
 }
 
+/// The reply to a command of these bytes under a key that its caller has, where this is told of the
+/// command that is kept there.
+fn told_kept(
+    machine: &Machine<Incremental>,
+    by: &Entity,
+    key: &Text,
+    kept: Keyed,
+    bytes: &[u8],
+) -> Reply
+    ensures { result ≡ (if is_kept_as (keyed machine.now.history by.now key.now) bytes.now
+        then Reply.Number kept.number kept.id
+        else Reply.Refused (Refusal.OtherCommand kept.number)) }
+{
+    let Keyed { number, id } = kept;
+    if machine.is_kept_as(by, key.bytes(), bytes) {
+        return Reply::Number { number, id };
+    }
+    Reply::Refused(Refusal::OtherCommand { number })
+}
+
+/// The reply to a command under a key that its caller has. None where the caller hasn't.
+fn told_under(
+    alloc: Global,
+    machine: &Machine<Incremental>,
+    by: &Entity,
+    key: &Text,
+    command: &Command,
+) -> Option<Reply>
+    requires { has_form command.now ≡ true }
+    ensures { MayTellAgain (keyed machine.now.history by.now key.now) command.now result }
+{
+    match machine.keyed(by, key.bytes()) {
+        None => None,
+        Some(kept) => match command_bytes(alloc, command) {
+            Ok(bytes) => Some(told_kept(machine, by, key, kept, &bytes)),
+            Err(AllocError) => Some(Reply::NoMemory),
+        },
+    }
+}
+
+/// The reply to a command that has a key which its caller has already. None where its key is free,
+/// or there is none.
+fn told_again(alloc: Global, machine: &Machine<Incremental>, stamped: &Stamped) -> Option<Reply>
+    requires { has_form stamped.now.command ≡ true }
+    ensures free { result ≡ None
+        → is_free machine.now.history stamped.now.by stamped.now.key ≡ true }
+    ensures told { IfSome result (λ r. (r ≡ Reply.NoMemory) ⊎ ((r, machine.now)
+        ≡ ordered_by machine.now stamped.now.by stamped.now.key stamped.now.command)) }
+    ensures kept { (n : ℕ) (id : Option ℕ) → result ≡ Some (Reply.Number n id)
+        → IsKeptAt n id machine.now.history }
+{
+    match &stamped.key {
+        Some(key) => told_under(alloc, machine, &stamped.by, key, &stamped.command),
+        None => None,
+    }
+}
+
+/// Carries out an entity's command, unless it is refused, or its key is the caller's already: then
+/// it is answered again.
+fn carried_out<K: Keeper>(
+    alloc: Global,
+    machine: Machine<Incremental>,
+    keeper: K,
+    by: Entity,
+    key: Option<Text>,
+    command: Command,
+) -> (Reply, Next<K>)
+    requires served { IsServed machine (K.payloads keeper) (K.has_failed keeper) }
+    requires caller { is_entity by ≡ true }
+    requires fits { key_fits (takes_key command) key ≡ true }
+    requires form { has_form command ≡ true }
+    ensures turn { Carries machine (ordered machine (Some by) key command) result }
+    ensures kept { KeepsNext ⟦<K as Keeper>⟧ machine.history
+        (ordered machine (Some by) key command).1.history keeper result.1 }
+    ensures still { LeavesFaults ⟦<K as Keeper>⟧ keeper result.1 }
+    ensures acknowledged { (n : ℕ) (id : Option ℕ) → result.0 ≡ Reply.Number n id
+        → IsAcknowledged ⟦<K as Keeper>⟧ machine.history n id result.1 }
+{
+    let at = machine.clock();
+    let stamped = Stamped {
+        at,
+        by,
+        key,
+        command,
+    };
+    match told_again(alloc, &machine, &stamped) {
+        Some(reply) => {
+            drop(stamped);
+            (reply, Next::Go(Service { machine, keeper }))
+        }
+        None => decided(alloc, machine, keeper, stamped),
+    }
+}
+
 /// Carries out a command of whoever has this text, unless it is refused.
 fn commanded<K: Keeper>(
     alloc: Global,
     machine: Machine<Incremental>,
     keeper: K,
     by: Bytes,
+    key: Option<Text>,
     command: Command,
 ) -> (Reply, Next<K>)
     requires served { IsServed machine (K.payloads keeper) (K.has_failed keeper) }
+    requires fits { key_fits (takes_key command) key ≡ true }
     requires form { has_form command ≡ true }
-    ensures turn { Carries machine (requested machine by (Op.Command command)) result }
+    ensures turn { Carries machine (requested machine by key (Op.Command command)) result }
     ensures kept { KeepsNext ⟦<K as Keeper>⟧ machine.history
-        (requested machine by (Op.Command command)).1.history keeper result.1 }
+        (requested machine by key (Op.Command command)).1.history keeper result.1 }
     ensures still { LeavesFaults ⟦<K as Keeper>⟧ keeper result.1 }
     ensures acknowledged { (n : ℕ) (id : Option ℕ) → result.0 ≡ Reply.Number n id
         → IsAcknowledged ⟦<K as Keeper>⟧ machine.history n id result.1 }
@@ -247,7 +356,7 @@ fn commanded<K: Keeper>(
                 Next::Go(Service { machine, keeper }),
             )
         }
-        Ok(Some(by)) => carried_out(alloc, machine, keeper, by, command),
+        Ok(Some(by)) => carried_out(alloc, machine, keeper, by, key, command),
     }
 }
 
@@ -269,22 +378,29 @@ fn keep_load<K: Keeper>(
     alloc: Global,
     machine: Machine<Incremental>,
     keeper: K,
-    stamped: Stamped,
+    by: Entity,
+    command: Command,
     counts: LoadCounts,
 ) -> (Reply, Next<K>)
     requires served { IsServed machine (K.payloads keeper) (K.has_failed keeper) }
-    requires accepted { refusal machine.history machine.clock stamped.by stamped.command ≡ None }
-    requires now { stamped.at ≡ machine.clock }
-    requires writable { IsWritable stamped }
-    ensures turn { Carries machine
-        (loaded machine stamped.by (Ok (stamped.command, counts))) result }
+    requires accepted { refusal machine.history machine.clock by command ≡ None }
+    requires caller { is_entity by ≡ true }
+    requires form { has_form command ≡ true }
+    ensures turn { Carries machine (loaded machine by (Ok (command, counts))) result }
     ensures kept { KeepsNext ⟦<K as Keeper>⟧ machine.history
-        (loaded machine stamped.by (Ok (stamped.command, counts))).1.history keeper result.1 }
+        (loaded machine by (Ok (command, counts))).1.history keeper result.1 }
     ensures still { LeavesFaults ⟦<K as Keeper>⟧ keeper result.1 }
     ensures unnumbered { (n : ℕ) (id : Option ℕ) → result.0 ≡ Reply.Number n id → ⊥ }
     ensures loaded { (n : ℕ) (counts : LoadCounts) → result.0 ≡ Reply.Loaded n counts
         → IsLoaded ⟦<K as Keeper>⟧ machine.history n result.1 }
 {
+    let at = machine.clock();
+    let stamped = Stamped {
+        at,
+        by,
+        key: None,
+        command,
+    };
     let (reply, next) = keep(alloc, machine, keeper, stamped);
     (counted(reply, counts), next)
 }
@@ -315,11 +431,7 @@ fn load<K: Keeper>(
             Reply::Refused(refusal),
             Next::Go(Service { machine, keeper }),
         ),
-        Ok(Ok((command, counts))) => {
-            let at = machine.clock();
-            let stamped = Stamped { at, by, command };
-            keep_load(alloc, machine, keeper, stamped, counts)
-        }
+        Ok(Ok((command, counts))) => keep_load(alloc, machine, keeper, by, command, counts),
     }
 }
 
@@ -334,9 +446,9 @@ fn load_by<K: Keeper>(
 ) -> (Reply, Next<K>)
     requires served { IsServed machine (K.payloads keeper) (K.has_failed keeper) }
     requires form { is_extension job ≡ true }
-    ensures turn { Carries machine (requested machine by (Op.Load job table)) result }
+    ensures turn { Carries machine (requested machine by None (Op.Load job table)) result }
     ensures kept { KeepsNext ⟦<K as Keeper>⟧ machine.history
-        (requested machine by (Op.Load job table)).1.history keeper result.1 }
+        (requested machine by None (Op.Load job table)).1.history keeper result.1 }
     ensures still { LeavesFaults ⟦<K as Keeper>⟧ keeper result.1 }
     ensures unnumbered { (n : ℕ) (id : Option ℕ) → result.0 ≡ Reply.Number n id → ⊥ }
     ensures loaded { (n : ℕ) (counts : LoadCounts) → result.0 ≡ Reply.Loaded n counts
@@ -355,8 +467,8 @@ fn load_by<K: Keeper>(
 impl<K: Keeper> Service<K> {
     /// The service over a keeper's history, whose records these are, with the clock at its last
     /// moment, or at 0. `Damaged` names the first place whose payload is no command's, falls in
-    /// time, or is refused there; beside it comes `NoMemory` alone. A refusal gives the keeper
-    /// back.
+    /// time, has a key that its caller has already, or is refused there. Beside it comes `NoMemory`
+    /// alone. A refusal gives the keeper back.
     pub fn start(alloc: Global, keeper: K, records: Records) -> Result<Service<K>, (OpenFault, K)>
         requires payloads { IfSome (K.payloads keeper) (λ ps. ps ≡ payloads_of_records records) }
         requires going { K.has_failed keeper ≡ false }
@@ -420,9 +532,10 @@ impl<K: Keeper> Service<K> {
     }
 
     /// Takes one request at the later of this moment and the clock (`docs/REQUESTS.md`). An
-    /// accepted command is kept before it is answered; a query leaves the keeper as it was. It
-    /// stops where moving the clock or applying the command found no memory, and where keeping the
-    /// command failed. Where the keeper didn't fail, its count of faults is as it was.
+    /// accepted command is kept before it is answered; a query leaves the keeper as it was. A
+    /// command under a key that its caller has is answered again, and nothing but the clock
+    /// changes. It stops where moving the clock or applying the command found no memory, and where
+    /// keeping the command failed. Where the keeper didn't fail, its count of faults is as it was.
     pub fn request(self, alloc: Global, at: Moment, request: Request) -> (Reply, Next<K>)
         requires { HasForm request }
         ensures turn { Follows self.state at (Ok request) result }
@@ -432,7 +545,7 @@ impl<K: Keeper> Service<K> {
         ensures still { LeavesFaults ⟦<K as Keeper>⟧ self.keeper result.1 }
 
         // After a command is answered with its number, and the id of what it made, each stop leaves
-        // the history with it at its end.
+        // the history with it: at its end, or where it was kept before under its key.
         ensures acknowledged { (n : ℕ) (id : Option ℕ) → result.0 ≡ Reply.Number n id
             → IsAcknowledged ⟦<K as Keeper>⟧ self.state.history n id result.1 }
 
@@ -454,10 +567,10 @@ impl<K: Keeper> Service<K> {
             return (Reply::NoMemory, Next::Stop(Cause::Memory, keeper));
         };
         law_loads(&machine);
-        let Request { by, op } = request;
+        let Request { by, key, op } = request;
         match op {
             Op::Query(query) => asked(alloc, machine, keeper, by, query),
-            Op::Command(command) => commanded(alloc, machine, keeper, by, command),
+            Op::Command(command) => commanded(alloc, machine, keeper, by, key, command),
             Op::Load { job, table } => load_by(alloc, machine, keeper, by, job, table),
         }
     }
