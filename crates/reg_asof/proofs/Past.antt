@@ -1,6 +1,6 @@
 -- The records up to a moment give the history up to it.
 use Rattle.std.proofs.Common.{◌≡◌, ◌≤◌, ◌<◌, ◌++◌, ◌∷◌, [], List, ℕ, Bool, Option, Some, None, Result, Ok, Err, true, false, refl, ap, sym, ◌∙◌, arith, subst, append_assoc, append-nil, cond}
-use Rattle.std.specs.Prelude.{nat_le, nat_lt, if◌then◌else◌}
+use Rattle.std.specs.Prelude.{nat_le, nat_lt, not, ◌||◌, if◌then◌else◌}
 use Rattle.std.specs.List.{take_while}
 use Rattle.std.proofs.lemmas.Bool.Decides.{nat_tests}
 use Rattle.std.proofs.lemmas.List.Elements.{filter-append}
@@ -8,6 +8,7 @@ use Rattle.std.proofs.lemmas.List.Sums.{take_while-cons}
 use Rattle.reg_terms.specs.declared.command.Stamped.{Stamped}
 use Rattle.reg_terms.specs.declared.refusal.Refusal.{Refusal}
 use Rattle.reg_machine.specs.History.{State, appended, start, up_to}
+use Rattle.reg_machine.specs.Keys.{is_free}
 use Rattle.reg_machine.specs.Refusals.{refusal}
 use Rattle.reg_wire.specs.Payload.{stamped_of}
 use Rattle.reg_service.specs.Opening.{accepted, after_stamped, after_payload, or_place, and_then, judged}
@@ -25,19 +26,20 @@ record IsTaken (s : State) (bytes : List ℕ) (t : State) : Type 0 where
 accepted_taken : (s t : State) (bytes : List ℕ) (one : Stamped) (r : Option Refusal) → stamped_of bytes ≡ Some one → s.clock ≤ one.at → accepted s one r ≡ Some t → IsTaken s bytes t
 accepted_taken s t bytes one (Some r) read later e = absurd (cc)
 accepted_taken s t bytes one None read later e =
-    let is : appended (record { history = s.history; clock = one.at }) one.by one.command ≡ t = cc in
+    let is : appended (record { history = s.history; clock = one.at }) one.by one.key one.command ≡ t = cc in
     subst (λ (x : State). IsTaken s bytes x) is (record { one = one; read = read; later = later; grown = refl; clock = refl })
 
-in_time_taken : (s t : State) (bytes : List ℕ) (one : Stamped) (early : Bool) → nat_lt one.at s.clock ≡ early → stamped_of bytes ≡ Some one
-    → (if early then None else accepted s one (refusal s.history one.at one.by one.command)) ≡ Some t → IsTaken s bytes t
-in_time_taken s t bytes one true is read e = absurd (cc)
-in_time_taken s t bytes one false is read e =
+in_time_taken : (s t : State) (bytes : List ℕ) (one : Stamped) (early had : Bool) → nat_lt one.at s.clock ≡ early → stamped_of bytes ≡ Some one
+    → (if early || had then None else accepted s one (refusal s.history one.at one.by one.command)) ≡ Some t → IsTaken s bytes t
+in_time_taken s t bytes one true had is read e = absurd (cc)
+in_time_taken s t bytes one false true is read e = absurd (cc)
+in_time_taken s t bytes one false false is read e =
     let later : s.clock ≤ one.at = grind (arith, nat_tests) in
     accepted_taken s t bytes one (refusal s.history one.at one.by one.command) read later e
 
 stamped_taken : (s t : State) (bytes : List ℕ) (found : Option Stamped) → stamped_of bytes ≡ found → after_stamped s found ≡ Some t → IsTaken s bytes t
 stamped_taken s t bytes None is e = absurd (cc)
-stamped_taken s t bytes (Some one) is e = in_time_taken s t bytes one (nat_lt one.at s.clock) refl is e
+stamped_taken s t bytes (Some one) is e = in_time_taken s t bytes one (nat_lt one.at s.clock) (not (is_free s.history one.by one.key)) refl is e
 
 payload_taken : (s t : State) (bytes : List ℕ) → after_payload s bytes ≡ Some t → IsTaken s bytes t
 unfolding after_payload

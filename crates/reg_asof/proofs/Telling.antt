@@ -283,12 +283,12 @@ same_clock s = ap (λ (n : ℕ). record { history = s.history; clock = n }) (clo
     clock_stays : (n : ℕ) → max n n ≡ n
     clock_stays n = omega arith
 
-as_then : (s : State) (by : List ℕ) (asked : Op) → IsQuery asked → asked_op s by asked ≡ (requested s by asked).0
-as_then s by (op.Command command) h = elim h [ ]
-as_then s by (op.Query query) h = refl
-as_then s by (op.Load job table) h = elim h [ ]
+as_then : (s : State) (by : List ℕ) (key : Option (List ℕ)) (asked : Op) → IsQuery asked → asked_op s by asked ≡ (requested s by key asked).0
+as_then s by key (op.Command command) h = elim h [ ]
+as_then s by key (op.Query query) h = refl
+as_then s by key (op.Load job table) h = elim h [ ]
 
 -- what asks for no change is answered as by a registry that may change
 pub asked_as_then : (s : State) (reading : Reading) → AsksNoChange reading → asked_of s reading ≡ (turn s s.clock reading).0
 asked_as_then s (Err r) h = refl
-asked_as_then s (Ok request) h = as_then s request.by request.op h ∙ ap (λ (x : State). (requested x request.by request.op).0) (sym (same_clock s))
+asked_as_then s (Ok request) h = as_then s request.by request.key request.op h ∙ ap (λ (x : State). (requested x request.by request.key request.op).0) (sym (same_clock s))

@@ -1,5 +1,5 @@
 -- Rows of the definitions, computed.
-use Rattle.std.proofs.Common.{◌≡◌, ◌∷◌, [], List, ℕ, Ok, refl, arith}
+use Rattle.std.proofs.Common.{◌≡◌, ◌∷◌, [], List, ℕ, None, Ok, refl, arith}
 use Rattle.reg_base.specs.declared.entity.Entity.{Entity}
 use Rattle.reg_terms.specs.declared.command.Command.{Command}
 use Rattle.reg_terms.specs.declared.command.Stamped.{Stamped}
@@ -12,7 +12,7 @@ use Rattle.reg_asof.specs.Then.{state_at}
 use Rattle.reg_asof.specs.Told.{asked_of}
 
 stamped : Entity → Command → ℕ → Stamped
-stamped by command at = record { at = at; by = by; command = command }
+stamped by command at = record { at = at; by = by; key = None; command = command }
 
 -- of commands at 3, 5 and 7: none before 3, two at 5, and all at 9
 none_yet : (by : Entity) (command : Command) → state_at (stamped by command 3 ∷ stamped by command 5 ∷ stamped by command 7 ∷ []) 2 ≡ record { history = []; clock = 2 }
@@ -33,5 +33,5 @@ unfolding stamped
 as_it_was by command = record { as_then = refl; later = omega arith }
 
 -- a command is refused as of no known op
-refuses : (s : State) (by : List ℕ) (command : Command) → asked_of s (Ok (record { by = by; op = op.Command command })) ≡ reply.Refused (BadRequest (111 ∷ 112 ∷ []))
+refuses : (s : State) (by : List ℕ) (command : Command) → asked_of s (Ok (record { by = by; key = None; op = op.Command command })) ≡ reply.Refused (BadRequest (111 ∷ 112 ∷ []))
 refuses s by command = refl

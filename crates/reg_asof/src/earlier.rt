@@ -70,8 +70,8 @@ impl Model for Earlier {
 impl Earlier {
     /// The registry of a journal's records as it was at a moment: the commands up to then, with the
     /// clock there. `Damaged` names the first place whose payload is no command's, falls in time,
-    /// or is refused there; beside it comes `NoMemory` alone. Records past the moment aren't
-    /// judged.
+    /// has a key that its caller has, or is refused there; beside it comes `NoMemory` alone.
+    /// Records past the moment aren't judged.
     pub fn replay(alloc: Global, records: Records, at: Moment) -> Result<Earlier, OpenFault>
         ensures ok { IfOk result (λ e. (s : State) → judged start records ≡ Ok s
             → e ≡ state_at s.history at) }
@@ -111,7 +111,7 @@ impl Earlier {
         ensures due { MayTell self.now (Ok request) result }
         ensures unaccepted { is_accepted result ≡ false }
     {
-        let Request { by, op } = request;
+        let Request { by, op, .. } = request;
         match op {
             Op::Query(query) => queried(alloc, &self.machine, by, query),
             Op::Command(command) => {

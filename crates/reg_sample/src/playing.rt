@@ -16,6 +16,7 @@ use reg_session::{LineReading, turn};
 use std::alloc::{AllocError, Global};
 
 /// What a line asks.
+#[tactic(auto, using(reg_session::proofs::Formed::has_form))]
 fn reading_of(alloc: Global, line: &[u8]) -> LineReading
     ensures says { ReadsAs result (reading_of line.now) }
     ensures form { AsksFormed result }

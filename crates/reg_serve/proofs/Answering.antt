@@ -5,25 +5,20 @@ use Rattle.std.specs.Io.KnownBytes.{append_known}
 use Rattle.std.proofs.lemmas.List.{map-append, take_all}
 use Rattle.reg_outside.specs.Streams.{first_moment, later_moments, WritesFront}
 use Rattle.reg_terms.specs.declared.refusal.Refusal.{Refusal}
-use Rattle.reg_base.specs.declared.entity.Entity.{Entity}
-use Rattle.reg_terms.specs.declared.command.Command.{Command}
 use Rattle.reg_terms.specs.declared.command.Stamped.{Stamped}
 use Rattle.reg_machine.specs.History.{State}
 use Rattle.reg_terms.specs.declared.request.Request.{Request}
-use Rattle.reg_terms.specs.declared.request.Op.{Op}
-use Rattle.reg_terms.specs.declared.request.Op.TheVariants as op
 use Rattle.reg_terms.specs.declared.reply.Reply.{Reply}
 use Rattle.reg_terms.specs.declared.reply.Reply.TheVariants as reply
-use Rattle.reg_base.specs.Entities.{entity_of}
 use Rattle.reg_keep.specs.declared.keeper.Keeper.{Ghosts}
 use Rattle.reg_service.specs.Kept.{Halted, IsOneMore, KeptOn, KeepsNext}
-use Rattle.reg_service.specs.Turn.{at_moment, decided, requested, turn, Turns, Follows, last_reply, ordered}
+use Rattle.reg_service.specs.Turn.{turn, Follows, last_reply}
 use Rattle.reg_service.specs.Opening.{Served}
 use Rattle.reg_service.specs.declared.service.Cause.{Cause}
 use Rattle.reg_service.specs.declared.service.Next.{Next}
 use Rattle.reg_service.specs.declared.service.Next.TheVariants as next
-use Rattle.reg_session.specs.Replies.{is_accepted, IsShown}
-use Rattle.reg_session.proofs.Answering.{load_keeps, not_accepted}
+use Rattle.reg_session.specs.Replies.{IsShown}
+use Rattle.reg_session.proofs.Answering.{turns_told}
 use Rattle.reg_session.proofs.Halting.{one_more, turn_one}
 use Rattle.reg_session.specs.Answered.{Point, AreNext, coming_after, Gives}
 use Rattle.reg_http.specs.declared.call.Call.{Call}
@@ -38,34 +33,6 @@ use Rattle.reg_serve.specs.declared.ended.Ended.{Ended}
 use Rattle.reg_serve.specs.declared.ended.Ended.TheVariants as ended
 
 -- ---- what is shown of a reply may be given
-
-decided_keeps : (s : State) (by : Entity) (command : Command) (r : Option Refusal) → is_accepted (decided s by command r).0 ≡ false → (decided s by command r).1 ≡ s
-decided_keeps s by command None h = cc
-decided_keeps s by command (Some r) h = refl
-
-ordered_keeps : (s : State) (by : Option Entity) (command : Command) → is_accepted (ordered s by command).0 ≡ false → (ordered s by command).1 ≡ s
-ordered_keeps s None command h = refl
-ordered_keeps s (Some by) command h = decided_keeps s by command _ h
-
-answered_keeps : (s : State) (by : List ℕ) (o : Op) → is_accepted (requested s by o).0 ≡ false → (requested s by o).1 ≡ s
-answered_keeps s by (op.Command command) h = ordered_keeps s (entity_of by) command h
-answered_keeps s by (op.Query query) h = refl
-answered_keeps s by (op.Load job table) h = load_keeps s (entity_of by) job table h
-
-turn_keeps : (s : State) (m : ℕ) (reading : Result Request Refusal) → is_accepted (turn s m reading).0 ≡ false → (turn s m reading).1 ≡ at_moment s m
-turn_keeps s m (Err r) h = refl
-turn_keeps s m (Ok request) h = answered_keeps (at_moment s m) request.by request.op h
-
-turns_no_memory : (s after : State) (m : ℕ) (reading : Result Request Refusal) (given : Reply) → Turns s m reading given after → is_accepted given ≡ false → Turns s m reading reply.NoMemory after
-turns_no_memory s after m reading given (inl e) h =
-    let told : given ≡ (turn s m reading).0 = ap (λ (p : Reply × State). p.0) e in
-    let kept : after ≡ at_moment s m = ap (λ (p : Reply × State). p.1) e ∙ turn_keeps s m reading (rw (← told) h) in
-    inr (record { fault = refl; history = ap (λ (t : State). t.history) kept; clock = inr (ap (λ (t : State). t.clock) kept) })
-turns_no_memory s after m reading given (inr wants) h = inr (record { fault = refl; history = wants.history; clock = wants.clock })
-
-turns_told : (s after : State) (m : ℕ) (reading : Result Request Refusal) (given told : Reply) → Turns s m reading given after → IsShown given told → Turns s m reading told after
-turns_told s after m reading given told t (inl e) = rw e t
-turns_told s after m reading given told t (inr e) = rw e.0 (turns_no_memory s after m reading given t (not_accepted given e.1))
 
 shown_twice : (due told shown : Reply) → IsShown due told → IsShown told shown → IsShown due shown
 shown_twice due told shown one (inl e) = rw e one

@@ -1,6 +1,6 @@
 -- That the responses of a connection keep up, from message to message.
 use Rattle.std.proofs.Common.{◌≡◌, ◌≤◌, ◌+◌, ◌^◌, ◌++◌, ◌∷◌, [], List, ℕ, Bool, Option, Some, None, true, false, Result, Ok, Err, refl, ap, sym, subst, ◌∙◌, inl, inr, arith, length, option_map, append-nil}
-use Rattle.std.specs.Prelude.{IfSome, IfOk, IfErr}
+use Rattle.std.specs.Prelude.{IfSome, IfOk, IfErr, if◌then◌else◌}
 use Rattle.std.specs.Io.KnownBytes.{append_known, prepend_known}
 use Rattle.std.proofs.lemmas.List.{take_all}
 use Rattle.std.proofs.lemmas.List.Elements.{All-nil, All-cons}
@@ -12,6 +12,7 @@ use Rattle.reg_terms.specs.declared.command.Command.{Command}
 use Rattle.reg_terms.specs.declared.command.Stamped.{Stamped}
 use Rattle.reg_terms.specs.declared.query.Answer as terms
 use Rattle.reg_terms.specs.declared.refusal.Refusal.{Refusal}
+use Rattle.reg_terms.specs.declared.refusal.Refusal.TheVariants.{OtherCommand}
 use Rattle.reg_terms.specs.declared.reply.LoadCounts.{LoadCounts}
 use Rattle.reg_terms.specs.declared.reply.Reply.{Reply}
 use Rattle.reg_terms.specs.declared.reply.Reply.TheVariants as reply
@@ -19,6 +20,7 @@ use Rattle.reg_terms.specs.declared.request.Op.{Op}
 use Rattle.reg_terms.specs.declared.request.Op.TheVariants as op
 use Rattle.reg_terms.specs.declared.request.Request.{Request}
 use Rattle.reg_machine.specs.History.{State}
+use Rattle.reg_machine.specs.Keys.{KeptCommand, keyed, same_command}
 use Rattle.reg_machine.specs.Loads.{load_outcome}
 use Rattle.reg_machine.specs.Refusals.{refusal}
 use Rattle.reg_view.specs.AtClock.{told}
@@ -27,13 +29,14 @@ use Rattle.reg_service.specs.Kept.{KeptOn}
 use Rattle.reg_service.specs.Marked.{keeps_up_none, keeps_up_one, part_keeps_up_then, part_of_whole}
 use Rattle.reg_service.specs.Marks.{IsMarked, KeepsUp, KeepsUpBy, KeepsUpInPart, Output, Writing, WritesAll, number_of}
 use Rattle.reg_service.specs.Opening.{Served, payloads_of}
-use Rattle.reg_service.specs.Turn.{answered, at_moment, decided, load_ordered, loaded, ordered, requested, turn, Turns, last_reply}
+use Rattle.reg_service.specs.Turn.{answered, answered_again, at_moment, decided, load_ordered, loaded, ordered, ordered_again, ordered_by, requested, turn, Turns, last_reply}
 use Rattle.reg_service.specs.declared.service.Cause.{Cause}
 use Rattle.reg_service.specs.declared.service.Cause.TheVariants as cause
 use Rattle.reg_service.specs.declared.service.Next.{Next}
 use Rattle.reg_service.specs.declared.service.Next.TheVariants as next
 use Rattle.reg_session.specs.Answered.{Point}
 use Rattle.reg_session.specs.Replies.{IsShown}
+use Rattle.reg_session.proofs.Numbering.{keyed_within}
 use Rattle.reg_http.specs.Runs.{HasGiven}
 use Rattle.reg_http.specs.Turns.{Reading, GivesTurn, start, fed}
 use Rattle.reg_http.specs.declared.call.Call.{Call}
@@ -58,13 +61,28 @@ use Rattle.reg_serve.proofs.Turning.{FedLaw, ends_behind, fails_turn, session_fi
 abbrev IsOf : List Stamped → Reply → Type 0
 IsOf history told = IfSome (number_of told) (λ n. n ≤ length history)
 
-decided_of : (s : State) (by : Entity) (command : Command) (r : Option Refusal) → IsOf (decided s by command r).1.history (decided s by command r).0
-decided_of s by command None = omega arith
-decided_of s by command (Some r) = tt
+decided_of : (s : State) (by : Entity) (key : Option (List ℕ)) (command : Command) (r : Option Refusal) → IsOf (decided s by key command r).1.history (decided s by key command r).0
+decided_of s by key command None = omega arith
+decided_of s by key command (Some r) = tt
 
-ordered_of : (s : State) (by : Option Entity) (command : Command) → IsOf (ordered s by command).1.history (ordered s by command).0
-ordered_of s None command = tt
-ordered_of s (Some by) command = decided_of s by command (refusal s.history s.clock by command)
+again_of : (s : State) (kept : KeptCommand) (command : Command) → kept.number ≤ length s.history → IsOf s.history (answered_again kept command)
+again_of s kept command within =
+    elim (same_command kept.command command) as (λ (b : Bool). IsOf s.history (if b then reply.Number kept.number kept.id else reply.Refused (OtherCommand kept.number))) [
+      | true ↦ within
+      | false ↦ tt
+    ]
+
+keyed_of : (s : State) (by : Entity) (key : List ℕ) (command : Command) (kept : Option KeptCommand) → keyed s.history by key ≡ kept → IsOf (ordered_again s by key command kept).1.history (ordered_again s by key command kept).0
+keyed_of s by key command None is = decided_of s by (Some key) command (refusal s.history s.clock by command)
+keyed_of s by key command (Some kept) is = again_of s kept command (keyed_within s.history by key kept is)
+
+known_of : (s : State) (by : Entity) (key : Option (List ℕ)) (command : Command) → IsOf (ordered_by s by key command).1.history (ordered_by s by key command).0
+known_of s by None command = decided_of s by None command (refusal s.history s.clock by command)
+known_of s by (Some key) command = keyed_of s by key command (keyed s.history by key) refl
+
+ordered_of : (s : State) (by : Option Entity) (key : Option (List ℕ)) (command : Command) → IsOf (ordered s by key command).1.history (ordered s by key command).0
+ordered_of s None key command = tt
+ordered_of s (Some by) key command = known_of s by key command
 
 loaded_of : (s : State) (by : Entity) (plan : Result (Command × LoadCounts) Refusal) → IsOf (loaded s by plan).1.history (loaded s by plan).0
 loaded_of s by (Ok plan) = omega arith
@@ -78,13 +96,13 @@ answered_of : (history : List Stamped) (r : Result terms.Answer Refusal) → IsO
 answered_of history (Ok a) = tt
 answered_of history (Err r) = tt
 
-requested_of : (s : State) (by : List ℕ) (asked : Op) → IsOf (requested s by asked).1.history (requested s by asked).0
-requested_of s by (op.Command command) = ordered_of s (entity_of by) command
-requested_of s by (op.Query query) = answered_of s.history (told s.history s.clock by query)
-requested_of s by (op.Load job table) = load_of s (entity_of by) job table
+requested_of : (s : State) (by : List ℕ) (key : Option (List ℕ)) (asked : Op) → IsOf (requested s by key asked).1.history (requested s by key asked).0
+requested_of s by key (op.Command command) = ordered_of s (entity_of by) key command
+requested_of s by key (op.Query query) = answered_of s.history (told s.history s.clock by query)
+requested_of s by key (op.Load job table) = load_of s (entity_of by) job table
 
 turn_of : (s : State) (m : ℕ) (reading : Result Request Refusal) → IsOf (turn s m reading).1.history (turn s m reading).0
-turn_of s m (Ok request) = requested_of (at_moment s m) request.by request.op
+turn_of s m (Ok request) = requested_of (at_moment s m) request.by request.key request.op
 turn_of s m (Err r) = tt
 
 turns_of : (s after : State) (m : ℕ) (reading : Result Request Refusal) (given : Reply) → Turns s m reading given after → IsOf after.history given

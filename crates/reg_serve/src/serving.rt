@@ -44,6 +44,7 @@ fn caller_of(call: &Call) -> &[u8]
 }
 
 /// What a message of a route asks, as the service takes it.
+#[tactic(auto, using(reg_session::proofs::Formed::has_form))]
 fn read(alloc: Global, route: Route, call: &Call) -> LineReading
     ensures says { ReadsAs result (reading_of route (unwrap_or call.now.caller []) call.now) }
     ensures form { AsksFormed result }

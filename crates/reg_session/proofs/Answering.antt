@@ -9,6 +9,7 @@ use Rattle.reg_terms.specs.declared.refusal.Refusal.{Refusal}
 use Rattle.reg_base.specs.declared.entity.Entity.{Entity}
 use Rattle.reg_terms.specs.declared.command.Command.{Command}
 use Rattle.reg_machine.specs.History.{State}
+use Rattle.reg_machine.specs.Keys.{KeptCommand, keyed}
 use Rattle.reg_machine.specs.Loads.{load_outcome}
 use Rattle.reg_machine.specs.Refusals.{refusal}
 use Rattle.reg_terms.specs.declared.request.Request.{Request}
@@ -19,7 +20,7 @@ use Rattle.reg_terms.specs.declared.reply.Reply.{Reply}
 use Rattle.reg_terms.specs.declared.reply.Reply.TheVariants as reply
 use Rattle.reg_json.specs.Reading.{reading_of}
 use Rattle.reg_base.specs.Entities.{entity_of}
-use Rattle.reg_service.specs.Turn.{at_moment, decided, load_ordered, loaded, requested, turn, Turns, Follows, last_reply, ordered}
+use Rattle.reg_service.specs.Turn.{at_moment, decided, load_ordered, loaded, requested, turn, Turns, Follows, last_reply, ordered, ordered_again, ordered_by}
 use Rattle.reg_service.specs.Opening.{Served}
 use Rattle.reg_service.specs.declared.service.Cause.{Cause}
 use Rattle.reg_service.specs.declared.service.Next.{Next}
@@ -29,31 +30,39 @@ use Rattle.reg_session.specs.Replies.{line_of, lines_of, gives_way, is_accepted,
 use Rattle.reg_session.specs.Answered.{Answer, Point, MayAnswer, AreNext, coming_after, Gives, Answered, moments_of, readings_of, replies_of, answers, last_state}
 use Rattle.reg_session.proofs.Cutting.{readings_more}
 
-decided_keeps : (s : State) (by : Entity) (command : Command) (r : Option Refusal) → is_accepted (decided s by command r).0 ≡ false → (decided s by command r).1 ≡ s
-decided_keeps s by command None h = cc
-decided_keeps s by command (Some r) h = refl
+decided_keeps : (s : State) (by : Entity) (key : Option (List ℕ)) (command : Command) (r : Option Refusal) → is_accepted (decided s by key command r).0 ≡ false → (decided s by key command r).1 ≡ s
+decided_keeps s by key command None h = cc
+decided_keeps s by key command (Some r) h = refl
 
-ordered_keeps : (s : State) (by : Option Entity) (command : Command) → is_accepted (ordered s by command).0 ≡ false → (ordered s by command).1 ≡ s
-ordered_keeps s None command h = refl
-ordered_keeps s (Some by) command h = decided_keeps s by command (refusal s.history s.clock by command) h
+again_keeps : (s : State) (by : Entity) (key : List ℕ) (command : Command) (kept : Option KeptCommand) → is_accepted (ordered_again s by key command kept).0 ≡ false → (ordered_again s by key command kept).1 ≡ s
+again_keeps s by key command None h = decided_keeps s by (Some key) command (refusal s.history s.clock by command) h
+again_keeps s by key command (Some kept) h = refl
+
+known_keeps : (s : State) (by : Entity) (key : Option (List ℕ)) (command : Command) → is_accepted (ordered_by s by key command).0 ≡ false → (ordered_by s by key command).1 ≡ s
+known_keeps s by None command h = decided_keeps s by None command (refusal s.history s.clock by command) h
+known_keeps s by (Some key) command h = again_keeps s by key command (keyed s.history by key) h
+
+ordered_keeps : (s : State) (by : Option Entity) (key : Option (List ℕ)) (command : Command) → is_accepted (ordered s by key command).0 ≡ false → (ordered s by key command).1 ≡ s
+ordered_keeps s None key command h = refl
+ordered_keeps s (Some by) key command h = known_keeps s by key command h
 
 plan_keeps : (s : State) (by : Entity) (plan : Result (Command × LoadCounts) Refusal) → is_accepted (loaded s by plan).0 ≡ false → (loaded s by plan).1 ≡ s
 plan_keeps s by (Ok plan) h = cc
 plan_keeps s by (Err r) h = refl
 
-pub load_keeps : (s : State) (by : Option Entity) (job table : List ℕ) → is_accepted (load_ordered s by job table).0 ≡ false → (load_ordered s by job table).1 ≡ s
+load_keeps : (s : State) (by : Option Entity) (job table : List ℕ) → is_accepted (load_ordered s by job table).0 ≡ false → (load_ordered s by job table).1 ≡ s
 load_keeps s None job table h = refl
 load_keeps s (Some by) job table h = plan_keeps s by (load_outcome s.history s.clock by job table) h
 
-answered_keeps : (s : State) (by : List ℕ) (asked : Op) → is_accepted (requested s by asked).0 ≡ false → (requested s by asked).1 ≡ s
-answered_keeps s by (op.Command command) h = ordered_keeps s (entity_of by) command h
-answered_keeps s by (op.Query query) h = refl
-answered_keeps s by (op.Load job table) h = load_keeps s (entity_of by) job table h
+answered_keeps : (s : State) (by : List ℕ) (key : Option (List ℕ)) (asked : Op) → is_accepted (requested s by key asked).0 ≡ false → (requested s by key asked).1 ≡ s
+answered_keeps s by key (op.Command command) h = ordered_keeps s (entity_of by) key command h
+answered_keeps s by key (op.Query query) h = refl
+answered_keeps s by key (op.Load job table) h = load_keeps s (entity_of by) job table h
 
 -- what isn't an accepted command moves the clock alone
 turn_keeps : (s : State) (m : ℕ) (reading : Result Request Refusal) → is_accepted (turn s m reading).0 ≡ false → (turn s m reading).1 ≡ at_moment s m
 turn_keeps s m (Err r) h = refl
-turn_keeps s m (Ok request) h = answered_keeps (at_moment s m) request.by request.op h
+turn_keeps s m (Ok request) h = answered_keeps (at_moment s m) request.by request.key request.op h
 
 -- a reply that isn't an accepted command's may be that there was no memory
 turns_no_memory : (s after : State) (m : ℕ) (reading : Result Request Refusal) (given : Reply) → Turns s m reading given after → is_accepted given ≡ false → Turns s m reading reply.NoMemory after
@@ -63,7 +72,7 @@ turns_no_memory s after m reading given (inl e) h =
     inr (record { fault = refl; history = ap (λ (t : State). t.history) kept; clock = inr (ap (λ (t : State). t.clock) kept) })
 turns_no_memory s after m reading given (inr wants) h = inr (record { fault = refl; history = wants.history; clock = wants.clock })
 
-pub not_accepted : (due : Reply) → gives_way due ≡ true → is_accepted due ≡ false
+not_accepted : (due : Reply) → gives_way due ≡ true → is_accepted due ≡ false
 not_accepted (reply.Number n id) e = absurd (cc)
 not_accepted (reply.Loaded n counts) e = absurd (cc)
 not_accepted (reply.Answer a) e = refl

@@ -15,13 +15,14 @@ use Rattle.reg_terms.specs.declared.request.Request.{Request}
 use Rattle.reg_terms.specs.declared.request.Op.{Op}
 use Rattle.reg_terms.specs.declared.request.Op.TheVariants as op
 use Rattle.reg_machine.specs.History.{State}
+use Rattle.reg_machine.specs.Keys.{KeptCommand, keyed}
 use Rattle.reg_machine.specs.Loads.{load_outcome}
 use Rattle.reg_machine.specs.Refusals.{refusal}
 use Rattle.reg_keep.specs.declared.keeper.Keeper.{Ghosts}
 use Rattle.reg_service.specs.Opening.{payloads_of, Served, FrontsReopen}
 use Rattle.reg_service.specs.Kept.{KeptOn, IsBetween, IsOneMore, Stopped, Halted, KeepsNext, Began, RoseAt}
 use Rattle.reg_base.specs.Entities.{entity_of}
-use Rattle.reg_service.specs.Turn.{requested, decided, load_ordered, loaded, turn, at_moment, ordered}
+use Rattle.reg_service.specs.Turn.{requested, decided, load_ordered, loaded, turn, at_moment, ordered, ordered_again, ordered_by}
 use Rattle.reg_service.specs.declared.service.Next.{Next}
 use Rattle.reg_service.specs.declared.service.Next.TheVariants as next
 use Rattle.reg_service.specs.declared.service.Cause.{Cause}
@@ -172,30 +173,38 @@ pub err_one : {T E : Type 0} (P Q : E → Type 0) (r : Result T E) → IfErr r P
 err_one P Q (Ok x) p h = tt
 err_one P Q (Err e) p h = h e p
 
-decided_one : (s : State) (by : Entity) (command : Command) (r : Option Refusal) → IsOneMore s.history (decided s by command r).1.history
-decided_one s by command None = inr (record { at = s.clock; by = by; command = command }, refl)
-decided_one s by command (Some r) = inl refl
+decided_one : (s : State) (by : Entity) (key : Option (List ℕ)) (command : Command) (r : Option Refusal) → IsOneMore s.history (decided s by key command r).1.history
+decided_one s by key command None = inr (record { at = s.clock; by = by; key = key; command = command }, refl)
+decided_one s by key command (Some r) = inl refl
 
-ordered_one : (s : State) (by : Option Entity) (command : Command) → IsOneMore s.history (ordered s by command).1.history
-ordered_one s None command = inl refl
-ordered_one s (Some by) command = decided_one s by command (refusal s.history s.clock by command)
+again_one : (s : State) (by : Entity) (key : List ℕ) (command : Command) (kept : Option KeptCommand) → IsOneMore s.history (ordered_again s by key command kept).1.history
+again_one s by key command None = decided_one s by (Some key) command (refusal s.history s.clock by command)
+again_one s by key command (Some kept) = inl refl
+
+known_one : (s : State) (by : Entity) (key : Option (List ℕ)) (command : Command) → IsOneMore s.history (ordered_by s by key command).1.history
+known_one s by None command = decided_one s by None command (refusal s.history s.clock by command)
+known_one s by (Some key) command = again_one s by key command (keyed s.history by key)
+
+ordered_one : (s : State) (by : Option Entity) (key : Option (List ℕ)) (command : Command) → IsOneMore s.history (ordered s by key command).1.history
+ordered_one s None key command = inl refl
+ordered_one s (Some by) key command = known_one s by key command
 
 loaded_one : (s : State) (by : Entity) (plan : Result (Command × LoadCounts) Refusal) → IsOneMore s.history (loaded s by plan).1.history
-loaded_one s by (Ok plan) = inr (record { at = s.clock; by = by; command = plan.0 }, refl)
+loaded_one s by (Ok plan) = inr (record { at = s.clock; by = by; key = None; command = plan.0 }, refl)
 loaded_one s by (Err r) = inl refl
 
 load_one : (s : State) (by : Option Entity) (job table : List ℕ) → IsOneMore s.history (load_ordered s by job table).1.history
 load_one s None job table = inl refl
 load_one s (Some by) job table = loaded_one s by (load_outcome s.history s.clock by job table)
 
-requested_one : (s : State) (by : List ℕ) (asked : Op) → IsOneMore s.history (requested s by asked).1.history
-requested_one s by (op.Command command) = ordered_one s (entity_of by) command
-requested_one s by (op.Query query) = inl refl
-requested_one s by (op.Load job table) = load_one s (entity_of by) job table
+requested_one : (s : State) (by : List ℕ) (key : Option (List ℕ)) (asked : Op) → IsOneMore s.history (requested s by key asked).1.history
+requested_one s by key (op.Command command) = ordered_one s (entity_of by) key command
+requested_one s by key (op.Query query) = inl refl
+requested_one s by key (op.Load job table) = load_one s (entity_of by) job table
 
 -- a turn leads to the history, or to one command more
 pub turn_one : (s : State) (m : ℕ) (reading : Result Request Refusal) → IsOneMore s.history (turn s m reading).1.history
-turn_one s m (Ok request) = requested_one (at_moment s m) request.by request.op
+turn_one s m (Ok request) = requested_one (at_moment s m) request.by request.key request.op
 turn_one s m (Err r) = inl refl
 
 -- something is told by each reading

@@ -1,6 +1,7 @@
 pub mod Answering
 pub mod Cutting
 pub mod Feeding
+pub mod Formed
 pub mod Halting
 pub mod Long
 pub mod Marking

@@ -14,7 +14,7 @@ use Rattle.reg_machine.specs.History.{State}
 use Rattle.reg_service.specs.Turn.{turn, Turns}
 use Rattle.reg_session.specs.Lines.{readings, ended_from, pending_from}
 use Rattle.reg_session.specs.Pending.{Holds}
-use Rattle.reg_session.specs.Replies.{lines_of, numbers, places}
+use Rattle.reg_session.specs.Replies.{lines_of, new_numbers, places}
 use Rattle.reg_session.specs.declared.pending.PendingLine.{PendingLine}
 
 -- what was read, the moment at which it was answered, and the reply
@@ -95,13 +95,14 @@ last_state s coming [] = s
 last_state s coming (reading ∷ more) =
     last_state (turn s (first_moment coming) reading).1 (later_moments coming) more
 
--- Lines were answered, and these commands accepted: their numbers are told in order, and without
--- want of memory the replies are one function of the state, the lines and the moments.
+-- Lines were answered, and these commands accepted: their numbers are told in order, each as new,
+-- and without want of memory the replies are one function of the state, the lines and the moments.
 pub record Accepted (before : Point) (ls : List (List ℕ)) (after : Point)
     (accepted : List Stamped) : Type 0 where
   pub all : Answered before ls after
   pub grown : after.state.history ≡ before.state.history ++ accepted
-  pub numbered : numbers (replies_of all.answers) ≡ places (length before.state.history) accepted
+  pub numbered : new_numbers (length before.state.history) (replies_of all.answers)
+      ≡ places (length before.state.history) accepted
   pub exact : IfSome before.moments (λ coming. All (λ (told : Reply). told
       ≢ reply.NoMemory) (replies_of all.answers)
       → (replies_of all.answers ≡ answers before.state coming (readings ls))

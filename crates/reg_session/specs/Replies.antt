@@ -1,6 +1,6 @@
 -- Replies as lines, and the numbers that they tell.
 use Rattle.std.specs.Prelude.{◌≡◌, ◌⊎◌, ℕ, List, [], ◌∷◌, ◌++◌, ◌+◌, Option, Bool, true, false}
-use Rattle.std.specs.Prelude.{Result, Ok, Err}
+use Rattle.std.specs.Prelude.{Result, Ok, Err, nat_lt, if◌then◌else◌}
 use Rattle.std.specs.Io.KnownBytes.{append_known}
 use Rattle.reg_outside.specs.Streams.{WritesFront}
 use Rattle.reg_terms.specs.declared.command.Stamped.{Stamped}
@@ -25,22 +25,24 @@ abbrev pub IsLine : Writing → Type 0
 IsLine written =
     (told : Reply) × (written.text ≡ line_of told) × (written.number ≡ number_of told)
 
--- the numbers that replies tell
-abbrev pub numbers : List Reply → List ℕ
-numbers [] = []
-numbers ((reply.Number n id) ∷ replies) = n ∷ numbers replies
-numbers ((reply.Loaded n counts) ∷ replies) = n ∷ numbers replies
-numbers ((reply.Answer a) ∷ replies) = numbers replies
-numbers ((reply.Refused r) ∷ replies) = numbers replies
-numbers (reply.NoMemory ∷ replies) = numbers replies
-numbers (reply.KeepFault ∷ replies) = numbers replies
+-- the numbers that replies tell of commands that are new: each is greater than all there were
+abbrev pub new_numbers : ℕ → List Reply → List ℕ
+new_numbers n [] = []
+new_numbers n ((reply.Number m id) ∷ replies) =
+    if nat_lt n m then m ∷ new_numbers m replies else new_numbers n replies
+new_numbers n ((reply.Loaded m counts) ∷ replies) = m ∷ new_numbers m replies
+new_numbers n ((reply.Answer a) ∷ replies) = new_numbers n replies
+new_numbers n ((reply.Refused r) ∷ replies) = new_numbers n replies
+new_numbers n (reply.NoMemory ∷ replies) = new_numbers n replies
+new_numbers n (reply.KeepFault ∷ replies) = new_numbers n replies
 
 -- the places of commands behind so many others, counted from 1
 abbrev pub places : ℕ → List Stamped → List ℕ
 places n [] = []
 places n (s ∷ ss) = (n + 1) ∷ places (n + 1) ss
 
--- whether a reply says that a command was accepted, be it that of a load
+-- whether a reply says that a command was accepted, be it that of a load, or one that was kept
+-- before
 abbrev pub is_accepted : Reply → Bool
 is_accepted (reply.Number n id) = true
 is_accepted (reply.Loaded n counts) = true

@@ -36,9 +36,9 @@ IsSaid due old new failed = (new ≡ append_known old (line_of due)) ⊎ failed
 
 -- Why the last turn of a session was the last: the reply that was due, the history that was
 -- answered, and that which may be kept. For want of memory the history stays, and the reply says so
--- (`said`); or the one command was accepted, and nothing of its reply stands on the output
--- (`bare`). Where the keeper failed, the command may be kept or not, and the reply says so. Where
--- the output failed, it is kept.
+-- (`said`); or the one command was accepted, now or before under its key, and nothing of its reply
+-- stands on the output (`bare`). Where the keeper failed, the command may be kept or not, and the
+-- reply says so. Where the output failed, it is kept.
 abbrev pub EndsTurn : State → ℕ → Result Request Refusal → Reply → (said bare : Type 0)
     → (answered after : List Stamped) → Stop → Type 0
 EndsTurn s at reading due said bare answered after stop.Memory =

@@ -40,6 +40,7 @@ fn is_skipped(line: &[u8]) -> bool
 }
 
 /// What kept bytes ask.
+#[tactic(auto, using(crate::proofs::Formed::has_form))]
 fn reading_of_bytes(alloc: Global, line: &[u8]) -> LineReading
     ensures says { ReadsLine result line.now }
     ensures form { AsksFormed result }
