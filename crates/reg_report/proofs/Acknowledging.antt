@@ -1,5 +1,5 @@
 -- Behind an acknowledgement the consumer's place is what was acknowledged.
-use Rattle.std.proofs.Common.{◌≡◌, ℕ, Bool, true, false, List, [], ◌∷◌, Some, map, refl, ap, ◌∙◌}
+use Rattle.std.proofs.Common.{◌≡◌, ℕ, Bool, true, false, List, [], ◌∷◌, Option, Some, map, refl, ap, ◌∙◌}
 use Rattle.std.specs.List.{AllByRecursion}
 use Rattle.std.specs.Str.{bytes_eq}
 use Rattle.reg_base.specs.declared.entity.Entity.{Entity}
@@ -40,8 +40,8 @@ moved : (name : List ℕ) (seq place : ℕ) (rows : List ConsumerRow) → consum
 moved name seq place [] e = absurd (cc)
 moved name seq place (row ∷ rows) e = moved_one name seq place row rows (bytes_eq row.name name) refl (moved name seq place rows) e
 
-pub acknowledged_place : (s : State) (by : Entity) (consumer : List ℕ) (place seq : ℕ) → AllByRecursion (IsBy s.clock) s.history → place_at s.history s.clock consumer ≡ Some place
-    → place_at (appended s by (ConsumerAck consumer seq)).history s.clock consumer ≡ Some seq
-acknowledged_place s by consumer place seq h e =
-    ap (λ (f : Lists). consumer_place consumer f.consumers) (facts_push s.clock by (ConsumerAck consumer seq) s.history h)
+pub acknowledged_place : (s : State) (by : Entity) (key : Option (List ℕ)) (consumer : List ℕ) (place seq : ℕ) → AllByRecursion (IsBy s.clock) s.history → place_at s.history s.clock consumer ≡ Some place
+    → place_at (appended s by key (ConsumerAck consumer seq)).history s.clock consumer ≡ Some seq
+acknowledged_place s by key consumer place seq h e =
+    ap (λ (f : Lists). consumer_place consumer f.consumers) (facts_push s.clock by key (ConsumerAck consumer seq) s.history h)
     ∙ (ap (consumer_place consumer) (acted_consumers s.clock by consumer seq (now_facts s)) ∙ moved consumer seq place (now_facts s).consumers e)

@@ -1,5 +1,5 @@
 -- What stands in a folder has a name, and what stands in none is named as the root is.
-use Rattle.std.proofs.Common.{◌≡◌, List, [], ◌∷◌, true, Option, Some, None, inl, inr, codes}
+use Rattle.std.proofs.Common.{◌≡◌, List, [], ◌∷◌, true, Some, None, inl, inr, codes}
 use Rattle.std.proofs.lemmas.Bool.{cases_Bool, or_left, or_right}
 use Rattle.std.specs.List.{list_any}
 use Rattle.reg_terms.specs.declared.kinds.Object.{Object}

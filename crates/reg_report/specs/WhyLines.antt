@@ -8,7 +8,7 @@ use Rattle.reg_terms.specs.declared.kinds.Member.{Member}
 use Rattle.reg_terms.specs.declared.kinds.Member.TheVariants.{Person, Group}
 use Rattle.reg_terms.specs.declared.kinds.Object.TheVariants as object
 use Rattle.reg_terms.specs.declared.kinds.SetOp.{SetOp}
-use Rattle.reg_terms.specs.declared.kinds.SetOp.TheVariants.{Intersection, Complement}
+use Rattle.reg_terms.specs.declared.kinds.SetOp.TheVariants.{Intersection, Complement, Union}
 use Rattle.reg_terms.specs.declared.rows.MemberRow.{MemberRow}
 use Rattle.reg_facts.specs.Lists.{Lists}
 use Rattle.reg_facts.specs.Naming.{name_of}
@@ -49,6 +49,7 @@ way_items f ways = items_of (map (λ way. array (row_items f way)) ways)
 abbrev pub kind_word : SetOp → List ℕ
 kind_word Intersection = codes "intersection"
 kind_word Complement = codes "complement"
+kind_word Union = codes "union"
 
 -- the factors of a composite
 unfoldable pub factors_data : Lists → SetOp → (left right : ℕ) → Data

@@ -1,5 +1,5 @@
 // What holds of deliveries: a law is the clause of a function that does nothing.
-ghost use Rattle.std.specs.Prelude.{◌≡◌, List, ℕ, Some};
+ghost use Rattle.std.specs.Prelude.{◌≡◌, List, ℕ, Option, Some};
 ghost use Rattle.reg_base.specs.declared.entity.Entity.{Entity};
 ghost use Rattle.reg_terms.specs.declared.command.Command.TheVariants.{ConsumerAck};
 ghost use Rattle.reg_machine.specs.History.{State, appended};
@@ -22,8 +22,8 @@ pub fn law_one_delivery()
 /// Behind a consumer's acknowledgement its place is what was acknowledged. It does nothing: it is a
 /// law of the machine after that.
 pub fn law_acknowledged<K: Kept>(machine: &Machine<K>)
-    ensures { (s : State) (by : Entity) (consumer : List ℕ) (place seq : ℕ)
-        → machine.now ≡ appended s by (ConsumerAck consumer seq)
+    ensures { (s : State) (by : Entity) (key : Option (List ℕ)) (consumer : List ℕ)
+        (place seq : ℕ) → machine.now ≡ appended s by key (ConsumerAck consumer seq)
         → place_at s.history s.clock consumer ≡ Some place
         → place_at machine.now.history s.clock consumer ≡ Some seq }
 {

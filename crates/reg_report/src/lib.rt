@@ -1,6 +1,7 @@
 //! Reports: what a word of the program that asks once is told by a machine, as a line of JSON or,
-//! of reminders, as a line for each; the moment that a report is made as of; and batches of operations for outside lists of memberships:
-//! what is asked for one, the lines that are delivered of it, and what its acknowledgement moves.
+//! of reminders, as a line for each; the moment that a report is made as of; and batches of
+//! operations for outside lists of memberships: what is asked for one, the lines that are delivered
+//! of it, and what its acknowledgement moves.
 #![tactic(auto)]
 
 mod asked;

@@ -142,6 +142,7 @@ fn kind_word(op: SetOp) -> &'static str
     match op {
         SetOp::Intersection => "intersection",
         SetOp::Complement => "complement",
+        SetOp::Union => "union",
     }
 }
 

@@ -26,7 +26,6 @@ use Rattle.reg_run.specs.World.{Out, SameNet, World, output}
 use Rattle.reg_run.specs.declared.earlier.Unasked.{Unasked}
 use Rattle.reg_run.specs.declared.earlier.Unasked.TheVariants as unasked
 use Rattle.reg_run.specs.declared.status.End.{End}
-use Rattle.reg_run.specs.declared.status.End.TheVariants as the_end
 use Rattle.reg_run.proofs.Gathering.{Records}
 use Rattle.reg_run.proofs.Opened.{opens_new}
 

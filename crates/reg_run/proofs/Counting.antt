@@ -277,11 +277,11 @@ no_check None b h = h
 no_check (Some r) b h = absurd (let clash : ⊥ = cc in clash)
 
 -- a command that isn't refused makes what it says
-pub next_makes : (history : List Stamped) (at : ℕ) (by : Entity) (c : Command) → AllByRecursion (IsBy at) history → refusal history at by c ≡ None
-    → Makes c (facts history at) (facts (history ++ (record { at = at; by = by; command = c }) ∷ []) at)
+pub next_makes : (history : List Stamped) (at : ℕ) (by : Entity) (key : Option (List ℕ)) (c : Command) → AllByRecursion (IsBy at) history → refusal history at by c ≡ None
+    → Makes c (facts history at) (facts (history ++ (record { at = at; by = by; key = key; command = c }) ∷ []) at)
 unfolding refusal
-next_makes history at by c all none =
+next_makes history at by key c all none =
     let f = facts history at in
     let edited = edit_makes history (length (log history at)) at by c f (no_check (refused (live at f) f by c) (first_of (checks history (length (log history at)) at f by c)) none) in
     let settled = all_done_same (command_actions at by c f) (edit at by c f) in
-    rw (facts_push at by c history all) (settled.0 ∙ edited.0, settled.1 ∙ edited.1)
+    rw (facts_push at by key c history all) (settled.0 ∙ edited.0, settled.1 ∙ edited.1)

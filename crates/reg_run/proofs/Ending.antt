@@ -54,13 +54,13 @@ told_query : (r : Result Answer Refusal) → end_of_reply (answered r) ≡ end_o
 told_query (Ok a) = refl
 told_query (Err r) = refl
 
-told_op : (s : State) (m : ℕ) (by : List ℕ) (o : Op) → IsQuery o → end_of_reply (requested (at_moment s m) by o).0 ≡ end_of_due (due_of (requested (at_moment s m) by o).0)
-told_op s m by (op.Command command) is = elim is [ ]
-told_op s m by (op.Load job table) is = elim is [ ]
-told_op s m by (op.Query query) is = told_query (told s.history (max s.clock m) by query)
+told_op : (s : State) (m : ℕ) (by : List ℕ) (key : Option (List ℕ)) (o : Op) → IsQuery o → end_of_reply (requested (at_moment s m) by key o).0 ≡ end_of_due (due_of (requested (at_moment s m) by key o).0)
+told_op s m by key (op.Command command) is = elim is [ ]
+told_op s m by key (op.Load job table) is = elim is [ ]
+told_op s m by key (op.Query query) is = told_query (told s.history (max s.clock m) by query)
 
 told_reading : (s : State) (m : ℕ) (reading : Result Request Refusal) → AsksNoChange reading → end_of_reply (turn s m reading).0 ≡ end_of_due (due_of (turn s m reading).0)
-told_reading s m (Ok request) is = told_op s m request.by request.op is
+told_reading s m (Ok request) is = told_op s m request.by request.key request.op is
 told_reading s m (Err r) is = refl
 
 -- the reply of a turn, or that there was no memory

@@ -1,6 +1,6 @@
 -- The lines of commands, gathered and written piece by piece.
 use Rattle.std.proofs.Common.{◌≡◌, ◌≤◌, ◌<◌, ◌+◌, ◌++◌, ◌∷◌, [], List, ℕ, Bool, Option, Some, None, true, false, refl, ap, sym, subst, ◌∙◌, arith, ◌⊎◌, inl, inr, length, take, append-nil, append_assoc, length-append}
-use Rattle.std.specs.Prelude.{IfSome, ◌&&◌, nat_le, option_map, Result, Ok, Err}
+use Rattle.std.specs.Prelude.{IfSome, ◌&&◌, nat_le}
 use Rattle.std.specs.Io.KnownBytes.{append_known}
 use Rattle.std.proofs.lemmas.Bool.{leb-true}
 use Rattle.std.proofs.lemmas.List.{take_at, take-append-le}
@@ -9,8 +9,7 @@ use Rattle.reg_outside.specs.Faults.{Rose}
 use Rattle.reg_outside.specs.Streams.{WritesFront}
 use Rattle.reg_terms.specs.declared.command.Stamped.{Stamped}
 use Rattle.reg_wire.specs.Payload.{stamped_of}
-use Rattle.reg_export.specs.Listing.{Progress, Row, beginning, counted, is_asked, line_at, listed, listing, made_after, made_by, nothing_made, with_command}
-use Rattle.reg_export.specs.declared.counts.Counts.{Counts}
+use Rattle.reg_export.specs.Listing.{Progress, Row, beginning, counted, is_asked, line_at, listed, listing, made_by, nothing_made, with_command}
 use Rattle.reg_words.specs.declared.task.Places.{Places}
 use Rattle.reg_run.specs.Listing.{AreRead, HandsOn, Lists, at_places, counted_lines}
 use Rattle.reg_run.specs.Once.{Put}

@@ -1,6 +1,6 @@
 -- The ids that are counted are those that the replies told.
 use Rattle.std.proofs.Common.{◌≡◌, ◌≤◌, ◌++◌, ◌∷◌, ◌+◌, [], List, ℕ, Bool, Option, Some, None, Result, Ok, Err, true, false, refl, ap, sym, subst, ◌∙◌, append_assoc, append-nil}
-use Rattle.std.specs.Prelude.{nat_lt, if◌then◌else◌}
+use Rattle.std.specs.Prelude.{◌||◌, nat_lt, not, if◌then◌else◌}
 use Rattle.std.specs.List.{AllByRecursion}
 use Rattle.std.proofs.lemmas.Bool.{ltb-false}
 use Rattle.reg_terms.specs.declared.command.Command.{Command}
@@ -10,14 +10,15 @@ use Rattle.reg_terms.specs.declared.refusal.Refusal.{Refusal}
 use Rattle.reg_facts.specs.Lists.{Lists}
 use Rattle.reg_wire.specs.Payload.{stamped_of}
 use Rattle.reg_machine.specs.History.{State, facts, start}
+use Rattle.reg_machine.specs.Ids.{made_id}
 use Rattle.reg_machine.specs.Invariant.{IsBy}
+use Rattle.reg_machine.specs.Keys.{is_free}
 use Rattle.reg_machine.specs.Refusals.{refusal}
 use Rattle.reg_machine.proofs.Moments.{by_later, by_more}
 use Rattle.reg_current.specs.Dates.{pass}
 use Rattle.reg_run.proofs.Counting.{assigns_after, later_same, next_makes, rules_after}
 use Rattle.reg_export.specs.Listing.{Row, counted, made_after, made_by, nothing_made}
 use Rattle.reg_export.specs.declared.counts.Counts.{Counts}
-use Rattle.reg_service.specs.Ids.{made_id}
 use Rattle.reg_service.specs.Opening.{accepted, after_payload, after_stamped, and_then, judged, or_place}
 use Rattle.reg_run.specs.Listing.{at_places, rows_of}
 use Rattle.reg_run.proofs.Gathering.{Records}
@@ -58,9 +59,9 @@ later h t u n le is =
 one_more : (h : List Stamped) (s : Stamped) (n : Counts) → IsCountedAt h s.at n → refusal h s.at s.by s.command ≡ None → IsCountedAt (h ++ s ∷ []) s.at (made_after n s.command)
 one_more h s n is accepts =
     let counts = after_counts n s.command in
-    let makes = next_makes h s.at s.by s.command is.by accepts in
+    let makes = next_makes h s.at s.by s.key s.command is.by accepts in
     record {
-      by = by_more s.at s.by s.command h is.by;
+      by = by_more s.at s.by s.key s.command h is.by;
       assigns = counts.0 ∙ (ap (assigns_after s.command) is.assigns ∙ sym makes.0);
       rules = counts.1 ∙ (ap (rules_after s.command) is.rules ∙ sym makes.1);
     }
@@ -71,20 +72,24 @@ none_yet = record { by = tt; assigns = refl; rules = refl }
 
 -- ---- a record that is taken
 
+neither : (a b : Bool) → (a || b) ≡ false → a ≡ false
+neither true b h = absurd (cc)
+neither false b h = refl
+
 abbrev Taken : State → Stamped → State → Type 0
 Taken s x u = (s.clock ≤ x.at) × (refusal s.history x.at x.by x.command ≡ None) × (u ≡ (record { history = s.history ++ x ∷ []; clock = x.at }))
 
 taken : (s u : State) (found : Option Stamped) → after_stamped s found ≡ Some u → (x : Stamped) × (found ≡ Some x) × Taken s x u
 taken s u None is = absurd (cc)
-taken s u (Some x) is = (x, refl, in_time (nat_lt x.at s.clock) refl is)
+taken s u (Some x) is = (x, refl, in_time (nat_lt x.at s.clock || not (is_free s.history x.by x.key)) refl is)
   where
     by_refusal : s.clock ≤ x.at → (r : Option Refusal) → refusal s.history x.at x.by x.command ≡ r → accepted s x r ≡ Some u → Taken s x u
     by_refusal le None none here = (le, none, ap (λ (o : Option State). elim o [ None ↦ u | Some v ↦ v ]) (sym here))
     by_refusal le (Some r) some here = absurd (cc)
 
-    in_time : (b : Bool) → nat_lt x.at s.clock ≡ b → (if b then None else accepted s x (refusal s.history x.at x.by x.command)) ≡ Some u → Taken s x u
+    in_time : (b : Bool) → (nat_lt x.at s.clock || not (is_free s.history x.by x.key)) ≡ b → (if b then None else accepted s x (refusal s.history x.at x.by x.command)) ≡ Some u → Taken s x u
     in_time true less here = absurd (cc)
-    in_time false less here = by_refusal (ltb-false x.at s.clock less) (refusal s.history x.at x.by x.command) refl here
+    in_time false less here = by_refusal (ltb-false x.at s.clock (neither (nat_lt x.at s.clock) (not (is_free s.history x.by x.key)) less)) (refusal s.history x.at x.by x.command) refl here
 
 take_one : (s u : State) (r : ℕ × List ℕ) → after_payload s r.1 ≡ Some u → (x : Stamped) × (stamped_of r.1 ≡ Some x) × Taken s x u
 unfolding after_payload

@@ -1,6 +1,6 @@
 -- That a run keeps up, from what the stops of its keeper leave.
-use Rattle.std.proofs.Common.{◌≡◌, ◌≤◌, ◌+◌, ◌++◌, ◌∷◌, ◌∙◌, List, ℕ, Option, Some, None, Result, Ok, [], refl, ap, sym, subst, arith, option_map, length, take, append-nil, inl, inr}
-use Rattle.std.specs.Prelude.{IfSome, All}
+use Rattle.std.proofs.Common.{◌≡◌, ◌+◌, ◌++◌, ◌∷◌, ◌∙◌, List, ℕ, Option, Some, None, Result, [], refl, ap, sym, subst, arith, option_map, length, take, append-nil, inl, inr}
+use Rattle.std.specs.Prelude.{IfSome}
 use Rattle.std.specs.Io.KnownBytes.{append_known}
 use Rattle.std.proofs.lemmas.List.{take_all}
 use Rattle.reg_outside.specs.Marks.{Mark}

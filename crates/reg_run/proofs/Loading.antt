@@ -1,18 +1,19 @@
 -- How a load ends, from how its parts did.
 use Rattle.std.proofs.Common.{◌≡◌, ◌≤◌, ◌<◌, ◌+◌, ◌++◌, ◌∙◌, ◌⊎◌, [], List, ℕ, Bool, true, false, Option, Some, None, Result, Ok, Err, length, length-append, take, refl, ap, sym, subst, arith, inl, inr}
-use Rattle.std.specs.Prelude.{nat_lt, option_map}
-use Rattle.std.specs.Io.KnownBytes.{append_known, prepend_known, IsAtEnd}
+use Rattle.std.specs.Prelude.{nat_lt, option_map, if◌then◌else◌}
+use Rattle.std.specs.Io.KnownBytes.{prepend_known, IsAtEnd}
 use Rattle.std.proofs.lemmas.Bool.{cond-true, lt-ltb}
 use Rattle.reg_outside.specs.Faults.{Rose}
 use Rattle.reg_outside.specs.Streams.{later_moments}
 use Rattle.reg_base.specs.declared.entity.Entity.{Entity}
 use Rattle.reg_base.specs.Entities.{entity_of}
+use Rattle.reg_base.specs.Names.{is_extension}
 use Rattle.reg_terms.specs.Limits.{max_line}
 use Rattle.reg_terms.specs.declared.command.Command.{Command}
 use Rattle.reg_terms.specs.declared.command.Stamped.{Stamped}
 use Rattle.reg_terms.specs.declared.query.Answer.{Answer}
 use Rattle.reg_terms.specs.declared.refusal.Refusal.{Refusal}
-use Rattle.reg_terms.specs.declared.refusal.Refusal.TheVariants.{TooLong}
+use Rattle.reg_terms.specs.declared.refusal.Refusal.TheVariants.{OtherCommand, TooLong}
 use Rattle.reg_terms.specs.declared.reply.LoadCounts.{LoadCounts}
 use Rattle.reg_terms.specs.declared.reply.Reply.{Reply}
 use Rattle.reg_terms.specs.declared.reply.Reply.TheVariants as reply
@@ -20,11 +21,12 @@ use Rattle.reg_terms.specs.declared.request.Op.{Op}
 use Rattle.reg_terms.specs.declared.request.Op.TheVariants as op
 use Rattle.reg_terms.specs.declared.request.Request.{Request}
 use Rattle.reg_machine.specs.History.{State}
+use Rattle.reg_machine.specs.Keys.{KeptCommand, keyed, same_command}
 use Rattle.reg_machine.specs.Loads.{load_outcome}
 use Rattle.reg_machine.specs.Refusals.{refusal}
 use Rattle.reg_view.specs.AtClock.{told}
 use Rattle.reg_service.specs.Kept.{Began}
-use Rattle.reg_service.specs.Turn.{answered, at_moment, decided, last_reply, load_ordered, loaded, ordered, requested, turn, Turns}
+use Rattle.reg_service.specs.Turn.{HasForm, Turns, answered, answered_again, at_moment, decided, last_reply, load_ordered, loaded, ordered, ordered_again, ordered_by, requested, turn}
 use Rattle.reg_service.specs.declared.service.Cause.{Cause}
 use Rattle.reg_service.specs.declared.service.Cause.TheVariants as cause
 use Rattle.reg_session.specs.Input.{Takes}
@@ -33,7 +35,7 @@ use Rattle.reg_session.specs.declared.pending.PendingLine.{PendingLine}
 use Rattle.reg_session.proofs.Feeding.{takes_more}
 use Rattle.reg_run.specs.Crash.{IsWhole}
 use Rattle.reg_run.specs.Ends.{LoadAsked, LoadBroke}
-use Rattle.reg_run.specs.Once.{AsksOnce, HasTable, IsTakenWhole, Printed, TakesSome, TakesTable, TurnsOnce, end_of_reply, load_of}
+use Rattle.reg_run.specs.Once.{AsksOnce, HasTable, IsTakenWhole, Printed, TakesSome, TakesTable, TurnsOnce, end_of_reply, load_of, load_request}
 use Rattle.reg_run.specs.Status.{status_of}
 use Rattle.reg_run.specs.World.{LookedOnce, Out, World, output}
 use Rattle.reg_run.specs.declared.status.End.{End}
@@ -101,13 +103,28 @@ is_fault (reply.Refused r) = false
 is_fault reply.NoMemory = false
 is_fault reply.KeepFault = true
 
-decided_sure : (s : State) (by : Entity) (command : Command) (r : Option Refusal) → is_fault (decided s by command r).0 ≡ false
-decided_sure s by command None = refl
-decided_sure s by command (Some r) = refl
+decided_sure : (s : State) (by : Entity) (key : Option (List ℕ)) (command : Command) (r : Option Refusal) → is_fault (decided s by key command r).0 ≡ false
+decided_sure s by key command None = refl
+decided_sure s by key command (Some r) = refl
 
-ordered_sure : (s : State) (by : Option Entity) (command : Command) → is_fault (ordered s by command).0 ≡ false
-ordered_sure s None command = refl
-ordered_sure s (Some by) command = decided_sure s by command (refusal s.history s.clock by command)
+either_sure : (b : Bool) (one other : Reply) → is_fault one ≡ false → is_fault other ≡ false → is_fault (if b then one else other) ≡ false
+either_sure true one other a b = a
+either_sure false one other a b = b
+
+kept_sure : (kept : KeptCommand) (command : Command) → is_fault (answered_again kept command) ≡ false
+kept_sure kept command = either_sure (same_command kept.command command) (reply.Number kept.number kept.id) (reply.Refused (OtherCommand kept.number)) refl refl
+
+again_sure : (s : State) (by : Entity) (key : List ℕ) (command : Command) (kept : Option KeptCommand) → is_fault (ordered_again s by key command kept).0 ≡ false
+again_sure s by key command None = decided_sure s by (Some key) command (refusal s.history s.clock by command)
+again_sure s by key command (Some kept) = kept_sure kept command
+
+entity_sure : (s : State) (by : Entity) (key : Option (List ℕ)) (command : Command) → is_fault (ordered_by s by key command).0 ≡ false
+entity_sure s by None command = decided_sure s by None command (refusal s.history s.clock by command)
+entity_sure s by (Some key) command = again_sure s by key command (keyed s.history by key)
+
+ordered_sure : (s : State) (by : Option Entity) (key : Option (List ℕ)) (command : Command) → is_fault (ordered s by key command).0 ≡ false
+ordered_sure s None key command = refl
+ordered_sure s (Some by) key command = entity_sure s by key command
 
 loaded_sure : (s : State) (by : Entity) (plan : Result (Command × LoadCounts) Refusal) → is_fault (loaded s by plan).0 ≡ false
 loaded_sure s by (Ok plan) = refl
@@ -121,13 +138,13 @@ answered_sure : (r : Result Answer Refusal) → is_fault (answered r) ≡ false
 answered_sure (Ok a) = refl
 answered_sure (Err r) = refl
 
-requested_sure : (s : State) (by : List ℕ) (o : Op) → is_fault (requested s by o).0 ≡ false
-requested_sure s by (op.Command command) = ordered_sure s (entity_of by) command
-requested_sure s by (op.Query query) = answered_sure (told s.history s.clock by query)
-requested_sure s by (op.Load job table) = load_sure s (entity_of by) job table
+requested_sure : (s : State) (by : List ℕ) (key : Option (List ℕ)) (o : Op) → is_fault (requested s by key o).0 ≡ false
+requested_sure s by key (op.Command command) = ordered_sure s (entity_of by) key command
+requested_sure s by key (op.Query query) = answered_sure (told s.history s.clock by query)
+requested_sure s by key (op.Load job table) = load_sure s (entity_of by) job table
 
 turn_sure : (s : State) (m : ℕ) (reading : Result Request Refusal) → is_fault (turn s m reading).0 ≡ false
-turn_sure s m (Ok request) = requested_sure (at_moment s m) request.by request.op
+turn_sure s m (Ok request) = requested_sure (at_moment s m) request.by request.key request.op
 turn_sure s m (Err r) = refl
 
 -- where the service goes on, no keeper failed
@@ -209,6 +226,10 @@ load_did from job taken before after end answered kept disk (inl b) =
 load_did from job taken before after end answered kept disk (inr a) = inr (a.0, a.1, a.2, disk)
 
 -- ---- the reading
+
+-- a load that is asked has its form: it has no key
+pub load_form : (job table : List ℕ) → is_extension job ≡ true → HasForm (load_request job table)
+load_form job table name = record { fields = name; key = refl }
 
 -- a table that is too long
 pub long_load : (job table : List ℕ) → max_line < length table → load_of job table ≡ Err (TooLong max_line)

@@ -1,5 +1,5 @@
 -- What migrating did, from how its call ended.
-use Rattle.std.proofs.Common.{MutBor, ◌≡◌, List, ℕ, Option, Some, None, Result, Ok, Err, refl, ap, subst, ◌⊎◌, inl, inr, arith}
+use Rattle.std.proofs.Common.{MutBor, ◌≡◌, List, ℕ, Option, Some, None, Result, Ok, Err, refl, ap, subst, inl, inr, arith}
 use Rattle.std.specs.Prelude.{IfSome, OnOk}
 use Rattle.reg_outside.specs.Disk.{Changes, Leaves, Same}
 use Rattle.reg_outside.specs.declared.disk.Disk.{Ghosts}

@@ -17,7 +17,7 @@ use Rattle.reg_ops.specs.Forms.{has_form}
 use Rattle.reg_machine.specs.History.{State, appended}
 use Rattle.reg_machine.specs.Refusals.{refusal}
 use Rattle.reg_service.specs.Kept.{Began}
-use Rattle.reg_service.specs.Turn.{Turns, at_moment, decided, last_reply, ordered, turn}
+use Rattle.reg_service.specs.Turn.{HasForm, Turns, at_moment, decided, last_reply, ordered, turn}
 use Rattle.reg_service.specs.declared.service.Cause.{Cause}
 use Rattle.reg_service.specs.declared.service.Cause.TheVariants as cause
 use Rattle.reg_session.specs.Replies.{is_accepted}
@@ -35,13 +35,16 @@ use Rattle.reg_run.proofs.Loading.{once_whole}
 
 -- ---- the acknowledgement
 
--- its fields have their forms
-pub ack_form : (consumer : List ℕ) (seq : ℕ) → is_extension consumer ≡ true → seq < 2 ^ 64 → has_form (ConsumerAck consumer seq) ≡ true
+-- its fields have their forms, and it has no key
+ack_fields : (consumer : List ℕ) (seq : ℕ) → is_extension consumer ≡ true → seq < 2 ^ 64 → has_form (ConsumerAck consumer seq) ≡ true
 unfolding has_form
-ack_form consumer seq form small =
+ack_fields consumer seq form small =
     let few : nat_le seq 18446744073709551615 ≡ true = le-leb seq 18446744073709551615 (omega arith) in
     let least : nat_le 0 seq ≡ true = le-leb 0 seq (omega arith) in
     rw (form, least, few) refl
+
+pub ack_form : (consumer : List ℕ) (seq : ℕ) → is_extension consumer ≡ true → seq < 2 ^ 64 → HasForm (ack_request consumer seq)
+ack_form consumer seq form small = record { fields = ack_fields consumer seq form small; key = refl }
 
 -- a moment that isn't later than the clock leaves it
 same_moment : (s : State) (m : ℕ) → m ≤ s.clock → at_moment s m ≡ s
@@ -56,11 +59,11 @@ is_ack (reply.Refused r) = true
 is_ack reply.NoMemory = false
 is_ack reply.KeepFault = false
 
-decided_ack : (s : State) (by : Entity) (command : Command) (r : Option Refusal) → is_ack (decided s by command r).0 ≡ true
+decided_ack : (s : State) (by : Entity) (command : Command) (r : Option Refusal) → is_ack (decided s by None command r).0 ≡ true
 decided_ack s by command None = refl
 decided_ack s by command (Some r) = refl
 
-ordered_ack : (s : State) (by : Option Entity) (command : Command) → is_ack (ordered s by command).0 ≡ true
+ordered_ack : (s : State) (by : Option Entity) (command : Command) → is_ack (ordered s by None command).0 ≡ true
 ordered_ack s None command = refl
 ordered_ack s (Some by) command = decided_ack s by command (refusal s.history s.clock by command)
 
@@ -68,29 +71,29 @@ turn_ack : (s : State) (m : ℕ) (consumer : List ℕ) (seq : ℕ) → is_ack (t
 turn_ack s m consumer seq = ordered_ack (at_moment s m) (entity_of (codes "g:isa/GrouperSystem")) (ConsumerAck consumer seq)
 
 abbrev Leads : State → Command → Reply × State → Type 0
-Leads s command (given, after) = ((is_accepted given ≡ false) × (after.history ≡ s.history)) ⊎ ((by : Entity) × (after ≡ appended s by command))
+Leads s command (given, after) = ((is_accepted given ≡ false) × (after.history ≡ s.history)) ⊎ ((by : Entity) × (after ≡ appended s by None command))
 
-decided_leads : (s : State) (by : Entity) (command : Command) (r : Option Refusal) → Leads s command (decided s by command r)
+decided_leads : (s : State) (by : Entity) (command : Command) (r : Option Refusal) → Leads s command (decided s by None command r)
 decided_leads s by command None = inr (by, refl)
 decided_leads s by command (Some r) = inl (refl, refl)
 
-ordered_leads : (s : State) (by : Option Entity) (command : Command) → Leads s command (ordered s by command)
+ordered_leads : (s : State) (by : Option Entity) (command : Command) → Leads s command (ordered s by None command)
 ordered_leads s None command = inl (refl, refl)
 ordered_leads s (Some by) command = decided_leads s by command (refusal s.history s.clock by command)
 
 turn_leads : (s : State) (m : ℕ) (consumer : List ℕ) (seq : ℕ) → Leads (at_moment s m) (ConsumerAck consumer seq) (turn s m (Ok (ack_request consumer seq)))
 turn_leads s m consumer seq = ordered_leads (at_moment s m) (entity_of (codes "g:isa/GrouperSystem")) (ConsumerAck consumer seq)
 
-lead_state : (s last : State) (command : Command) (given : Reply) → Leads s command (given, last) → is_accepted given ≡ true → (by : Entity) × (last ≡ appended s by command)
+lead_state : (s last : State) (command : Command) (given : Reply) → Leads s command (given, last) → is_accepted given ≡ true → (by : Entity) × (last ≡ appended s by None command)
 lead_state s last command given (inl p) took = let no : is_accepted given ≡ false = p.0 in absurd (cc)
 lead_state s last command given (inr p) took = p
 
 -- where it is accepted, the state after it has it more
-pub accepted_state : (s last : State) (m : ℕ) (consumer : List ℕ) (seq : ℕ) (given : Reply) → m ≤ s.clock → Turns s m (Ok (ack_request consumer seq)) given last → is_accepted given ≡ true → (by : Entity) × (last ≡ appended s by (ConsumerAck consumer seq))
+pub accepted_state : (s last : State) (m : ℕ) (consumer : List ℕ) (seq : ℕ) (given : Reply) → m ≤ s.clock → Turns s m (Ok (ack_request consumer seq)) given last → is_accepted given ≡ true → (by : Entity) × (last ≡ appended s by None (ConsumerAck consumer seq))
 accepted_state s last m consumer seq given le (inl e) took =
     let lead : Leads (at_moment s m) (ConsumerAck consumer seq) (given, last) = subst (λ (p : Reply × State). Leads (at_moment s m) (ConsumerAck consumer seq) p) (sym e) (turn_leads s m consumer seq) in
     let more = lead_state (at_moment s m) last (ConsumerAck consumer seq) given lead took in
-    (more.0, more.1 ∙ ap (λ (x : State). appended x more.0 (ConsumerAck consumer seq)) (same_moment s m le))
+    (more.0, more.1 ∙ ap (λ (x : State). appended x more.0 None (ConsumerAck consumer seq)) (same_moment s m le))
 accepted_state s last m consumer seq given le (inr wants) took = let no : is_accepted given ≡ false = ap is_accepted wants.fault in absurd (cc)
 
 -- where the service stopped, it wasn't accepted
@@ -101,7 +104,7 @@ stopped_not cause.Disk given is took = let no : is_accepted given ≡ false = ap
 -- the history after it is the one before, or has it more
 leads_moves : (s : State) (consumer : List ℕ) (seq : ℕ) (p : Reply × State) → Leads s (ConsumerAck consumer seq) p → (p.1.history ≡ s.history) ⊎ MovesPlace s.history consumer seq p.1.history
 leads_moves s consumer seq (given, after) (inl lead) = inl lead.1
-leads_moves s consumer seq (given, after) (inr lead) = inr (record { at = s.clock; by = lead.0; command = ConsumerAck consumer seq }, refl, ap (λ (x : State). x.history) lead.1)
+leads_moves s consumer seq (given, after) (inr lead) = inr (record { at = s.clock; by = lead.0; key = None; command = ConsumerAck consumer seq }, refl, ap (λ (x : State). x.history) lead.1)
 
 moves_by : (before : List Stamped) (consumer : List ℕ) (seq : ℕ) (other history : List Stamped) → history ≡ other → (other ≡ before) ⊎ MovesPlace before consumer seq other → (history ≡ before) ⊎ MovesPlace before consumer seq history
 moves_by before consumer seq other history is moves = subst (λ (x : List Stamped). (x ≡ before) ⊎ MovesPlace before consumer seq x) (sym is) moves

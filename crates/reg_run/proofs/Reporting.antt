@@ -1,15 +1,13 @@
 -- What is printed of a report.
-use Rattle.std.proofs.Common.{◌≡◌, ◌∙◌, List, ℕ, Result, Ok, Err, refl, inl, inr, ◌⊎◌, subst, sym}
+use Rattle.std.proofs.Common.{◌≡◌, List, ℕ, Ok, Err, refl, inl, inr, subst}
 use Rattle.std.specs.Prelude.{false}
 use Rattle.reg_terms.specs.declared.refusal.Refusal.{Refusal}
 use Rattle.reg_terms.specs.declared.reply.Reply.TheVariants as reply
 use Rattle.reg_machine.specs.History.{State}
-use Rattle.reg_service.specs.Turn.{MovesTo, at_moment}
-use Rattle.reg_service.specs.Kept.{LeavesKeeper}
-use Rattle.reg_service.specs.declared.service.Next.{Next}
+use Rattle.reg_service.specs.Turn.{at_moment}
 use Rattle.reg_words.specs.declared.task.Report.{Report}
 use Rattle.reg_report.specs.Reported.{Reported}
-use Rattle.reg_run.specs.Due.{Due, Told, due_of, due_of_report, TellsReport, ReportsAt}
+use Rattle.reg_run.specs.Due.{Told, due_of, TellsReport, ReportsAt}
 use Rattle.reg_run.specs.Once.{Put}
 use Rattle.reg_run.specs.World.{Out}
 use Rattle.reg_run.specs.declared.status.End.{End}

@@ -1,6 +1,6 @@
 -- A file that was opened, and is read once more.
 use Rattle.std.proofs.Common.{◌≡◌, ◌≤◌, ◌++◌, ◌∷◌, [], List, ℕ, Bool, Option, Some, None, Result, Ok, Err, true, false, refl, ap, sym, subst, ◌∙◌, arith, ◌⊎◌, inl, inr, length, take, append-nil, append_assoc}
-use Rattle.std.specs.Prelude.{IfSome, nat_lt, if◌then◌else◌}
+use Rattle.std.specs.Prelude.{◌||◌, IfSome, nat_lt, not, if◌then◌else◌}
 use Rattle.reg_outside.specs.Disk.{After, Changes, Same}
 use Rattle.reg_outside.specs.Faults.{Rose}
 use Rattle.reg_outside.specs.Streams.{WritesFront}
@@ -8,6 +8,7 @@ use Rattle.reg_outside.specs.declared.disk.Disk.{Ghosts}
 use Rattle.reg_terms.specs.declared.command.Stamped.{Stamped}
 use Rattle.reg_terms.specs.declared.refusal.Refusal.{Refusal}
 use Rattle.reg_machine.specs.History.{State, start}
+use Rattle.reg_machine.specs.Keys.{is_free}
 use Rattle.reg_machine.specs.Refusals.{refusal}
 use Rattle.reg_wire.specs.Payload.{stamped_of}
 use Rattle.reg_keep.specs.Frames.{begins_old, opened}
@@ -22,7 +23,6 @@ use Rattle.reg_export.specs.Listing.{Row, listing}
 use Rattle.reg_run.proofs.Ids.{ids_told}
 use Rattle.reg_run.specs.World.{Out}
 use Rattle.reg_run.specs.declared.status.End.{End}
-use Rattle.reg_run.specs.declared.status.End.TheVariants as the_end
 use Rattle.reg_run.proofs.Gathering.{Records, no_front}
 use Rattle.reg_run.proofs.Opened.{opens_new}
 
@@ -45,7 +45,7 @@ taken_in_time s t x false r is = taken_by s t x r is
 
 one_taken : (s t : State) (found : Option Stamped) → after_stamped s found ≡ Some t → OneTaken s found t
 one_taken s t None is = absurd (cc)
-one_taken s t (Some x) is = (x, refl, taken_in_time s t x (nat_lt x.at s.clock) (refusal s.history x.at x.by x.command) is)
+one_taken s t (Some x) is = (x, refl, taken_in_time s t x (nat_lt x.at s.clock || not (is_free s.history x.by x.key)) (refusal s.history x.at x.by x.command) is)
 
 payload_taken : (s t : State) (bytes : List ℕ) → after_payload s bytes ≡ Some t → OneTaken s (stamped_of bytes) t
 unfolding after_payload

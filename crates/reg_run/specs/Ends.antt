@@ -1,15 +1,11 @@
 -- How a run ends: each end, its cause, and what was done.
-use Rattle.std.specs.Prelude.{◌≡◌, ◌⊎◌, ◌<◌, ◌≤◌, ◌^◌, ◌+◌, ◌++◌, ℕ, List, [], Bool, true, false}
-use Rattle.std.specs.Prelude.{Option, Some, None, Result, Ok, Err, length, take, option_map, IfSome}
+use Rattle.std.specs.Prelude.{◌≡◌, ◌⊎◌, ◌<◌, ◌≤◌, ◌^◌, ◌+◌, ◌++◌, ℕ, List, [], true, false}
+use Rattle.std.specs.Prelude.{Option, Some, None, Ok, Err, length, take, option_map, IfSome}
 use Rattle.std.specs.Io.KnownBytes.{append_known, IsAtEnd}
 use Rattle.reg_outside.specs.Faults.{Rose}
-use Rattle.reg_outside.specs.Streams.{first_moment, WritesFront}
 use Rattle.reg_outside.specs.declared.disk.Disk.{Ghosts}
 use Rattle.reg_terms.specs.Limits.{max_line}
 use Rattle.reg_terms.specs.declared.command.Stamped.{Stamped}
-use Rattle.reg_terms.specs.declared.refusal.Refusal.{Refusal}
-use Rattle.reg_terms.specs.declared.request.Request.{Request}
-use Rattle.reg_terms.specs.declared.reply.Reply.{Reply}
 use Rattle.reg_terms.specs.declared.reply.Reply.TheVariants as reply
 use Rattle.reg_machine.specs.History.{State}
 use Rattle.reg_keep.specs.Begin.{is_taken}
@@ -17,7 +13,6 @@ use Rattle.reg_keep.specs.Frames.{begins_old, journal_bytes}
 use Rattle.reg_keep.specs.declared.open.OpenFault.{OpenFault}
 use Rattle.reg_keep.specs.declared.open.OpenFault.TheVariants as fault
 use Rattle.reg_service.specs.Opening.{at_last}
-use Rattle.reg_service.specs.Turn.{turn}
 use Rattle.reg_session.specs.Lines.{lines, IsCutAtLineFeeds}
 use Rattle.reg_session.specs.Replies.{IsLine, line_of}
 use Rattle.reg_session.specs.Answered.{Point, Accepted}
@@ -28,7 +23,7 @@ use Rattle.reg_run.specs.Crash.{Seen, seen, OpensTo, IsUntouched, DiskSurvives, 
 use Rattle.reg_run.specs.KeepsUp.{DiskKeepsUp}
 use Rattle.reg_run.specs.Status.{check_line, status_of}
 use Rattle.reg_run.specs.Serving.{DidServe}
-use Rattle.reg_run.specs.World.{World, Out, IsFlushed, LookedOnce, SameClock, SameFaults}
+use Rattle.reg_run.specs.World.{World, IsFlushed, LookedOnce, SameClock, SameFaults}
 use Rattle.reg_run.specs.World.{SameInput, SameNet, SameOutput, marked_output, output}
 use Rattle.reg_sample.specs.Played.{summary, summary_text}
 use Rattle.reg_run.specs.Once.{AsksOnce, IsTakenWhole, Printed, load_of}

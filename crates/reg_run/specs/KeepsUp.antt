@@ -1,6 +1,6 @@
 -- That a run keeps up: before each reply that acknowledges a command stands a mark since which
 -- every image of the disk has the command.
-use Rattle.std.specs.Prelude.{◌≡◌, ◌≤◌, ℕ, List, All, Option, Some, Ok, length, take, IfSome}
+use Rattle.std.specs.Prelude.{◌≡◌, ◌≤◌, ℕ, List, All, Some, Ok, length, take, IfSome}
 use Rattle.reg_outside.specs.Marks.{Mark}
 use Rattle.reg_outside.specs.Streams.{WritesFront}
 use Rattle.reg_terms.specs.declared.command.Stamped.{Stamped}

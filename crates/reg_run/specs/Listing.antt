@@ -7,9 +7,9 @@ use Rattle.reg_outside.specs.Streams.{WritesFront}
 use Rattle.reg_terms.specs.declared.command.Stamped.{Stamped}
 use Rattle.reg_wire.specs.Payload.{stamped_of}
 use Rattle.reg_machine.specs.History.{State, facts}
+use Rattle.reg_machine.specs.Ids.{made_id}
 use Rattle.reg_keep.specs.Frames.{opened}
 use Rattle.reg_export.specs.Listing.{Progress, Row, cleared, counted, listing, nothing_made}
-use Rattle.reg_service.specs.Ids.{made_id}
 use Rattle.reg_words.specs.declared.task.Places.{Places}
 use Rattle.reg_run.specs.Crash.{DiskSurvives, IsUntouched, Seen}
 use Rattle.reg_run.specs.Status.{status_of}

@@ -1,6 +1,6 @@
 -- One request of a run, and its reply.
-use Rattle.std.specs.Prelude.{◌≡◌, ◌⊎◌, ◌≤◌, ◌+◌, ℕ, List, Bool, true, false, Option, Result, Ok}
-use Rattle.std.specs.Prelude.{Err, codes, length, nat_lt, option_map, if◌then◌else◌, IfSome}
+use Rattle.std.specs.Prelude.{◌≡◌, ◌⊎◌, ◌≤◌, ◌+◌, ℕ, List, Bool, true, false, Option, None}
+use Rattle.std.specs.Prelude.{Result, Ok, Err, codes, length, nat_lt, option_map, if◌then◌else◌, IfSome}
 use Rattle.std.specs.Io.KnownBytes.{append_known, IsAtEnd}
 use Rattle.reg_outside.specs.Faults.{Rose}
 use Rattle.reg_outside.specs.Streams.{first_moment, later_moments, WritesFront}
@@ -84,7 +84,8 @@ pub record AsksOnce (s : State) (moments : Option (List ℕ)) (reading : Result 
 
 -- a load that GrouperSystem asks
 abbrev pub load_request : List ℕ → List ℕ → Request
-load_request job table = record { by = codes "g:isa/GrouperSystem"; op = op.Load job table }
+load_request job table =
+    record { by = codes "g:isa/GrouperSystem"; key = None; op = op.Load job table }
 
 -- what the load of a table asks, or why it is refused: it is too long, or the job's name is none
 abbrev pub load_of : List ℕ → List ℕ → Result Request Refusal

@@ -1,6 +1,6 @@
 -- What `provision` did: which lines it printed, and what it acknowledged.
-use Rattle.std.specs.Prelude.{◌≡◌, ◌⊎◌, ◌<◌, ℕ, List, [], ◌∷◌, ◌++◌, true, Option, Some, Ok, Err}
-use Rattle.std.specs.Prelude.{codes, length, take, option_map, IfSome}
+use Rattle.std.specs.Prelude.{◌≡◌, ◌⊎◌, ◌<◌, ℕ, List, [], ◌∷◌, ◌++◌, true, Option, Some, None, Ok}
+use Rattle.std.specs.Prelude.{Err, codes, length, take, option_map, IfSome}
 use Rattle.std.specs.Io.KnownBytes.{append_known}
 use Rattle.reg_outside.specs.Faults.{Rose}
 use Rattle.reg_outside.specs.Streams.{first_moment, WritesFront}
@@ -81,8 +81,11 @@ Withholds asked s end old new =
 
 -- a request of GrouperSystem that moves a consumer's place to a number
 abbrev pub ack_request : List ℕ → ℕ → Request
-ack_request consumer seq =
-    record { by = codes "g:isa/GrouperSystem"; op = op.Command (ConsumerAck consumer seq) }
+ack_request consumer seq = record {
+  by = codes "g:isa/GrouperSystem";
+  key = None;
+  op = op.Command (ConsumerAck consumer seq);
+}
 
 -- what is printed of its reply: in place of the command's number the last line
 abbrev pub ack_line : List ℕ → Reply → List ℕ

@@ -49,7 +49,7 @@ query_of (question.History name) = history_of name
 
 -- a query of GrouperSystem
 abbrev pub by_system : Query → Request
-by_system query = record { by = codes "g:isa/GrouperSystem"; op = op.Query query }
+by_system query = record { by = codes "g:isa/GrouperSystem"; key = None; op = op.Query query }
 
 -- what a question asks
 abbrev pub asked_by : Question → Result Request Refusal

@@ -109,6 +109,7 @@ fn load_request(alloc: Global, job: &Text, table: &[u8]) -> Result<Request, Allo
     let table = Bytes::of(alloc, table)?;
     Ok(Request {
         by,
+        key: None,
         op: Op::Load { job, table },
     })
 }

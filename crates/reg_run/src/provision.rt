@@ -35,6 +35,7 @@ fn ack_request(alloc: Global, consumer: &Text, seq: u64) -> Result<Request, Allo
     let consumer = consumer.copy(alloc)?;
     Ok(Request {
         by,
+        key: None,
         op: Op::Command(Command::ConsumerAck { consumer, seq }),
     })
 }

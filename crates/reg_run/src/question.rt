@@ -108,6 +108,7 @@ fn by_system(alloc: Global, query: Query) -> LineReading
     match Bytes::of(alloc, b"g:isa/GrouperSystem") {
         Ok(by) => LineReading::Asked(Request {
             by,
+            key: None,
             op: Op::Query(query),
         }),
         Err(AllocError) => {

@@ -1,6 +1,6 @@
-use Rattle.std.proofs.Common.{◌≡◌, Some, None, sym}
+use Rattle.std.proofs.Common.{sym}
 use Rattle.reg_terms.specs.declared.kinds.Object.TheVariants.{Group}
-use Rattle.reg_facts.specs.Naming.{place_of, placed}
+use Rattle.reg_facts.specs.Naming.{place_of}
 use Rattle.reg_report.proofs.Named.{placed_named, unplaced_name}
 use Rattle.reg_report.proofs.why_line.group_name.Goals as goal
 

@@ -2,7 +2,6 @@ use Rattle.std.proofs.Common.{refl, sym, subst, inl}
 use Rattle.reg_session.proofs.Answering.{follows_go, follows_stop}
 use Rattle.reg_session.proofs.Halting.{go_halted, next_began, next_cause, next_halted, next_kept, told_of, turn_one}
 use Rattle.reg_outside.specs.Streams.{WritesFront}
-use Rattle.reg_service.specs.Kept.{RoseAt}
 use Rattle.reg_service.specs.Marked.{keeps_up_go, keeps_up_stop}
 use Rattle.reg_service.specs.Marks.{KeepsUpInPart, output_of}
 use Rattle.reg_session.specs.Replies.{IsLine, line_of}

@@ -1,4 +1,4 @@
-use Rattle.std.proofs.Common.{refl, inl, Result, Ok}
+use Rattle.std.proofs.Common.{refl, inl, None, Result, Ok}
 use Rattle.reg_terms.specs.declared.refusal.Refusal.{Refusal}
 use Rattle.reg_terms.specs.declared.request.Request.{Request}
 use Rattle.reg_session.proofs.Answering.{follows_go, follows_stop}
@@ -23,7 +23,7 @@ returns-in-Go-clause-asked g c =
         printed = rw (c.deref.ensures.value, c.requires.ready.tells) at c.print_ack-end.ensures;
         moved = λ took.
             let more = accepted_state s c.in-Go.service.state c.args.at c.args.consumer.now c.args.delivery.now.end c.turn-reply.result.0 c.requires.now t took in
-            (rw c.machine.ensures at c.law_acknowledged.ensures) s more.0 c.args.consumer.now c.args.delivery.now.place c.args.delivery.now.end more.1 c.requires.ready.stands;
+            (rw c.machine.ensures at c.law_acknowledged.ensures) s more.0 None c.args.consumer.now c.args.delivery.now.place c.args.delivery.now.end more.1 c.requires.ready.stands;
       },
     )
 

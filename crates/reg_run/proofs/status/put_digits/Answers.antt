@@ -1,4 +1,4 @@
-use Rattle.std.proofs.Common.{◌≡◌, ◌+◌, ◌-◌, ◌/◌, ◌%◌, ◌≤◌, ◌<◌, ◌^◌, ◌++◌, ◌∷◌, [], ℕ, decimal, length, arith, ap, ◌∙◌, length-append, append-nil, append_assoc}
+use Rattle.std.proofs.Common.{◌≡◌, ◌+◌, ◌-◌, ◌/◌, ◌%◌, ◌≤◌, ◌<◌, ◌^◌, ◌∷◌, [], ℕ, decimal, length, arith, ap, ◌∙◌, length-append, append_assoc}
 use Rattle.std.proofs.lemmas.Fmt.{decimal_digit, decimal_step, decimal_nonempty, length-decimal-le}
 use Rattle.std.proofs.lemmas.List.{drop-set, length-set}
 use Rattle.reg_run.proofs.status.put_digits.Goals as goal
