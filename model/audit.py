@@ -25,7 +25,7 @@ def shown(field: Field, value: object) -> object:
 
 def command_line(number: int, place: int, command: Accepted) -> str:
     """A command as it is listed: its request's fields, a load's table aside, and what it did."""
-    request = requests.read(command.line)
+    request = command.request
     told: Dict[str, object] = {
         field.name: shown(field, value)
         for field, value in zip(request.operation.fields, request.values)
@@ -35,6 +35,8 @@ def command_line(number: int, place: int, command: Accepted) -> str:
         at=moments.text(command.moment), by=request.by, op=request.operation.name,
         number=number, place=place, **command.did,
     )
+    if request.key is not None:
+        told["key"] = request.key
     return requests.reply_text(told) + "\n"
 
 

@@ -64,9 +64,10 @@ class Window(NamedTuple):
 
 @dataclass(frozen=True)
 class Composite:
-    """A group whose members are the intersection of two factors, or the left without the right."""
+    """A group whose members are the intersection or the union of two factors, or the left without
+    the right."""
 
-    kind: str  # intersection, complement
+    kind: str  # intersection, complement, union
     left: Thing
     right: Thing
 

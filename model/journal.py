@@ -1,17 +1,18 @@
 """The journal: the bytes of its file, from the accepted commands, in the format of today and in the
 first one, and what migrating makes of a file of the first."""
 
-from typing import Dict, List
+from dataclasses import replace
+from itertools import takewhile
+from typing import Dict, List, Optional
 
 import attributes
 import fields
-import requests
 from registry import Accepted
 
 HEADER, OLD_HEADER = b"GRPREG2\n", b"GRPREG1\n"
 CLOSED, OPEN = b"\0", b"\1"
-# Behind the caller, and behind the fields of `grant.add`: there is nothing there yet.
-NO_KEY, NO_DATES = b"\0", b"\0\0"
+# Behind the caller a key, or that there is none; behind the fields of `grant.add` nothing yet.
+NO_KEY, A_KEY, NO_DATES = b"\0", b"\1", b"\0\0"
 
 # A command's code is its place here, from 1 on.
 CODES = """
@@ -68,8 +69,7 @@ def load_bytes(did: Dict[str, list]) -> bytes:
 
 def command_bytes(command: Accepted) -> bytes:
     """A command's code, and its fields in order."""
-    request = requests.read(command.line)
-    op = request.operation
+    request, op = command.request, command.request.operation
     code = number(1 + CODES.index(op.name), 1)
     if op.name == "load":
         return code + text(request.values[0]) + load_bytes(command.did)
@@ -78,23 +78,43 @@ def command_bytes(command: Accepted) -> bytes:
 
 def stamp(command: Accepted) -> bytes:
     """The moment and the caller."""
-    return number(command.moment, 8) + text(requests.read(command.line).by)
+    return number(command.moment, 8) + text(command.request.by)
+
+
+def key_bytes(key: Optional[str]) -> bytes:
+    """A key, or that there is none."""
+    return NO_KEY if key is None else A_KEY + text(key)
 
 
 def payload(command: Accepted) -> bytes:
     """What is kept of a command."""
-    return completed(stamp(command), command_bytes(command))
+    stamped = stamp(command) + key_bytes(command.request.key)
+    return completed(stamped, command_bytes(command))
 
 
 def completed(stamped: bytes, kept: bytes) -> bytes:
-    """A payload of a stamp and of a command's bytes as the first format has them."""
+    """A payload of a stamp with its key and of a command's bytes as the first format has them."""
     is_grant = kept[0] == 1 + CODES.index("grant.add")
-    return stamped + NO_KEY + kept + (NO_DATES if is_grant else b"")
+    return stamped + kept + (NO_DATES if is_grant else b"")
 
 
 def old_payload(command: Accepted) -> bytes:
-    """What the first format keeps of a command."""
+    """What the first format keeps of a command: it has no key."""
     return stamp(command) + command_bytes(command)
+
+
+def is_old(command: Accepted) -> bool:
+    """Whether the first format has a command. It has no unions."""
+    request = command.request
+    return request.operation.name != "composite.set" or request.values[1] != "union"
+
+
+def old_front(accepted: List[Accepted]) -> List[Accepted]:
+    """The commands before the first one that the first format hasn't, without their keys."""
+    return [
+        command._replace(request=replace(command.request, key=None))
+        for command in takewhile(is_old, accepted)
+    ]
 
 
 def framed(kept: bytes) -> bytes:
@@ -141,5 +161,26 @@ def migrated(old: bytes) -> bytes:
     found = HEADER
     for kept in payloads(old):
         behind = 10 + int.from_bytes(kept[8:10], "little")  # the caller's text
-        found += framed(completed(kept[:behind], kept[behind:]))
+        found += framed(completed(kept[:behind] + NO_KEY, kept[behind:]))
     return found + CLOSED
+
+
+def text_at(kept: bytes, place: int) -> bytes:
+    """A text with its length, which begins at a place of a payload."""
+    return kept[place:place + 2 + int.from_bytes(kept[place:place + 2], "little")]
+
+
+def keyed_again(content: bytes) -> Optional[int]:
+    """The place of the first frame whose caller has its key already: the file is damaged there, if
+    it isn't before. None where no caller has one key twice."""
+    place, seen = len(HEADER), set()
+    for kept in payloads(content):
+        by = text_at(kept, 8)
+        behind = 8 + len(by)
+        if kept[behind:behind + 1] == A_KEY:
+            keyed = (by, text_at(kept, behind + 1))
+            if keyed in seen:
+                return place
+            seen.add(keyed)
+        place += 5 + len(kept)
+    return None

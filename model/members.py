@@ -13,6 +13,13 @@ def is_on(facts: Facts, group: Thing, member: Thing, moment: int) -> bool:
     return facts.rows[(group, member)].begins <= moment
 
 
+def combined(kind: str, left: FrozenSet[Thing], right: FrozenSet[Thing]) -> FrozenSet[Thing]:
+    """The persons of a composite, by those of its factors."""
+    if kind == "union":
+        return left | right
+    return left & right if kind == "intersection" else left - right
+
+
 def effective_members(facts: Facts, moment: int) -> Dict[Thing, FrozenSet[Thing]]:
     """The persons of every group.
 
@@ -36,7 +43,7 @@ def effective_members(facts: Facts, moment: int) -> Dict[Thing, FrozenSet[Thing]
 
     def by_factors(composite: Composite) -> FrozenSet[Thing]:
         left, right = persons_of(composite.left), persons_of(composite.right)
-        return left & right if composite.kind == "intersection" else left - right
+        return combined(composite.kind, left, right)
 
     return {group: persons_of(group) for group in facts.of_kind(Kind.GROUP)}
 

@@ -107,7 +107,7 @@ def set_window(
 
 
 @command("composite.set", fields.name("group"),
-         fields.word("kind", "intersection", "complement"), fields.name("left"),
+         fields.word("kind", "intersection", "complement", "union"), fields.name("left"),
          fields.name("right"))
 def set_composite(edit: Edit, name: str, kind: str, left_name: str, right_name: str) -> None:
     """A group without rows gets two factors, neither of which may depend on it."""

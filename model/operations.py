@@ -20,6 +20,11 @@ class Operation:
     meaning: Callable
     is_question: bool
 
+    @property
+    def takes_key(self) -> bool:
+        """Whether its request may have a key: a command's may, but a load's."""
+        return not self.is_question and self.name != "load"
+
 
 OPERATIONS: Dict[str, Operation] = {}
 

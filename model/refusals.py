@@ -1,7 +1,8 @@
 """The answers that refuse a request.
 
-Each has a code; refusals are tried in the order of their codes, and within one code in the order
-of the operation's fields. So each function that judges a request raises the first one that holds.
+Each has a code; refusals are tried in the order of their codes, but the last behind BadMoment, and
+within one code in the order of the operation's fields. So each function that judges a request
+raises the first one that holds.
 """
 
 from typing import Dict, Union
@@ -146,3 +147,8 @@ def bad_place(kept: int, last: int) -> Refusal:
 def full(kind: str, limit: int) -> Refusal:
     """One more than there may be."""
     return Refusal(26, "Full", kind=kind, limit=limit)
+
+
+def other_command(number: int) -> Refusal:
+    """The caller gave another command under this key, and it was kept with this number."""
+    return Refusal(27, "OtherCommand", number=number)

@@ -13,6 +13,7 @@ import dates
 import folders
 import grants
 import groups
+import keys
 import limits
 import loads
 import log
@@ -38,10 +39,13 @@ FAMILIES = (
 
 
 class Accepted(NamedTuple):
-    """An accepted command: when it acted, its line, and what else the list of commands tells."""
+    """An accepted command: when it acted, its line and what that asks, the reply, and what else the
+    list of commands tells."""
 
     moment: int
     line: str
+    request: requests.Request
+    reply: Reply
     did: Dict[str, object]
 
 
@@ -74,12 +78,16 @@ class Registry:
         if request.operation.is_question:
             turn = Turn(self, request.by)
             return {"ok": True, **request.operation.meaning(turn, *request.values)}
+        earlier = keys.earlier(self.accepted, request)
+        if earlier is not None:
+            return keys.answer_again(earlier, request)
         edit = Edit(self, request.by)
         carried = request.operation.meaning(edit, *request.values) or {}
         limits.demand_room(self.state.facts, edit.facts, len(self.accepted) + 1)
         self.step(self.clock, edit.facts, edit.entries)
-        self.accepted.append(Accepted(self.clock, line, edit.did or carried))
-        return {"ok": True, "number": len(self.accepted), **carried}
+        reply: Reply = {"ok": True, "number": len(self.accepted) + 1, **carried}
+        self.accepted.append(Accepted(self.clock, line, request, reply, edit.did or carried))
+        return reply
 
     def pass_to(self, moment: int) -> None:
         """Lets the dates come that lie between the clock and the moment, one after another."""

@@ -3,9 +3,10 @@
 import json
 import math
 from dataclasses import dataclass
-from typing import Dict, List, NoReturn
+from typing import Dict, List, NoReturn, Optional
 
 import moments
+import names
 import refusals
 from operations import OPERATIONS, Operation
 
@@ -15,10 +16,11 @@ DEEPEST = 127  # levels of objects and lists in one another
 
 @dataclass
 class Request:
-    """Which operation, by whom, and with what."""
+    """Which operation, by whom, under which key, and with what."""
 
     operation: Operation
     by: str
+    key: Optional[str]  # none where it was left out
     values: List[object]  # in the order of the operation's fields
 
 
@@ -66,6 +68,9 @@ def read(line: str) -> Request:
         raise refusals.too_long(LONGEST_LINE)
     given = read_object(line)
     operation = _read_types(given)
+    key = given.get("key") if operation.takes_key else None
+    if key is not None and not names.is_extension(key):
+        raise refusals.bad_name("key")
     for field in operation.fields:
         if field.name in given and not field.in_shape(given[field.name]):
             raise refusals.bad_name(field.name)
@@ -77,7 +82,7 @@ def read(line: str) -> Request:
             if value is None:
                 raise refusals.bad_moment(field.name)
         values.append(value)
-    return Request(operation, given["by"], values)
+    return Request(operation, given["by"], key, values)
 
 
 def _read_types(given: Dict[str, object]) -> Operation:
@@ -88,13 +93,18 @@ def _read_types(given: Dict[str, object]) -> Operation:
     if not isinstance(given.get("by"), str):
         raise refusals.bad_request("by")
     operation = OPERATIONS[op]
+    own = {"op", "by"}
+    if operation.takes_key:
+        own.add("key")
+        if "key" in given and not isinstance(given["key"], str):
+            raise refusals.bad_request("key")
     for field in operation.fields:
         if field.name not in given:
             if not field.optional:
                 raise refusals.bad_request(field.name)
         elif not field.is_right(given[field.name]):
             raise refusals.bad_request(field.name)
-    others = set(given) - {"op", "by"} - {field.name for field in operation.fields}
+    others = set(given) - own - {field.name for field in operation.fields}
     if others:
         raise refusals.bad_request(min(others, key=str.encode))
     return operation

@@ -4,7 +4,7 @@
     9999-12-31T00:00:00Z        the same as a moment
     stop                        the program is stopped and started again
     member.add g uni/p1 until=+7    a command or question of GrouperSystem: the needed fields
-                                in their order, and those that may be left out by name
+                                in their order, and those that may be left out by name, `key` too
     uni/p1: members g           the same by somebody else
     ... => NotFound g           each word behind the arrow has to be in the reply
     | row.add g uni/p1 0        the log's last entries, one a line: kind, object, entity, number
@@ -17,6 +17,7 @@ from random import Random
 from typing import Iterator, List
 
 import aimed_dates
+import aimed_keys
 import aimed_names
 import aimed_rules
 import aimed_views
@@ -60,7 +61,7 @@ def request_of(text: str) -> Request:
         request[field.name] = value_of(field, words.pop(0))
     for word in words:
         name, _, value = word.partition("=")
-        request[name] = value_of(fields[name], value)
+        request[name] = value_of(fields[name], value) if name in fields else value
     return request
 
 
@@ -125,7 +126,7 @@ class Reader:
 
 def histories() -> Iterator[History]:
     """All aimed histories."""
-    for part in (aimed_dates, aimed_rules, aimed_names, aimed_views):
+    for part in (aimed_dates, aimed_rules, aimed_names, aimed_views, aimed_keys):
         for title, text in part.CASES:
             yield Reader(title).play(text)
     yield long_lines()

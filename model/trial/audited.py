@@ -6,8 +6,9 @@ After each aimed history, and each of HISTORIES random ones (60 by itself, from 
 journal's bytes are compared, then the list of its commands and parts of it, and the replies of
 `as-of` at some moments to questions of all kinds by anybody. Of each moment some questions are also
 asked in two ways, as of it and now with its `at`: the answers have to say the same of what stood
-then and stands now. At last the history's journal of the first format is migrated. The status is 1
-where there is a difference.
+then and stands now. Then a command is put behind the journal under a key that its caller has, which
+has to be damage. At last the history's journal of the first format is migrated, without the keys,
+and up to the first union. The status is 1 where there is a difference.
 """
 
 import json
@@ -28,12 +29,13 @@ import journal
 import moments
 import names
 import refusals
+import requests
 from histories import NASTY_LINES, NASTY_TEXTS, WEIGHTS, Play
 from kinds import Kind, Thing
 from operations import OPERATIONS
 from program import Program
 from record import History, Request
-from registry import Registry
+from registry import Accepted, Registry
 from reported import told
 
 MOMENTS = 10
@@ -180,12 +182,34 @@ class Trial:
             self.as_of()
         kept_now = (self.program.folder / "journal").read_bytes()
         self.hold("journals", "the journal afterwards", kept, kept_now)
+        self.keyed_again(kept)
         self.migrated()
+
+    def keyed_again(self, kept: bytes) -> None:
+        """Another command of a caller who has its key already, which no journal has; without a key
+        it opens."""
+        keyed = [each for each in self.registry.accepted if each.request.key is not None
+                 and each.request.by == names.SYSTEM]
+        file = self.program.folder / "journal"
+        for key in {each.request.key for each in keyed[:1]} | {None}:
+            line = {"by": names.SYSTEM, "op": "subject.add", "subject": "uni/zz-new"}
+            one = requests.read(json.dumps(line if key is None else {**line, "key": key}))
+            last = self.registry.clock
+            more = journal.frame(Accepted(last, "", one, {}, {}))
+            file.write_bytes(kept[:-1] + more + journal.CLOSED)
+            place = journal.keyed_again(file.read_bytes())
+            wanted = None if key is None else len(kept) - 1
+            self.hold("keys", "where the model finds the key again", wanted, place)
+            count = len(self.registry.accepted) + 1
+            opened = f"commands {count} moment {moments.text(last)}\n"
+            found = told(self.program, ["check"], self.reading)
+            self.hold("keys", "check", (opened, 0) if place is None else ("", 7), found)
+        file.write_bytes(kept)
 
     def migrated(self) -> None:
         """The journal of the first format, which `check` refuses and `migrate` carries over."""
         file, second = (self.program.folder / name for name in ("journal", "journal.v2"))
-        accepted = self.registry.accepted
+        accepted = journal.old_front(self.registry.accepted)
         old, wanted = journal.old_content(accepted), journal.content(accepted)
         file.write_bytes(old)
         if second.exists():

@@ -8,7 +8,7 @@ from operations import OPERATIONS
 from record import Line
 
 # The refusals beyond those of reading that an operation has. BadName and BadMoment come where a
-# field has a shape, Full where something grows.
+# field has a shape, Full where something grows, OtherCommand where there may be a key.
 REFUSALS: Dict[str, str] = {
     "folder.add": "NotFound Denied Taken",
     "folder.rename": "NotFound Denied WrongKind Taken Full",
@@ -67,6 +67,7 @@ def possible(op: str) -> Set[str]:
     found = {"Ok", "BadRequest", "NoCaller", *REFUSALS[op].split()}
     shapes = [field for field in fields if not field.is_moment and not field.in_shape("")]
     found |= {"BadName"} if shapes else set()
+    found |= {"BadName", "OtherCommand"} if OPERATIONS[op].takes_key else set()
     return found | ({"BadMoment"} if any(field.is_moment for field in fields) else set())
 
 

@@ -88,7 +88,7 @@ class History:
             for _ in range(2)
         )
         self.send(op="composite.set", group=self.one_of(self.layers[upper]), left=left,
-                  right=right, kind=self.one_of(["intersection", "complement"]))
+                  right=right, kind=self.one_of(["intersection", "complement", "union"]))
 
     def step(self) -> None:
         """Something happens, at once or later."""

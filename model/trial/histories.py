@@ -5,6 +5,7 @@ that open its world, random requests between which the clock goes on (or back) a
 stopped at times, and at its end questions about all its past.
 """
 
+import json
 from random import Random
 from typing import Dict, List
 
@@ -47,9 +48,11 @@ THEMES: Dict[str, Dict[str, float]] = {
     "attributes": {"attrdef": 4, "attr": 5, "assign": 6, "value": 6, "attributes": 6},
     "loads": {"job": 4, "load": 9, "rule.on_create": 2, "rule.veto": 2.5},
     "dates": {"member": 1.6, "member.window": 2},
+    "keys": {"rule": 1.5, "assign": 2, "subject": 2},
     "dense": {"member": 2.5, "member.window": 2, "load": 4, "composite.clear": 2, "folder": 0.2,
               "attrdef": 0.1, "attr": 0.1, "grant": 0.2, "inherit": 0.2, "rule.veto": 0.4},
 }
+KEYS = ["k1", "k2", "k3", "K1", "k" * 100, "-._9"]
 BY_ROOT: Dict[str, float] = {"dense": 0.93, "rules": 0.72, "dates": 0.72, "loads": 0.72}
 
 # Texts and values at the bounds of the shapes, and just beyond.
@@ -240,15 +243,63 @@ class Play:
     def one_line(self, op: str) -> None:
         """A request, one that was sent before, or one that is broken."""
         sent = self.recorder.history.runs[-1]
-        if sent and self.chance(0.04):
+        keyed = self.theme == "keys"
+        if self.chance(0.25 if keyed else 0.03):
+            self.keyed_again()
+        elif sent and self.chance(0.04):
             self.recorder.send_line(self.random.choice(sent).text)
         elif self.chance(0.01):
             self.recorder.send_line(self.random.choice(NASTY_LINES))
         else:
             request = self.request(op)
+            if OPERATIONS[op].takes_key and self.chance(0.6 if keyed else 0.1):
+                request["key"] = self.key()
             if self.chance(0.06):
                 self.spoil(request)
             self.recorder.send(request)
+
+    def key(self) -> str:
+        """A key, mostly one that no command has yet."""
+        if self.chance(0.4):
+            return self.random.choice(KEYS)
+        return f"n{self.random.randrange(1000)}"
+
+    def keyed_again(self) -> None:
+        """A line that has a key is sent again: as it was, written otherwise, by somebody else, with
+        another field, or its key with another command."""
+        lines = [line for line in self.recorder.history.lines() if '"key"' in line.text]
+        if not lines:
+            return
+        request: Request = json.loads(self.random.choice(lines).text)
+        fields_of = {field.name: field for field in OPERATIONS[str(request["op"])].fields}
+        drawn = self.random.random()
+        if drawn < 0.2:
+            request = self.written_otherwise(request)
+        elif drawn < 0.35:
+            request["by"] = self.caller()
+        elif drawn < 0.55 and fields_of:
+            name = self.random.choice(list(fields_of))
+            request[name] = self.choices.field(str(request["op"]), fields_of[name])
+        elif drawn < 0.65:
+            op = self.random.choice([op for op, each in OPERATIONS.items() if each.takes_key])
+            request = {**self.request(op), "by": request.get("by"), "key": request.get("key")}
+        self.recorder.send(request)
+
+    def written_otherwise(self, request: Request) -> Request:
+        """The same command in other bytes: keys and owners in another order, a moment with its
+        zeros, an empty display that is given or left out."""
+        other = dict(reversed(list(request.items())))
+        for name in "from", "until":
+            moment = moments.read(other[name]) if isinstance(other.get(name), str) else None
+            if moment is not None:
+                other[name] = moments.text(moment)
+        if isinstance(other.get("owners"), list):
+            other["owners"] = other["owners"][::-1]
+        if other.get("display") == "":
+            del other["display"]
+        elif str(other["op"]) in ("folder.add", "subject.add", "group.add"):
+            other.setdefault("display", "")
+        return other
 
     def stop(self) -> None:
         """The program is stopped, and the clock may be set back before it goes on."""

@@ -60,7 +60,7 @@ class History:
         for group in GROUPS:
             self.send(op="group.add", group=group)
         if self.random.random() < 0.5:
-            kind = self.one_of(["intersection", "complement"])
+            kind = self.one_of(["intersection", "complement", "union"])
             self.send(op="composite.set", group="g5", kind=kind, left="g3", right="g4")
         perm = {"owners": ["folder", "group", "subject"], "several": True, "kind": "text"}
         self.send(op="attrdef.add", definition="perm", many=True, **perm)

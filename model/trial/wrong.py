@@ -14,6 +14,7 @@ import tempfile
 from typing import List, Optional
 
 import compare  # which makes the model's modules found
+import wrong_keys
 import wrong_steps
 import wrong_views
 from program import Program
@@ -21,7 +22,7 @@ from record import History
 from registry import Registry
 from wrong_rules import ALL, WrongRule
 
-FAMILIES = (wrong_steps, wrong_views)  # importing them enters their wrong models in ALL
+FAMILIES = (wrong_steps, wrong_views, wrong_keys)  # importing them enters their wrong models in ALL
 
 
 def shows(history: History, replies: List[List[str]]) -> bool:
