@@ -23,7 +23,7 @@ attributes and rules
     assignments-of-one-attribute assignments-on-one-group values-added values-removed-last-first
     values-removed-first-first vetoes-on-one-group rules-on-many-groups groups-with-on-create
 loads, the log and questions
-    load-of-rows load-again acknowledged may-of-a-member members-of-a-few folder-listed may grants-asked-then
+    load-of-rows load-again acknowledged keys-of-one-caller keys-of-many-callers keys-again may-of-a-member members-of-a-few folder-listed may grants-asked-then
 """
 import argparse
 import math
@@ -97,6 +97,11 @@ ATTRIBUTE = [definition("d"), {"op": "attr.add", "attribute": "a", "definition":
 def load(count):
     table = "GROUP_NAME,SUBJECT_ID\n" + "".join("load:l%d,p%06d\n" % (n // 40, n) for n in range(count))
     return {"op": "load", "job": "nightly", "table": table}
+
+
+def keyed(requests):
+    """The requests, each under a key of its own."""
+    return [{**request, "key": "%08x-0000-4000-8000-%012x" % (k, k)} for k, request in enumerate(requests)]
 
 
 JOB = [folder("load"), {"op": "job.list", "job": "nightly", "folder": "load", "source": "uni", "min_size": 0,
@@ -197,6 +202,12 @@ SHAPES = {
     "load-again": (1, lambda n: [*JOB, *persons(n), load(n)], lambda n: [load(n)]),
     "acknowledged": (1, lambda n: [*persons(n), {"op": "consumer.add", "consumer": "c"}], lambda n: [
         {"op": "consumer.ack", "consumer": "c", "seq": k + 1} for k in range(n)]),
+    "keys-of-one-caller": (1, lambda n: [*groups(1), *persons(n)], lambda n: keyed(
+        joins(group(0), person(k)) for k in range(n))),
+    "keys-of-many-callers": (1, lambda n: [*groups(1), *persons(n), grants(group(0), "g:isa/GrouperAll", "OPTIN")],
+                             lambda n: keyed({**joins(group(0), person(k)), "by": person(k)} for k in range(n))),
+    "keys-again": (1, lambda n: [*groups(1), *persons(n), *keyed(joins(group(0), person(k)) for k in range(n))],
+                   lambda n: keyed(joins(group(0), person(k)) for k in range(n))),
     "may-of-a-member": (1, lambda n: [*groups(1), *persons(n), *[joins(group(0), person(k)) for k in range(n)]],
                   lambda n: [{"op": "may", "object": group(0), "entity": person(k)} for k in range(n)]),
     "members-of-a-few": (1, lambda n: [*groups(n), *persons(10), *[joins(group(0), person(k)) for k in range(10)]],

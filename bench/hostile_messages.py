@@ -34,7 +34,7 @@ EVE = "uni/eve"
 TARGETS = ["/groups/app%3Astaff", "/groups/app:staff/members?at=2025-09-01T08:00:04Z", "/groups/app%3Astaff/rows",
            "/groups/app%3Astaff/history", "/folders/:", "/subjects/uni%2Fann/groups", "/objects/app%3Astaff/grants",
            "/objects/app/privileges?entity=uni%2Feve", "/consumers/sync/log?max=10", "/admin", "/nothing/at/all"]
-BODIES = [{"op": "folder.add", "folder": "eve"}, {"op": "group.add", "group": "app:eve", "display": "E"},
+BODIES = [{"op": "folder.add", "folder": "eve", "key": "k1"}, {"op": "group.add", "group": "app:eve", "display": "E"},
           {"op": "member.add", "group": "app:staff", "member": "uni/eve", "until": "2031-01-01T00:00:00Z"},
           {"op": "subject.add", "subject": "uni/new"}, {"op": "group.delete", "group": "app:staff"},
           {"op": "consumer.ack", "consumer": "sync", "seq": 1}, {"op": "members", "group": "app:staff"},

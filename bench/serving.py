@@ -186,7 +186,7 @@ FIELDS = {
 
 HEADER, OLD_HEADER = b"GRPREG2\n", b"GRPREG1\n"
 # what stands behind the caller, and behind the fields of a grant
-NO_KEY, NO_DATES = b"\0", b"\0\0"
+NO_KEY, A_KEY, NO_DATES = b"\0", b"\1", b"\0\0"
 
 
 def command_bytes(command):
@@ -197,13 +197,14 @@ def command_bytes(command):
 
 
 def payload(at, command, by=SYSTEM):
-    """The payload of a command at a moment's text."""
+    """The payload of a command at a moment's text, under its key if it has one."""
+    key = A_KEY + text(command["key"]) if "key" in command else NO_KEY
     behind = NO_DATES if command["op"] == "grant.add" else b""
-    return struct.pack("<Q", micros(at)) + text(by) + NO_KEY + command_bytes(command) + behind
+    return struct.pack("<Q", micros(at)) + text(by) + key + command_bytes(command) + behind
 
 
 def old_payload(at, command, by=SYSTEM):
-    """The same in format 1."""
+    """The same in format 1, which has no keys."""
     return struct.pack("<Q", micros(at)) + text(by) + command_bytes(command)
 
 
