@@ -6,7 +6,8 @@
     registry.members("app:staff")["members"]
 
 A call sends one message over a connection of its own, and gives the reply (`REQUESTS.md`, `openapi.yaml`) or raises
-`Refused`. With an `OSError` or an `http.client.HTTPException` no answer came, and a command may have been kept."""
+`Refused`. With an `OSError` or an `http.client.HTTPException` no answer came, and a command may have been kept: send the
+same one again, with the same `key` in it."""
 from __future__ import annotations
 
 import http.client

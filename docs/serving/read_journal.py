@@ -29,12 +29,15 @@ SHOWN = 20
 
 class Command:
     """A command: its place, its moment in microseconds, its caller, its op, and the bytes of its fields. Behind the caller
-    stands a byte 0."""
+    stands a byte 0, or a byte 1 and a key."""
 
     def __init__(self, place: int, payload: bytes) -> None:
         self.place, (self.moment, length) = place, struct.unpack_from("<QH", payload)
         self.caller = payload[10:10 + length].decode()
-        self.op, self.fields = OPS[payload[11 + length] - 1], payload[12 + length:]
+        code = 11 + length
+        if payload[10 + length]:
+            code += 2 + int(struct.unpack_from("<H", payload, code)[0])
+        self.op, self.fields = OPS[payload[code] - 1], payload[code + 1:]
 
     def created(self) -> int:
         """How many groups a load made."""
