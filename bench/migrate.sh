@@ -4,7 +4,7 @@
 # 2,601,000 commands are at the registry's limits. Each time `migrate` writes the second file, `check` opens it, and it
 # has to be, to the byte, the journal of format 2 that is written here. The old journal has to stay as it was, and
 # `check` of it has to end with status 12. Prints the medians of TURNS turns: seconds, memory, and the ratio of
-# migrating to opening, of which 1.6 is wanted, with 1,500 MB for 2,601,000 commands.
+# migrating to opening, of which 1.2 is wanted, with 1,500 MB for 2,601,000 commands.
 #
 #     COMMANDS=2601000 TURNS=3 bench/migrate.sh
 #
@@ -101,6 +101,6 @@ with tempfile.TemporaryDirectory(dir="/dev/shm") as place:
     told("opening", opening)
     told("migrating", migrating)
     ratio = median(migrating, "processor") / median(opening, "processor")
-    print("migrating takes %.2f times what opening takes (1.6 is wanted)%s" % (ratio, "" if right else ", WRONG files"))
+    print("migrating takes %.2f times what opening takes (1.2 is wanted)%s" % (ratio, "" if right else ", WRONG files"))
 sys.exit(0 if right else 1)
 PYTHON
