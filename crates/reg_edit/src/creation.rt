@@ -32,6 +32,8 @@ fn grant_made(group: GroupId, home: bool, form: &RuleForm) -> Option<GrantRow>
             object: Object::Group(group),
             privilege: *privilege,
             holder: *holder,
+            from: None,
+            until: None,
         }),
         _ => None,
     }
@@ -58,6 +60,8 @@ fn alone(alloc: Global, first: Option<GrantRow>) -> Result<Vec<GrantRow>, AllocE
         let _object = row.object;
         let _privilege = row.privilege;
         let _holder = row.holder;
+        let _from = row.from;
+        let _until = row.until;
         rows.push(row)?;
     }
     Ok(rows)
@@ -122,6 +126,8 @@ pub(crate) fn makers_grant(
         object,
         privilege,
         holder,
+        from: None,
+        until: None,
     })
 }
 
@@ -140,6 +146,8 @@ fn gather(
 {
     for row in facts.rules_at(RuleKey::Folder(folder)) {
         if let Some(grant) = grant_made(group, home, &row.form) {
+            // as above: the borrow checker's part is told of the modules
+            let _until = grant.until;
             found.insert(row.id, grant)?;
         }
     }

@@ -6,7 +6,7 @@ ghost use Rattle.reg_facts.specs.Naming.{folder_id, group_id};
 ghost use Rattle.reg_facts.specs.Events.{events_of, is_load, new_folder, new_subject, new_group};
 ghost use Rattle.reg_facts.specs.Events.{new_groups_grants, grants_added, on_member, on_grant};
 ghost use Rattle.reg_facts.specs.Events.{on_inherit, row_gone, factors_gone, group_gone};
-ghost use Rattle.reg_facts.specs.Grants.{grant_of, inherit_of, makers_grant};
+ghost use Rattle.reg_facts.specs.Grants.{grant_of, inherit_of, makers_grant, to_come};
 ghost use Rattle.reg_terms.specs.declared.kinds.Object.TheVariants as object;
 ghost use Rattle.reg_base.specs.declared.privilege.Privilege.TheVariants as privilege;
 ghost use Rattle.reg_facts.specs.Suiting.{CanEdit};
@@ -50,6 +50,16 @@ fn rows_gone(alloc: Global, rows: &[MemberRow]) -> Result<Vec<Event>, AllocError
         })?;
     }
     Ok(events)
+}
+
+/// Of a beginning what is to come at a moment. None where nothing of it is.
+fn to_come(at: Moment, from: Option<Moment>) -> Option<Moment>
+    ensures { result ≡ to_come at from }
+{
+    match from {
+        Some(begins) if at < begins => Some(begins),
+        _ => None,
+    }
 }
 
 /// A grant is made, where its object and its holder stand.
@@ -191,12 +201,21 @@ pub fn events_of(
             object,
             privilege,
             holder,
-        } => grant_added(alloc, facts.grant_of(alloc, object, *privilege, holder)?),
+            from,
+            until,
+        } => {
+            let from = to_come(at, *from);
+            let row = facts.grant_of(alloc, object, *privilege, holder, from, *until)?;
+            grant_added(alloc, row)
+        }
         Command::GrantRemove {
             object,
             privilege,
             holder,
-        } => grant_removed(alloc, facts.grant_of(alloc, object, *privilege, holder)?),
+        } => {
+            let row = facts.grant_of(alloc, object, *privilege, holder, None, None)?;
+            grant_removed(alloc, row)
+        }
         Command::InheritAdd {
             folder,
             kind,

@@ -1,7 +1,7 @@
 -- Grants and inherits by the keys of their tables, and in words.
-use Rattle.std.proofs.Common.{◌≡◌, ◌==◌, ◌∙◌, ℕ, List, Bool, true, false, not, refl, ap, filter}
-use Rattle.std.specs.Prelude.{◌&&◌}
-use Rattle.std.specs.List.{list_any}
+use Rattle.std.proofs.Common.{◌≡◌, ◌==◌, ◌∙◌, ℕ, List, Bool, true, false, not, refl, ap, map, filter}
+use Rattle.std.specs.Prelude.{◌&&◌, if◌then◌else◌}
+use Rattle.std.specs.List.{list_any, find}
 use Rattle.reg_terms.specs.declared.kinds.Holder.{Holder}
 use Rattle.reg_terms.specs.declared.kinds.Holder.TheVariants as holder
 use Rattle.reg_terms.specs.declared.kinds.InheritKind.{InheritKind}
@@ -18,7 +18,7 @@ use Rattle.reg_terms.specs.contracts.kinds.ObjectPartialEq.TheImpl as object_eq
 use Rattle.reg_terms.specs.contracts.kinds.ScopePartialEq.TheImpl as scope_eq
 use Rattle.reg_terms.specs.Kinds.{same_object, same_holder, same_kind, same_scope}
 use Rattle.reg_terms.specs.Privileges.{code}
-use Rattle.reg_facts.specs.Grants.{same_grant, has_grant, grants_on, same_inherit, has_inherit}
+use Rattle.reg_facts.specs.Grants.{same_grant, has_grant, replaced, grants_on, same_inherit, has_inherit}
 
 -- what is derived says what the words say
 pub object_is : (a b : Object) → object_eq.ghosts.eq a b ≡ same_object a b
@@ -88,6 +88,12 @@ grant_any row rows = ap (λ (test : GrantRow → Bool). list_any test rows) (λ 
 
 pub grant_others : (row : GrantRow) (rows : List GrantRow) → filter (λ (other : GrantRow). not (is_grant_key row other)) rows ≡ filter (λ (other : GrantRow). not (same_grant row other)) rows
 grant_others row rows = ap (λ (test : GrantRow → Bool). filter (λ (other : GrantRow). not (test other)) rows) (λ i other. grant_is row other i)
+
+pub grant_found : (row : GrantRow) (rows : List GrantRow) → find (is_grant_key row) rows ≡ find (same_grant row) rows
+grant_found row rows = ap (λ (test : GrantRow → Bool). find test rows) (λ i other. grant_is row other i)
+
+pub grant_replaced : (row : GrantRow) (rows : List GrantRow) → map (λ (other : GrantRow). if is_grant_key row other then row else other) rows ≡ map (replaced row) rows
+grant_replaced row rows = ap (λ (test : GrantRow → Bool). map (λ (other : GrantRow). if test other then row else other) rows) (λ i other. grant_is row other i)
 
 pub grants_of_object : (o : Object) (rows : List GrantRow) → filter (λ (row : GrantRow). object_eq.ghosts.eq row.object o) rows ≡ grants_on o rows
 grants_of_object o rows = ap (λ (test : GrantRow → Bool). filter test rows) (λ i row. object_is row.object o i)

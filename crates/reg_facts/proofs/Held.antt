@@ -1,5 +1,5 @@
 -- No two subjects share a text, and who holds a grant or an inherit stands: at the start, and after each event that suits.
-use Rattle.std.proofs.Common.{◌≡◌, ◌==◌, ◌||◌, ◌+◌, ℕ, List, [], ◌∷◌, ◌++◌, Bool, true, false, not, Option, Some, None, inl, inr, refl, sym, subst, ◌∙◌, arith}
+use Rattle.std.proofs.Common.{◌≡◌, ◌==◌, ◌||◌, ◌+◌, ℕ, List, [], ◌∷◌, ◌++◌, Bool, true, false, not, map, Option, Some, None, inl, inr, refl, sym, subst, ◌∙◌, arith}
 use Rattle.std.specs.Prelude.{if◌then◌else◌}
 use Rattle.std.specs.List.{AllByRecursion, list_any}
 use Rattle.std.specs.Str.{bytes_eq}
@@ -7,7 +7,7 @@ use Rattle.std.proofs.lemmas.Bool.{cases_Bool, or_parts, or_left, true≢false}
 use Rattle.std.proofs.lemmas.List.Folds.{list_any-append}
 use Rattle.std.proofs.lemmas.Slice.Eq.{bytes_eq-Decides}
 use Rattle.reg_terms.specs.declared.event.Event.{Event}
-use Rattle.reg_terms.specs.declared.event.Event.TheVariants.{FolderMade, FolderGone, SubjectMade, GroupMade, GroupRenamed, GroupMoved, GroupGone, GrantAdded, GrantRemoved, InheritAdded, InheritRemoved, DefinitionMade, DefinitionGone, AttributeMade, AssignMade, RuleMade, JobMade}
+use Rattle.reg_terms.specs.declared.event.Event.TheVariants.{FolderMade, FolderGone, SubjectMade, GroupMade, GroupRenamed, GroupMoved, GroupGone, GrantAdded, GrantBegan, GrantRemoved, InheritAdded, InheritRemoved, DefinitionMade, DefinitionGone, AttributeMade, AssignMade, RuleMade, JobMade}
 use Rattle.reg_terms.specs.declared.kinds.Holder.{Holder}
 use Rattle.reg_terms.specs.declared.kinds.Holder.TheVariants as holder
 use Rattle.reg_terms.specs.declared.kinds.Object.{Object}
@@ -20,16 +20,17 @@ use Rattle.reg_terms.specs.declared.rows.SubjectRow.{SubjectRow}
 use Rattle.reg_terms.specs.Kinds.{same_object, same_holder}
 use Rattle.reg_facts.specs.Edits.{subject_id, group_renamed, group_moved}
 use Rattle.reg_facts.specs.Events.{happened}
-use Rattle.reg_facts.specs.Grants.{same_grant, same_inherit}
+use Rattle.reg_facts.specs.Grants.{same_grant, replaced, same_inherit}
 use Rattle.reg_facts.specs.Lists.{Lists, start}
-use Rattle.reg_facts.specs.Sound.{has_group, has_subject, HolderStands, WasMade, GrantStands, AreTextsOnce, IsHeld}
+use Rattle.reg_facts.specs.Sound.{has_group, has_subject, HolderStands, WasMade, GrantStands, AreTextsOnce, AreGrantsOnce, IsHeld}
 use Rattle.reg_facts.specs.Suiting.{Suits}
+use Rattle.reg_facts.proofs.GrantsOnce.{once_push, once_filter, once_replaced, all_replaced}
 use Rattle.reg_facts.proofs.Joined.{all_changed, among_more, among_changed, still, groups_less}
 use Rattle.reg_facts.proofs.Places.{all_push, all_filter}
 use Rattle.reg_facts.proofs.Sounding.{group_renamed_id, group_moved_id}
 
 pub start_held : IsHeld start
-start_held = record { texts_once = tt; grants_stand = tt; inherits_stand = tt }
+start_held = record { texts_once = tt; grants_stand = tt; grants_once = tt; inherits_stand = tt }
 
 -- who has no text in a list hasn't it at its head, nor in the rest
 never : (id : ℕ) → Some id ≡ None → ⊥
@@ -102,6 +103,7 @@ held_still : (f g : Lists) → AreTextsOnce g.subjects → MoreMade f.made g.mad
 held_still f g once made subjects groups grants inherits h = record {
   texts_once = once;
   grants_stand = subst (λ rows. AllByRecursion (λ (row : GrantRow). GrantStands g.made g.subjects g.groups row) rows) (sym grants) (grants_more f.made g.made f.subjects g.subjects f.groups g.groups f.grants made subjects groups h.grants_stand);
+  grants_once = subst (λ rows. AreGrantsOnce rows) (sym grants) h.grants_once;
   inherits_stand = subst (λ rows. AllByRecursion (λ (row : InheritRow). HolderStands g.subjects g.groups row.holder) rows) (sym inherits) (inherits_more f.subjects g.subjects f.groups g.groups f.inherits subjects groups h.inherits_stand);
 }
 
@@ -188,12 +190,13 @@ group_gone_held id f suits h =
     record {
       texts_once = h.texts_once;
       grants_stand = all_filter (λ (row : GrantRow). GrantStands f.made f.subjects (groups_less id f.groups) row) (λ (row : GrantRow). not (same_object row.object (object.Group id))) f.grants (grants_less id f.made f.subjects f.groups f.grants unused.0 h.grants_stand);
+      grants_once = once_filter (λ (row : GrantRow). not (same_object row.object (object.Group id))) f.grants h.grants_once;
       inherits_stand = inherits_less id f.subjects f.groups f.inherits unused.1 h.inherits_stand;
     }
 
 -- other grants and inherits, of which the same holds
-notes_held : (f : Lists) (gs : List GrantRow) (is : List InheritRow) → AllByRecursion (λ (row : GrantRow). GrantStands f.made f.subjects f.groups row) gs → AllByRecursion (λ (row : InheritRow). HolderStands f.subjects f.groups row.holder) is → IsHeld f → IsHeld (record f { grants = gs; inherits = is })
-notes_held f gs is grants inherits h = record { texts_once = h.texts_once; grants_stand = grants; inherits_stand = inherits }
+notes_held : (f : Lists) (gs : List GrantRow) (is : List InheritRow) → AllByRecursion (λ (row : GrantRow). GrantStands f.made f.subjects f.groups row) gs → AreGrantsOnce gs → AllByRecursion (λ (row : InheritRow). HolderStands f.subjects f.groups row.holder) is → IsHeld f → IsHeld (record f { grants = gs; inherits = is })
+notes_held f gs is grants once inherits h = record { texts_once = h.texts_once; grants_stand = grants; grants_once = once; inherits_stand = inherits }
 
 -- the folders, memberships and composites may be others
 others_held : (f g : Lists) → g.subjects ≡ f.subjects → g.groups ≡ f.groups → g.made ≡ f.made → g.grants ≡ f.grants → g.inherits ≡ f.inherits → IsHeld f → IsHeld g
@@ -210,6 +213,7 @@ happened_held (FolderMade row) f suits h = held_still f (happened (FolderMade ro
 happened_held (FolderGone id) f suits h = record {
   texts_once = h.texts_once;
   grants_stand = all_filter (λ (row : GrantRow). GrantStands f.made f.subjects f.groups row) (λ (row : GrantRow). not (same_object row.object (object.Folder id))) f.grants h.grants_stand;
+  grants_once = once_filter (λ (row : GrantRow). not (same_object row.object (object.Folder id))) f.grants h.grants_once;
   inherits_stand = all_filter (λ (row : InheritRow). HolderStands f.subjects f.groups row.holder) (λ (row : InheritRow). not (row.folder == id)) f.inherits h.inherits_stand;
 }
 happened_held (SubjectMade row) f suits h = held_still f (happened (SubjectMade row) f) (texts_more f.subjects row h.texts_once suits.3) (subject_made f.made row.id suits.0) (subject_more f.subjects row) (same_groups f.groups) refl refl h
@@ -217,14 +221,16 @@ happened_held (GroupMade row) f suits h = held_still f (happened (GroupMade row)
 happened_held (GroupRenamed id extension) f suits h = held_still f (happened (GroupRenamed id extension) f) h.texts_once (same_made f.made) (same_subjects f.subjects) (among_changed (group_renamed id extension) (group_renamed_id id extension) f.groups) refl refl h
 happened_held (GroupMoved id to) f suits h = held_still f (happened (GroupMoved id to) f) h.texts_once (same_made f.made) (same_subjects f.subjects) (among_changed (group_moved id to) (group_moved_id id to) f.groups) refl refl h
 happened_held (GroupGone id) f suits h = group_gone_held id f suits h
-happened_held (GrantAdded row) f suits h = notes_held f (f.grants ++ row ∷ []) f.inherits (all_push (λ (r : GrantRow). GrantStands f.made f.subjects f.groups r) f.grants row h.grants_stand suits.0) h.inherits_stand h
-happened_held (GrantRemoved row) f suits h = notes_held f _ f.inherits (all_filter (λ (r : GrantRow). GrantStands f.made f.subjects f.groups r) (λ (other : GrantRow). not (same_grant row other)) f.grants h.grants_stand) h.inherits_stand h
-happened_held (InheritAdded row) f suits h = notes_held f f.grants (f.inherits ++ row ∷ []) h.grants_stand (all_push (λ (r : InheritRow). HolderStands f.subjects f.groups r.holder) f.inherits row h.inherits_stand suits.0) h
-happened_held (InheritRemoved row) f suits h = notes_held f f.grants _ h.grants_stand (all_filter (λ (r : InheritRow). HolderStands f.subjects f.groups r.holder) (λ (other : InheritRow). not (same_inherit row other)) f.inherits h.inherits_stand) h
+happened_held (GrantAdded row) f suits h = notes_held f (f.grants ++ row ∷ []) f.inherits (all_push (λ (r : GrantRow). GrantStands f.made f.subjects f.groups r) f.grants row h.grants_stand suits.0) (once_push f.grants row h.grants_once suits.1) h.inherits_stand h
+happened_held (GrantBegan row) f suits h = notes_held f (map (replaced row) f.grants) f.inherits (all_replaced (λ (r : GrantRow). GrantStands f.made f.subjects f.groups r) row f.grants suits.0 h.grants_stand) (once_replaced row f.grants h.grants_once) h.inherits_stand h
+happened_held (GrantRemoved row) f suits h = notes_held f _ f.inherits (all_filter (λ (r : GrantRow). GrantStands f.made f.subjects f.groups r) (λ (other : GrantRow). not (same_grant row other)) f.grants h.grants_stand) (once_filter (λ (other : GrantRow). not (same_grant row other)) f.grants h.grants_once) h.inherits_stand h
+happened_held (InheritAdded row) f suits h = notes_held f f.grants (f.inherits ++ row ∷ []) h.grants_stand h.grants_once (all_push (λ (r : InheritRow). HolderStands f.subjects f.groups r.holder) f.inherits row h.inherits_stand suits.0) h
+happened_held (InheritRemoved row) f suits h = notes_held f f.grants _ h.grants_stand h.grants_once (all_filter (λ (r : InheritRow). HolderStands f.subjects f.groups r.holder) (λ (other : InheritRow). not (same_inherit row other)) f.inherits h.inherits_stand) h
 happened_held (DefinitionMade row) f suits h = held_still f (happened (DefinitionMade row) f) h.texts_once (definition_made f.made row.id suits.0) (same_subjects f.subjects) (same_groups f.groups) refl refl h
 happened_held (DefinitionGone id) f suits h = record {
   texts_once = h.texts_once;
   grants_stand = all_filter (λ (row : GrantRow). GrantStands f.made f.subjects f.groups row) (λ (row : GrantRow). not (same_object row.object (object.Def id))) f.grants h.grants_stand;
+  grants_once = once_filter (λ (row : GrantRow). not (same_object row.object (object.Def id))) f.grants h.grants_once;
   inherits_stand = h.inherits_stand;
 }
 happened_held (AttributeMade row) f suits h = held_still f (happened (AttributeMade row) f) h.texts_once (attribute_made f.made row.id suits.0) (same_subjects f.subjects) (same_groups f.groups) refl refl h

@@ -188,7 +188,7 @@ created_on g home fs (rule ∷ rules) = all_cons (λ (row : GrantRow). row.objec
     one (RemoveLost check owner) = tt
     one (EndLost check owner days) = tt
     one (Veto owner condition) = tt
-    one (OnCreate d scope p h) = chosen (λ (row : GrantRow). row.object ≡ Group g) (in_scope home d scope fs) (record { object = Group g; privilege = p; holder = h }) refl
+    one (OnCreate d scope p h) = chosen (λ (row : GrantRow). row.object ≡ Group g) (in_scope home d scope fs) (record { object = Group g; privilege = p; holder = h; from = None; until = None }) refl
 
 created_stand : (g home : ℕ) (f : Lists) (made : Made) (rules : List RuleRow) → WasMade made (Group g) → AllByRecursion (λ (row : RuleRow). FormStands f row.form) rules → AllByRecursion (λ (row : GrantRow). GrantStands made f.subjects f.groups row) (creation_grants g home f.folders rules)
 created_stand g home f made [] was h = tt
@@ -198,7 +198,7 @@ created_stand g home f made (rule ∷ rules) was h = all_cons (λ (row : GrantRo
     one (RemoveLost check owner) stands = tt
     one (EndLost check owner days) stands = tt
     one (Veto owner condition) stands = tt
-    one (OnCreate d scope p h) stands = chosen (λ (row : GrantRow). GrantStands made f.subjects f.groups row) (in_scope home d scope f.folders) (record { object = Group g; privilege = p; holder = h }) (record { object = was; holder = stands.1 })
+    one (OnCreate d scope p h) stands = chosen (λ (row : GrantRow). GrantStands made f.subjects f.groups row) (in_scope home d scope f.folders) (record { object = Group g; privilege = p; holder = h; from = None; until = None }) (record { object = was; holder = stands.1 })
 
 -- who stands stands with a group more
 stand_more : (made : Made) (f : Lists) (new : GroupRow) (rows : List GrantRow) → AllByRecursion (λ (row : GrantRow). GrantStands made f.subjects f.groups row) rows → AllByRecursion (λ (row : GrantRow). GrantStands made f.subjects (f.groups ++ new ∷ []) row) rows

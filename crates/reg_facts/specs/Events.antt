@@ -25,7 +25,8 @@ use Rattle.reg_terms.specs.declared.event.Event.TheVariants.{FolderGone, Subject
 use Rattle.reg_terms.specs.declared.event.Event.TheVariants.{GroupRenamed, GroupMoved, GroupGone}
 use Rattle.reg_terms.specs.declared.event.Event.TheVariants.{RowAdded, RowRemoved, RowRedated}
 use Rattle.reg_terms.specs.declared.event.Event.TheVariants.{Composed, Decomposed, GrantAdded}
-use Rattle.reg_terms.specs.declared.event.Event.TheVariants.{GrantRemoved, InheritAdded}
+use Rattle.reg_terms.specs.declared.event.Event.TheVariants.{GrantBegan, GrantRemoved}
+use Rattle.reg_terms.specs.declared.event.Event.TheVariants.{InheritAdded}
 use Rattle.reg_terms.specs.declared.event.Event.TheVariants.{InheritRemoved, DefinitionMade}
 use Rattle.reg_terms.specs.declared.event.Event.TheVariants.{DefinitionGone, AttributeMade}
 use Rattle.reg_terms.specs.declared.event.Event.TheVariants.{AttributeGone, AssignMade, AssignGone}
@@ -62,8 +63,8 @@ use Rattle.reg_terms.specs.Rows.{is_row, is_composite}
 use Rattle.reg_facts.specs.Edits.{folder_renamed, folder_moved, group_renamed, group_moved}
 use Rattle.reg_facts.specs.Edits.{subject_id, windowed, without_notes}
 use Rattle.reg_facts.specs.Consumers.{acknowledged}
-use Rattle.reg_facts.specs.Grants.{same_grant, same_inherit, object_of, grant_of, inherit_of}
-use Rattle.reg_facts.specs.Grants.{makers_grant}
+use Rattle.reg_facts.specs.Grants.{same_grant, replaced, same_inherit, object_of, grant_of}
+use Rattle.reg_facts.specs.Grants.{inherit_of, to_come, makers_grant}
 use Rattle.reg_facts.specs.Jobs.{job_by}
 use Rattle.reg_facts.specs.Lists.{Lists}
 use Rattle.reg_facts.specs.Rules.{creation_grants, form_of, not_yet}
@@ -100,6 +101,7 @@ happened (Composed row) f = record f { composites = f.composites ++ row ∷ [] }
 happened (Decomposed g) f =
     record f { composites = filter (λ (row : CompositeRow). not (row.group == g)) f.composites }
 happened (GrantAdded row) f = record f { grants = f.grants ++ row ∷ [] }
+happened (GrantBegan row) f = record f { grants = map (replaced row) f.grants }
 happened (GrantRemoved row) f =
     record f { grants = filter (λ (other : GrantRow). not (same_grant row other)) f.grants }
 happened (InheritAdded row) f = record f { inherits = f.inherits ++ row ∷ [] }
@@ -349,10 +351,11 @@ events_of at by (CompositeSet group kind left right) f =
       right = the_id (group_id right f);
     }) ∷ []
 events_of at by (CompositeClear group) f = Decomposed (the_id (group_id group f)) ∷ []
-events_of at by (GrantAdd object privilege holder) f =
-    on_grant (λ row. GrantAdded row) (grant_of object privilege holder f)
+events_of at by (GrantAdd object privilege holder from until) f =
+    on_grant (λ row. GrantAdded row)
+    (grant_of object privilege holder (to_come at from) until f)
 events_of at by (GrantRemove object privilege holder) f =
-    on_grant (λ row. GrantRemoved row) (grant_of object privilege holder f)
+    on_grant (λ row. GrantRemoved row) (grant_of object privilege holder None None f)
 events_of at by (InheritAdd folder kind scope privilege holder) f =
     on_inherit (λ row. InheritAdded row) (inherit_of folder kind scope privilege holder f)
 events_of at by (InheritRemove folder kind scope privilege holder) f =

@@ -1,7 +1,7 @@
 -- Grants and inherits: which row is which, what is written where, who holds them, and what the
 -- texts of a command name.
 use Rattle.std.specs.Prelude.{ℕ, ◌==◌, ◌&&◌, ◌||◌, List, [], ◌∷◌, Bool, Option, None, Some, filter}
-use Rattle.std.specs.Prelude.{option_map, if◌then◌else◌}
+use Rattle.std.specs.Prelude.{true, false, nat_lt, option_map, if◌then◌else◌}
 use Rattle.std.specs.List.{list_any}
 use Rattle.reg_base.specs.Entities.{entity_of}
 use Rattle.reg_base.specs.declared.entity.Entity.{Entity}
@@ -23,15 +23,23 @@ use Rattle.reg_facts.specs.Naming.{resolve, folder_id, group_id}
 
 -- ---- rows
 
--- the two grants are one
+-- the two grants are one; their dates don't count
 abbrev pub same_grant : GrantRow → GrantRow → Bool
 same_grant row other =
     same_object other.object row.object
     && (same_privilege other.privilege row.privilege && same_holder other.holder row.holder)
 
--- whether this grant stands
+-- whether this grant stands, on or not
 abbrev pub has_grant : GrantRow → List GrantRow → Bool
 has_grant row rows = list_any (same_grant row) rows
+
+-- whether a grant is on: none of its beginning is to come
+abbrev pub has_begun : GrantRow → Bool
+has_begun row = elim row.from [ None ↦ true | Some d ↦ false ]
+
+-- a row in the place of the grant that is the same
+abbrev pub replaced : GrantRow → GrantRow → GrantRow
+replaced row other = if same_grant row other then row else other
 
 -- the grants that are written on an object
 abbrev pub grants_on : Object → List GrantRow → List GrantRow
@@ -86,15 +94,22 @@ holder_of (entity.Group name) f = option_map (λ g. holder.Group g) (group_id na
 holder_of entity.System f = None
 holder_of entity.Everyone f = Some holder.Everyone
 
--- the grant of a privilege, where its object and its holder stand
-abbrev pub grant_for : Option Object → Privilege → Option Holder → Option GrantRow
-grant_for None p h = None
-grant_for (Some o) p None = None
-grant_for (Some o) p (Some h) = Some (record { object = o; privilege = p; holder = h })
+-- of a beginning what is to come at a moment
+abbrev pub to_come : ℕ → Option ℕ → Option ℕ
+to_come at None = None
+to_come at (Some d) = if nat_lt at d then Some d else None
+
+-- the grant of a privilege between two dates, where its object and its holder stand
+abbrev pub grant_for : Option Object → Privilege → Option Holder → Option ℕ → Option ℕ
+    → Option GrantRow
+grant_for None p h from until = None
+grant_for (Some o) p None from until = None
+grant_for (Some o) p (Some h) from until =
+    Some (record { object = o; privilege = p; holder = h; from = from; until = until })
 
 -- the grant that a command speaks of
-abbrev pub grant_of : List ℕ → Privilege → Entity → Lists → Option GrantRow
-grant_of text p e f = grant_for (object_of text f) p (holder_of e f)
+abbrev pub grant_of : List ℕ → Privilege → Entity → Option ℕ → Option ℕ → Lists → Option GrantRow
+grant_of text p e from until f = grant_for (object_of text f) p (holder_of e f) from until
 
 -- the inherit of a privilege, where its folder and its holder stand
 abbrev pub inherit_for : Option ℕ → InheritKind → Scope → Privilege → Option Holder
@@ -114,7 +129,13 @@ inherit_of folder k s p e f = inherit_for (folder_id folder f) k s p (holder_of 
 -- the grant of a privilege on an object to a person, if there is one
 abbrev pub grant_to : Object → Privilege → Option ℕ → List GrantRow
 grant_to o p None = []
-grant_to o p (Some s) = (record { object = o; privilege = p; holder = holder.Person s }) ∷ []
+grant_to o p (Some s) = (record {
+  object = o;
+  privilege = p;
+  holder = holder.Person s;
+  from = None;
+  until = None;
+}) ∷ []
 
 -- a person who makes an object is granted its administration; the registry itself is granted
 -- nothing

@@ -82,7 +82,13 @@ in_scope home d Sub fs = lies_in most_levels home d fs
 abbrev pub creation_grant : ℕ → ℕ → List FolderRow → RuleForm → Option GrantRow
 creation_grant g home fs (OnCreate d scope p h) =
     if in_scope home d scope fs
-    then Some (record { object = object.Group g; privilege = p; holder = h }) else None
+    then Some (record {
+      object = object.Group g;
+      privilege = p;
+      holder = h;
+      from = None;
+      until = None;
+    }) else None
 creation_grant g home fs (RemoveLost check owner) = None
 creation_grant g home fs (EndLost check owner days) = None
 creation_grant g home fs (Veto owner condition) = None

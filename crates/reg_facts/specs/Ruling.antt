@@ -47,7 +47,13 @@ pub record AreIndexed (index : List RuleRow) (forms : List ByForm) (rows : List 
 abbrev pub grant_made : ℕ → Bool → RuleForm → Option GrantRow
 grant_made g home (OnCreate d scope p h) =
     if home || same_scope scope Sub
-    then Some (record { object = object.Group g; privilege = p; holder = h }) else None
+    then Some (record {
+      object = object.Group g;
+      privilege = p;
+      holder = h;
+      from = None;
+      until = None;
+    }) else None
 grant_made g home (RemoveLost check owner) = None
 grant_made g home (EndLost check owner days) = None
 grant_made g home (Veto owner condition) = None

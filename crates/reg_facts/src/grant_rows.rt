@@ -1,11 +1,11 @@
 // The grants as contracts see them.
 ghost use Rattle.std.specs.Prelude.{◌≡◌, ◌++◌, ◌∷◌, ◌<◌, ◌^◌, [], not, Bool, false, filter, length};
-ghost use Rattle.std.specs.Prelude.{IfOk, OnOk};
-ghost use Rattle.std.specs.List.{list_any};
+ghost use Rattle.std.specs.Prelude.{map, IfOk, OnOk};
+ghost use Rattle.std.specs.List.{list_any, find};
 ghost use Rattle.reg_terms.specs.Kinds.{same_object, same_holder};
 ghost use Rattle.reg_terms.specs.declared.kinds.Holder.TheVariants as holder;
 ghost use Rattle.reg_terms.specs.declared.rows.GrantRow.{GrantRow};
-ghost use Rattle.reg_facts.specs.Grants.{same_grant, has_grant, grants_on};
+ghost use Rattle.reg_facts.specs.Grants.{same_grant, has_grant, replaced, grants_on};
 
 use crate::{GrantRow, Object};
 use reg_base::GroupId;
@@ -43,6 +43,13 @@ impl GrantRows {
         ensures { result ≡ has_grant row.now self.now }
     {
         self.rows.contains(row.object, row.place())
+    }
+
+    /// The grant that is the same as this one, with its dates. It takes no memory.
+    pub fn get(&self, row: &GrantRow) -> Option<GrantRow>
+        ensures { result ≡ find (same_grant row.now) self.now }
+    {
+        self.rows.get(row.object, row.place()).copied()
     }
 
     /// How many grants there are.
@@ -85,7 +92,18 @@ impl GrantRows {
         requires { has_grant row self.old ≡ false }
         ensures { OnOk result (self.new ≡ self.old ++ row ∷ []) }
     {
+        // so that the borrow checker's part is told of the modules of what a grant holds
+        let _until = row.until;
         self.rows.push(row)
+    }
+
+    /// Puts a grant in the place of the one that is the same. It takes no memory.
+    pub fn replace(&mut self, row: GrantRow)
+        ensures { self.new ≡ map (replaced row) self.old }
+    {
+        // so that the borrow checker's part is told of the modules of what a grant holds
+        let _until = row.until;
+        self.rows.replace(row);
     }
 
     /// Takes a grant away. It takes no memory.

@@ -1,15 +1,16 @@
 // Grants and inherits: looked up one by one, and as the texts of a command name them.
 ghost use Rattle.std.specs.Prelude.{◌≡◌, ◌<◌, ◌^◌, Bool, IfOk, length};
-ghost use Rattle.std.specs.List.{list_any};
+ghost use Rattle.std.specs.List.{list_any, find};
 ghost use Rattle.reg_terms.specs.declared.rows.GrantRow.{GrantRow};
 ghost use Rattle.reg_terms.specs.declared.rows.InheritRow.{InheritRow};
 ghost use Rattle.reg_base.specs.Entities.{entity_of};
-ghost use Rattle.reg_facts.specs.Grants.{has_grant, has_inherit, grants_on, inherits_on, is_holder};
+ghost use Rattle.reg_facts.specs.Grants.{same_grant, has_grant, has_inherit, grants_on};
+ghost use Rattle.reg_facts.specs.Grants.{inherits_on, is_holder};
 ghost use Rattle.reg_facts.specs.Grants.{entity_object, of_entity, object_of, holder_of, grant_of};
 ghost use Rattle.reg_facts.specs.Grants.{inherit_of};
 
 use crate::{Facts, GrantRow, Holder, InheritKind, InheritRow, Object, Scope};
-use reg_base::{Entity, FolderId, GroupId, Privilege, Text};
+use reg_base::{Entity, FolderId, GroupId, Moment, Privilege, Text};
 use reg_table::GroupRows;
 use std::alloc::{AllocError, Global};
 
@@ -19,6 +20,14 @@ impl Facts {
         ensures { result ≡ has_grant row.now self.now.grants }
     {
         self.tables.grant_rows.contains(row)
+    }
+
+    /// The grant that is the same as this one, with its dates. None exactly where it doesn't stand.
+    /// It takes no memory.
+    pub fn grant(&self, row: &GrantRow) -> Option<GrantRow>
+        ensures { result ≡ find (same_grant row.now) self.now.grants }
+    {
+        self.tables.grant_rows.get(row)
     }
 
     /// Whether this inherit stands. It takes no memory.
@@ -98,15 +107,18 @@ impl Facts {
         }
     }
 
-    /// The grant that these texts name, if its object and its holder stand.
+    /// The grant that these texts name, between two dates, if its object and its holder stand.
     pub fn grant_of(
         &self,
         alloc: Global,
         object: &Text,
         privilege: Privilege,
         holder: &Entity,
+        from: Option<Moment>,
+        until: Option<Moment>,
     ) -> Result<Option<GrantRow>, AllocError>
-        ensures { IfOk result (λ found. found ≡ grant_of object.now privilege holder.now self.now) }
+        ensures { IfOk result (λ found. found
+            ≡ grant_of object.now privilege holder.now from until self.now) }
     {
         let Some(object) = self.object_of(alloc, object)? else {
             return Ok(None);
@@ -118,6 +130,8 @@ impl Facts {
             object,
             privilege,
             holder,
+            from,
+            until,
         }))
     }
 

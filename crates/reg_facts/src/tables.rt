@@ -12,7 +12,8 @@ ghost use Rattle.reg_terms.specs.declared.event.Event.TheVariants.{GroupRenamed,
 ghost use Rattle.reg_terms.specs.declared.event.Event.TheVariants.{GroupGone, RowAdded, RowRemoved};
 ghost use Rattle.reg_terms.specs.declared.event.Event.TheVariants.{RowRedated, Composed};
 ghost use Rattle.reg_terms.specs.declared.event.Event.TheVariants.{Decomposed, GrantAdded};
-ghost use Rattle.reg_terms.specs.declared.event.Event.TheVariants.{GrantRemoved, InheritAdded};
+ghost use Rattle.reg_terms.specs.declared.event.Event.TheVariants.{GrantBegan, GrantRemoved};
+ghost use Rattle.reg_terms.specs.declared.event.Event.TheVariants.{InheritAdded};
 ghost use Rattle.reg_terms.specs.declared.event.Event.TheVariants.{InheritRemoved, DefinitionMade};
 ghost use Rattle.reg_terms.specs.declared.event.Event.TheVariants.{DefinitionGone, AttributeMade};
 ghost use Rattle.reg_terms.specs.declared.event.Event.TheVariants.{AttributeGone, AssignMade};
@@ -272,6 +273,13 @@ impl Tables {
         ensures { OnOk result (self.new ≡ happened (GrantAdded row) self.old) }
     {
         self.grant_rows.push(row)
+    }
+
+    /// Puts a grant in the place of the one that is the same.
+    pub fn begin_grant(&mut self, row: GrantRow)
+        ensures { self.new ≡ happened (GrantBegan row) self.old }
+    {
+        self.grant_rows.replace(row);
     }
 
     /// Takes a grant away.

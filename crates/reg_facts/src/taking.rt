@@ -9,7 +9,8 @@ ghost use Rattle.reg_terms.specs.declared.event.Event.TheVariants.{GroupRenamed,
 ghost use Rattle.reg_terms.specs.declared.event.Event.TheVariants.{GroupGone, RowAdded, RowRemoved};
 ghost use Rattle.reg_terms.specs.declared.event.Event.TheVariants.{RowRedated, Composed};
 ghost use Rattle.reg_terms.specs.declared.event.Event.TheVariants.{Decomposed, GrantAdded};
-ghost use Rattle.reg_terms.specs.declared.event.Event.TheVariants.{GrantRemoved, InheritAdded};
+ghost use Rattle.reg_terms.specs.declared.event.Event.TheVariants.{GrantBegan, GrantRemoved};
+ghost use Rattle.reg_terms.specs.declared.event.Event.TheVariants.{InheritAdded};
 ghost use Rattle.reg_terms.specs.declared.event.Event.TheVariants.{InheritRemoved, RuleMade};
 ghost use Rattle.reg_terms.specs.declared.event.Event.TheVariants.{RuleGone, ConsumerAdded};
 ghost use Rattle.reg_terms.specs.declared.event.Event.TheVariants.{ConsumerAcked};
@@ -51,6 +52,7 @@ impl Facts {
             Event::Composed { row } => self.composed(row),
             Event::Decomposed { group } => Ok(self.decomposed(group)),
             Event::GrantAdded { row } => self.grant_added(row),
+            Event::GrantBegan { row } => Ok(self.grant_began(row)),
             Event::GrantRemoved { row } => Ok(self.grant_removed(&row)),
             Event::InheritAdded { row } => self.inherit_added(row),
             Event::InheritRemoved { row } => Ok(self.inherit_removed(&row)),
@@ -319,6 +321,15 @@ impl Facts {
         } = self;
         let done = tables.push_grant(row);
         finished(done, tables, subject_index, children)
+    }
+
+    fn grant_began(self, row: GrantRow) -> Facts
+        requires { Suits (GrantBegan row) self }
+        ensures { result ≡ happened (GrantBegan row) self }
+    {
+        let mut facts = self;
+        facts.tables.begin_grant(row);
+        facts
     }
 
     fn grant_removed(self, row: &GrantRow) -> Facts

@@ -48,7 +48,7 @@ form_moved g h home fs (EndLost check owner days) = refl
 form_moved g h home fs (Veto owner condition) = refl
 form_moved g h home fs (OnCreate d scope p holder) = go (in_scope home d scope fs)
   where
-    go : (b : Bool) → (if b then Some (record { object = Group h; privilege = p; holder = holder }) else None) ≡ option_map (on_group h) (if b then Some (record { object = Group g; privilege = p; holder = holder }) else None)
+    go : (b : Bool) → (if b then Some (record { object = Group h; privilege = p; holder = holder; from = None; until = None }) else None) ≡ option_map (on_group h) (if b then Some (record { object = Group g; privilege = p; holder = holder; from = None; until = None }) else None)
     go true = refl
     go false = refl
 

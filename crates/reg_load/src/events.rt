@@ -29,6 +29,8 @@ fn push_grants(
             object: Object::Group(group),
             privilege: grant.privilege,
             holder: grant.holder,
+            from: grant.from,
+            until: grant.until,
         };
         events.push(Event::GrantAdded { row })?;
     }

@@ -143,7 +143,7 @@ makes command.MemberRemove v = record { command = MemberRemove _ _; made_so = re
 makes command.MemberWindow v = record { command = MemberWindow _ _ _ _; made_so = refl; is_kind = refl; has_these = refl }
 makes command.CompositeSet v = record { command = CompositeSet _ _ _ _; made_so = refl; is_kind = refl; has_these = refl }
 makes command.CompositeClear v = record { command = CompositeClear _; made_so = refl; is_kind = refl; has_these = refl }
-makes command.GrantAdd v = record { command = GrantAdd _ _ _; made_so = refl; is_kind = refl; has_these = refl }
+makes command.GrantAdd v = record { command = GrantAdd _ _ _ _ _; made_so = refl; is_kind = refl; has_these = refl }
 makes command.GrantRemove v = record { command = GrantRemove _ _ _; made_so = refl; is_kind = refl; has_these = refl }
 makes command.InheritAdd v = record { command = InheritAdd _ _ _ _ _; made_so = refl; is_kind = refl; has_these = refl }
 makes command.InheritRemove v = record { command = InheritRemove _ _ _ _ _; made_so = refl; is_kind = refl; has_these = refl }
@@ -201,7 +201,7 @@ command_apart (MemberRemove a b) = record { few = lit≤ tt; kinds = refl; again
 command_apart (MemberWindow a b c d) = record { few = lit≤ tt; kinds = refl; again = refl; coded_so = refl }
 command_apart (CompositeSet a b c d) = record { few = lit≤ tt; kinds = refl; again = refl; coded_so = refl }
 command_apart (CompositeClear a) = record { few = lit≤ tt; kinds = refl; again = refl; coded_so = refl }
-command_apart (GrantAdd a b c) = record { few = lit≤ tt; kinds = refl; again = refl; coded_so = refl }
+command_apart (GrantAdd a b c d e) = record { few = lit≤ tt; kinds = refl; again = refl; coded_so = refl }
 command_apart (GrantRemove a b c) = record { few = lit≤ tt; kinds = refl; again = refl; coded_so = refl }
 command_apart (InheritAdd a b c d e) = record { few = lit≤ tt; kinds = refl; again = refl; coded_so = refl }
 command_apart (InheritRemove a b c d e) = record { few = lit≤ tt; kinds = refl; again = refl; coded_so = refl }

@@ -102,7 +102,8 @@ command_row command.CompositeClear =
 command_row command.GrantAdd =
     coded_row 15 (codes "grant.add") ((codes "object", kind.Object)
     ∷ (codes "privilege", kind.Privilege)
-    ∷ (codes "holder", kind.Entity) ∷ [])
+    ∷ (codes "holder", kind.Entity)
+    ∷ (codes "from", kind.OptionalMoment) ∷ (codes "until", kind.OptionalMoment) ∷ [])
 command_row command.GrantRemove =
     coded_row 16 (codes "grant.remove") ((codes "object", kind.Object)
     ∷ (codes "privilege", kind.Privilege) ∷ (codes "holder", kind.Entity) ∷ [])
@@ -318,8 +319,11 @@ apart (CompositeSet group kind left right) = (
       ∷ [],
 )
 apart (CompositeClear group) = (command.CompositeClear, field.Name group ∷ [])
-apart (GrantAdd object privilege holder) =
-    (command.GrantAdd, field.Object object ∷ field.Privilege privilege ∷ field.Entity holder ∷ [])
+apart (GrantAdd object privilege holder from until) = (
+  command.GrantAdd,
+  field.Object object ∷ field.Privilege privilege ∷ field.Entity holder
+      ∷ field.OptionalMoment from ∷ field.OptionalMoment until ∷ [],
+)
 apart (GrantRemove object privilege holder) = (
   command.GrantRemove,
   field.Object object ∷ field.Privilege privilege ∷ field.Entity holder
@@ -501,7 +505,9 @@ made_command command.GrantAdd fields = do
   object ← object_in fields
   privilege ← privilege_in object.1
   holder ← entity_in privilege.1
-  whole (GrantAdd object.0 privilege.0 holder.0) holder.1
+  from ← moment_in holder.1
+  until ← moment_in from.1
+  whole (GrantAdd object.0 privilege.0 holder.0 from.0 until.0) until.1
 made_command command.GrantRemove fields = do
   object ← object_in fields
   privilege ← privilege_in object.1

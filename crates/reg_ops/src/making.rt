@@ -323,6 +323,8 @@ fn grant_add(mut fields: VecDeque<Field>) -> Option<Command>
         object: object(&mut fields)?,
         privilege: privilege(&mut fields)?,
         holder: entity(&mut fields)?,
+        from: moment(&mut fields)?,
+        until: moment(&mut fields)?,
     };
     whole(command, fields)
 }

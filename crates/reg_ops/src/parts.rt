@@ -221,12 +221,14 @@ pub fn fields_of<'a>(command: &'a Command) -> [FieldRef<'a>; 6]
             object,
             privilege,
             holder,
+            from,
+            until,
         } => [
             FieldRef::Object(object),
             FieldRef::Privilege(*privilege),
             FieldRef::Entity(holder),
-            FieldRef::Nothing,
-            FieldRef::Nothing,
+            FieldRef::OptionalMoment(*from),
+            FieldRef::OptionalMoment(*until),
             FieldRef::Nothing,
         ],
         Command::GrantRemove {

@@ -264,6 +264,8 @@ pub fn command_row(kind: CommandKind) -> CommandRow
                 ("object", FieldKind::Object),
                 ("privilege", FieldKind::Privilege),
                 ("holder", FieldKind::Entity),
+                ("from", FieldKind::OptionalMoment),
+                ("until", FieldKind::OptionalMoment),
             ],
         ),
         CommandKind::GrantRemove => command(
