@@ -1,10 +1,10 @@
--- An event that adds or takes away one row leaves all privileges of all holders but that of the row as they were.
-use Rattle.std.proofs.Common.{◌≡◌, ◌==◌, ◌&&◌, ◌||◌, ◌++◌, List, [], ◌∷◌, Bool, true, false, not, map, filter, Some, refl, sym, ap, subst, ◌∙◌, inl, inr}
+-- An event that adds, begins or takes away one row leaves all privileges of all holders but that of the row as they were.
+use Rattle.std.proofs.Common.{◌≡◌, ◌==◌, ◌&&◌, ◌||◌, ◌++◌, List, [], ◌∷◌, Bool, true, false, not, map, filter, if◌then◌else◌, Some, refl, sym, ap, subst, ◌∙◌, inl, inr}
 use Rattle.std.specs.List.{list_any}
 use Rattle.std.proofs.lemmas.Bool.{cases_Bool, and_parts}
 use Rattle.reg_terms.specs.Kinds.{same_object, same_kind, same_scope, is_of_kind}
 use Rattle.reg_terms.specs.declared.event.Event.{Event}
-use Rattle.reg_terms.specs.declared.event.Event.TheVariants.{GrantAdded, GrantRemoved, InheritAdded, InheritRemoved}
+use Rattle.reg_terms.specs.declared.event.Event.TheVariants.{GrantAdded, GrantBegan, GrantRemoved, InheritAdded, InheritRemoved}
 use Rattle.reg_terms.specs.declared.kinds.Object.{Object}
 use Rattle.reg_terms.specs.declared.rows.GrantRow.{GrantRow}
 use Rattle.reg_terms.specs.declared.rows.InheritRow.{InheritRow}
@@ -14,7 +14,7 @@ use Rattle.reg_facts.specs.Lists.{Lists}
 use Rattle.reg_facts.specs.Naming.{placed, placed_folders, placed_group}
 use Rattle.reg_audit.specs.Changed.{changed_grant}
 use Rattle.reg_priv.specs.Filling.{same_grant, is_among}
-use Rattle.reg_priv.specs.Grants.{Grant, written, given, reaches, grants}
+use Rattle.reg_priv.specs.Grants.{Grant, written, gives_one, given, reaches, grants}
 use Rattle.reg_priv.proofs.Anys.{any_filter, any_same}
 use Rattle.reg_audit.proofs.Looking.{one_grant, same_pair}
 use Rattle.reg_priv.proofs.Scoped.{any_grant}
@@ -36,6 +36,14 @@ any_fewer t q (x ∷ xs) h = elim (cases_Bool (q x)) [
   | inr n ↦ rw (n, h x n) (any_fewer t q xs h)
 ]
 
+-- one that doesn't pass in the place of some that don't
+any_put : {X : Type 0} (t q : X → Bool) (put : X) (xs : List X) → t put ≡ false → ((x : X) → q x ≡ true → t x ≡ false) → list_any t (map (λ x. if q x then put else x) xs) ≡ list_any t xs
+any_put t q put [] none h = refl
+any_put t q put (x ∷ xs) none h = elim (cases_Bool (q x)) [
+  | inl y ↦ rw (y, none, h x y) (any_put t q put xs none h)
+  | inr n ↦ rw n (ap (λ b. t x || b) (any_put t q put xs none h))
+]
+
 and_off : (a b : Bool) → b ≡ false → (a && b) ≡ false
 and_off true b h = h
 and_off false b h = refl
@@ -43,7 +51,7 @@ and_off false b h = refl
 -- ---- one privilege of one holder on an object
 
 abbrev writes : Grant → Object → GrantRow → Bool
-writes x o row = same_object row.object o && same_grant x (written row)
+writes x o row = same_object row.object o && gives_one (same_grant x) row
 
 abbrev gives : Grant → Object → Lists → InheritRow → Bool
 gives x o f row = reaches o f row && same_grant x (given row)
@@ -51,7 +59,7 @@ gives x o f row = reaches o f row && same_grant x (given row)
 among_is : (o : Object) (f : Lists) (x : Grant) → is_among x (grants o f) ≡ (list_any (writes x o) f.grants || list_any (gives x o f) f.inherits)
 among_is o f x =
     any_grant o f (same_grant x)
-    ∙ ap (λ b. b || list_any (gives x o f) f.inherits) (any_filter (λ (row : GrantRow). same_grant x (written row)) (λ (row : GrantRow). same_object row.object o) f.grants)
+    ∙ ap (λ b. b || list_any (gives x o f) f.inherits) (any_filter (gives_one (same_grant x)) (λ (row : GrantRow). same_object row.object o) f.grants)
 
 -- what no row is of leaves where all stands
 record SameFolders (f g : Lists) : Type 0 where
@@ -83,17 +91,25 @@ not_not false h = cc
 
 -- ---- events
 
+-- a grant of another holder, or of another privilege
+written_off : (x : Grant) (o : Object) (row : GrantRow) → same_grant x (written row) ≡ false → writes x o row ≡ false
+written_off x o row h = and_off (same_object row.object o) (gives_one (same_grant x) row) (and_off (tables.has_begun row) (same_grant x (written row)) h)
+
+-- and one that is the same
+same_off : (x : Grant) (o : Object) (row other : GrantRow) → same_grant x (written row) ≡ false → tables.same_grant row other ≡ true → writes x o other ≡ false
+same_off x o row other h e =
+    let both = and_parts (same_object other.object row.object) _ e in
+    let is : written row ≡ written other = one_grant (written row) (written other) (same_pair row.privilege other.privilege row.holder other.holder ∙ both.1) in
+    written_off x o other (subst (λ (g : Grant). same_grant x g ≡ false) is h)
+
 grant_added : (row : GrantRow) (f : Lists) (o : Object) (x : Grant) → same_grant x (written row) ≡ false → is_among x (grants o (happened (GrantAdded row) f)) ≡ is_among x (grants o f)
-grant_added row f o x h = alike o f (happened (GrantAdded row) f) x (record { folders = refl; groups = refl; definitions = refl; attributes = refl }) (any_more (writes x o) f.grants row (and_off (same_object row.object o) (same_grant x (written row)) h)) refl
+grant_added row f o x h = alike o f (happened (GrantAdded row) f) x (record { folders = refl; groups = refl; definitions = refl; attributes = refl }) (any_more (writes x o) f.grants row (written_off x o row h)) refl
+
+grant_began : (row : GrantRow) (f : Lists) (o : Object) (x : Grant) → same_grant x (written row) ≡ false → is_among x (grants o (happened (GrantBegan row) f)) ≡ is_among x (grants o f)
+grant_began row f o x h = alike o f (happened (GrantBegan row) f) x (record { folders = refl; groups = refl; definitions = refl; attributes = refl }) (any_put (writes x o) (tables.same_grant row) row f.grants (written_off x o row h) (λ r e. same_off x o row r h e)) refl
 
 grant_removed : (row : GrantRow) (f : Lists) (o : Object) (x : Grant) → same_grant x (written row) ≡ false → is_among x (grants o (happened (GrantRemoved row) f)) ≡ is_among x (grants o f)
-grant_removed row f o x h = alike o f (happened (GrantRemoved row) f) x (record { folders = refl; groups = refl; definitions = refl; attributes = refl }) (any_fewer (writes x o) (λ (r : GrantRow). not (tables.same_grant row r)) f.grants other) refl
-  where
-    other : (r : GrantRow) → not (tables.same_grant row r) ≡ false → writes x o r ≡ false
-    other r e =
-        let both = and_parts (same_object r.object row.object) _ (not_not (tables.same_grant row r) e) in
-        let is : written row ≡ written r = one_grant (written row) (written r) (same_pair row.privilege r.privilege row.holder r.holder ∙ both.1) in
-        and_off (same_object r.object o) (same_grant x (written r)) (subst (λ (g : Grant). same_grant x g ≡ false) is h)
+grant_removed row f o x h = alike o f (happened (GrantRemoved row) f) x (record { folders = refl; groups = refl; definitions = refl; attributes = refl }) (any_fewer (writes x o) (λ (r : GrantRow). not (tables.same_grant row r)) f.grants (λ r e. same_off x o row r h (not_not (tables.same_grant row r) e))) refl
 
 inherit_added : (row : InheritRow) (f : Lists) (o : Object) (x : Grant) → same_grant x (given row) ≡ false → is_among x (grants o (happened (InheritAdded row) f)) ≡ is_among x (grants o f)
 inherit_added row f o x h = alike o f (happened (InheritAdded row) f) x (record { folders = refl; groups = refl; definitions = refl; attributes = refl }) refl (any_more (gives x o f) f.inherits row (and_off (reaches o f row) (same_grant x (given row)) h))
@@ -111,6 +127,7 @@ inherit_removed row f o x h = alike o f (happened (InheritRemoved row) f) x (rec
 
 pub changed : (e : Event) (f : Lists) (o : Object) (g x : Grant) → changed_grant e ≡ Some g → same_grant x g ≡ false → is_among x (grants o (happened e f)) ≡ is_among x (grants o f)
 changed (GrantAdded row) f o g x e h = let is : g ≡ written row = cc in grant_added row f o x (subst (λ (y : Grant). same_grant x y ≡ false) is h)
+changed (GrantBegan row) f o g x e h = let is : g ≡ written row = cc in grant_began row f o x (subst (λ (y : Grant). same_grant x y ≡ false) is h)
 changed (GrantRemoved row) f o g x e h = let is : g ≡ written row = cc in grant_removed row f o x (subst (λ (y : Grant). same_grant x y ≡ false) is h)
 changed (InheritAdded row) f o g x e h = let is : g ≡ given row = cc in inherit_added row f o x (subst (λ (y : Grant). same_grant x y ≡ false) is h)
 changed (InheritRemoved row) f o g x e h = let is : g ≡ given row = cc in inherit_removed row f o x (subst (λ (y : Grant). same_grant x y ≡ false) is h)

@@ -1,14 +1,17 @@
 -- Worked examples computed: the log of a membership that begins, ends and begins again at one moment, a deleted group's
 -- entries, life and last name, a root that was always there, what rules did with their numbers, an attribute that is assigned,
--- has a value and goes, and a loader job.
+-- has a value and goes, a loader job, and a grant between two dates.
 use Rattle.std.proofs.Common.{◌≡◌, ◌++◌, ℕ, List, [], ◌∷◌, true, false, Option, Some, None, codes, map, refl}
+use Rattle.reg_base.specs.declared.privilege.Privilege.TheVariants.{View}
 use Rattle.reg_terms.specs.declared.event.Event.{Event}
-use Rattle.reg_terms.specs.declared.event.Event.TheVariants.{SubjectMade, GroupMade, GroupGone, RowAdded, RowRemoved, DefinitionMade, AttributeMade, AttributeGone, AssignMade, AssignGone, ValueAdded, JobMade, JobGone}
+use Rattle.reg_terms.specs.declared.event.Event.TheVariants.{SubjectMade, GroupMade, GroupGone, RowAdded, RowRemoved, DefinitionMade, AttributeMade, AttributeGone, AssignMade, AssignGone, ValueAdded, JobMade, JobGone, GrantAdded, GrantBegan, GrantRemoved}
+use Rattle.reg_terms.specs.declared.kinds.Holder.TheVariants as holder
 use Rattle.reg_terms.specs.declared.kinds.Member.TheVariants.{Person}
 use Rattle.reg_terms.specs.declared.kinds.AttrValue.TheVariants.{Moment}
 use Rattle.reg_terms.specs.declared.kinds.DefKind.TheVariants.{Timestamp}
 use Rattle.reg_terms.specs.declared.kinds.Object.{Object}
 use Rattle.reg_terms.specs.declared.kinds.Object.TheVariants.{Folder, Group, Def, Attr}
+use Rattle.reg_terms.specs.declared.rows.GrantRow.{GrantRow}
 use Rattle.reg_facts.specs.Lists.{Lists, start}
 use Rattle.reg_facts.specs.Events.{all_happened}
 use Rattle.reg_facts.specs.Naming.{name_of, extensions, placed, path}
@@ -21,7 +24,7 @@ use Rattle.reg_rules.specs.declared.actions.Action.{Action}
 use Rattle.reg_rules.specs.declared.actions.Action.TheVariants.{Removed, Ended}
 use Rattle.reg_rules.specs.Actions.{all_done}
 use Rattle.reg_terms.specs.declared.entry_kinds.EntryKind.{EntryKind}
-use Rattle.reg_terms.specs.declared.entry_kinds.EntryKind.TheVariants.{SubjectAdd, GroupAdd, GroupDelete, RowAdd, RowRemove, RowWindow, DefinitionAdd, AttributeAdd, AttributeDelete, AssignAdd, AssignRemove, ValueAdd, MemberBegin, MemberEnd, JobAdd, JobDelete}
+use Rattle.reg_terms.specs.declared.entry_kinds.EntryKind.TheVariants.{SubjectAdd, GroupAdd, GroupDelete, RowAdd, RowRemove, RowWindow, DefinitionAdd, AttributeAdd, AttributeDelete, AssignAdd, AssignRemove, ValueAdd, MemberBegin, MemberEnd, JobAdd, JobDelete, GrantAdd, GrantRemove}
 use Rattle.reg_audit.specs.Definitions.{definition_in}
 use Rattle.reg_audit.specs.Lines.{log_of}
 use Rattle.reg_audit.specs.Lives.{life_of, gone_of, gone_name, gone_named}
@@ -182,3 +185,24 @@ loading =
 pub jobs_told : map {B = EntryKind × Option Object × ℕ} (λ (l : Line). (l.kind, l.object, l.number)) (log_of loading) ≡ (JobAdd, None, 1) ∷ (JobDelete, None, 1) ∷ []
 unfolding log_of turns member loading step with_staff ann staff
 jobs_told = refl
+
+-- all will see staff from 9 to 12: what is told is that it is granted and that it ends, and not that it begins
+pub seeing : Option ℕ → GrantRow
+seeing from = record { object = Group 1; privilege = View; holder = holder.Everyone; from = from; until = Some 12 }
+
+pub granting : List Event
+granting = GrantAdded (seeing (Some 9)) ∷ []
+
+pub beginning : List Event
+beginning = GrantBegan (seeing None) ∷ []
+
+pub dated : List Step
+dated =
+    step 5 with_staff granting nothing nothing
+    ∷ step 9 (all_happened granting with_staff) beginning nothing nothing
+    ∷ step 12 (all_happened beginning (all_happened granting with_staff)) (GrantRemoved (seeing None) ∷ []) nothing nothing
+    ∷ []
+
+pub beginning_not_told : map {B = ℕ × EntryKind} (λ (l : Line). (l.at, l.kind)) (log_of dated) ≡ (5, GrantAdd) ∷ (12, GrantRemove) ∷ []
+unfolding log_of turns member dated granting beginning seeing step with_staff ann staff
+beginning_not_told = refl

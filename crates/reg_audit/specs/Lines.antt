@@ -11,7 +11,7 @@ use Rattle.reg_terms.specs.declared.event.Event.TheVariants.{FolderGone, Subject
 use Rattle.reg_terms.specs.declared.event.Event.TheVariants.{GroupRenamed, GroupMoved, GroupGone}
 use Rattle.reg_terms.specs.declared.event.Event.TheVariants.{RowAdded, RowRemoved, RowRedated}
 use Rattle.reg_terms.specs.declared.event.Event.TheVariants.{Composed, Decomposed, GrantAdded}
-use Rattle.reg_terms.specs.declared.event.Event.TheVariants.{GrantRemoved, InheritAdded}
+use Rattle.reg_terms.specs.declared.event.Event.TheVariants.{GrantBegan, GrantRemoved, InheritAdded}
 use Rattle.reg_terms.specs.declared.event.Event.TheVariants.{InheritRemoved, DefinitionMade}
 use Rattle.reg_terms.specs.declared.event.Event.TheVariants.{DefinitionGone, AttributeMade}
 use Rattle.reg_terms.specs.declared.event.Event.TheVariants.{AttributeGone, AssignMade, AssignGone}
@@ -78,7 +78,8 @@ assign_owner id f = option_map (λ (row : AssignRow). row.owner) (assign_row id 
 abbrev pub assign_line : ℕ → EntryKind → Option Object → ℕ → Line
 assign_line at k owner id = record { at = at; kind = k; object = owner; entity = None; number = id }
 
--- the entry of an event, if it makes one, by the facts before all events of its step
+-- the entry of an event, if it makes one, by the facts before all events of its step: a grant that
+-- begins makes none, since its entry was made when it was written
 abbrev pub line_of : ℕ → Lists → Event → Option Line
 line_of at before (FolderMade row) = Some (object_line at kind.FolderAdd (object.Folder row.id))
 line_of at before (FolderRenamed d extension) =
@@ -98,6 +99,7 @@ line_of at before (Composed row) = Some (object_line at kind.CompositeSet (objec
 line_of at before (Decomposed g) = Some (object_line at kind.CompositeClear (object.Group g))
 line_of at before (GrantAdded row) =
     Some (grant_line at kind.GrantAdd row.object row.holder row.privilege)
+line_of at before (GrantBegan row) = None
 line_of at before (GrantRemoved row) =
     Some (grant_line at kind.GrantRemove row.object row.holder row.privilege)
 line_of at before (InheritAdded row) =

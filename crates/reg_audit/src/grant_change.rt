@@ -12,6 +12,7 @@ fn changed_grant(event: &Event) -> Option<(Privilege, Holder)>
 {
     match event {
         Event::GrantAdded { row } => Some((row.privilege, row.holder)),
+        Event::GrantBegan { row } => Some((row.privilege, row.holder)),
         Event::GrantRemoved { row } => Some((row.privilege, row.holder)),
         Event::InheritAdded { row } => Some((row.privilege, row.holder)),
         Event::InheritRemoved { row } => Some((row.privilege, row.holder)),

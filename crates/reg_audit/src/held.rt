@@ -4,15 +4,15 @@ ghost use Rattle.std.specs.List.{list_any};
 ghost use Rattle.reg_terms.specs.Kinds.{is_of_kind, same_kind};
 ghost use Rattle.reg_terms.specs.declared.kinds.InheritKind.{InheritKind};
 ghost use Rattle.reg_terms.specs.declared.kinds.Scope.TheVariants.{One, Sub};
-ghost use Rattle.reg_terms.specs.declared.rows.GrantRow.{GrantRow};
 ghost use Rattle.reg_terms.specs.declared.rows.InheritRow.{InheritRow};
 ghost use Rattle.reg_facts.specs.Grants.{grants_on};
 ghost use Rattle.reg_facts.specs.Naming.{Placed, placed, place_of, parent_of, lies_in, most_levels};
 ghost use Rattle.reg_priv.specs.Filling.{same_grant, is_among, brings};
-ghost use Rattle.reg_priv.specs.Grants.{written, given, reaches, grants};
+ghost use Rattle.reg_priv.specs.Grants.{gives_one, given, reaches, grants};
 
 use reg_base::{FolderId, Privilege};
 use reg_facts::{Facts, MOST_LEVELS};
+use reg_priv::has_begun;
 use reg_terms::{GrantRow, Holder, InheritKind, InheritRow, Object, Scope};
 
 /// The folder in which an object stands.
@@ -50,17 +50,24 @@ fn kind_of(object: &Object) -> Option<InheritKind>
     }
 }
 
-/// Whether the grant is written on the object: one look.
+/// Whether the grant is written on the object and is on: one look.
 fn is_written(facts: &Facts, object: &Object, privilege: Privilege, holder: &Holder) -> bool
     ensures { result ≡ list_any
-        (λ (row : GrantRow). same_grant (privilege, holder.now) (written row))
+        (gives_one (same_grant (privilege, holder.now)))
         (grants_on object.now facts.now.grants) }
 {
-    facts.has_grant(&GrantRow {
+    facts.law_held();
+    let found = facts.grant(&GrantRow {
         object: *object,
         privilege,
         holder: *holder,
-    })
+        from: None,
+        until: None,
+    });
+    match found {
+        Some(row) => has_begun(&row),
+        None => false,
+    }
 }
 
 /// Whether an inherit of this scope on the folder gives it on the object: one look.
@@ -124,8 +131,9 @@ fn is_inherited(facts: &Facts, object: &Object, privilege: Privilege, holder: &H
         || is_given_above(facts, object, home, privilege, holder)
 }
 
-/// Whether a holder has a privilege on an object, direct or inherited. It takes no memory. It costs
-/// a look at the object and one at each folder above it, whatever else stands on them.
+/// Whether a holder has a privilege on an object, by a grant that is on or by an inherit. It takes
+/// no memory. It costs a look at the object and one at each folder above it, whatever else stands
+/// on them.
 pub(crate) fn is_granted(
     facts: &Facts,
     object: &Object,

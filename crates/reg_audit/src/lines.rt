@@ -219,6 +219,7 @@ pub fn line_of(at: Moment, facts: &Facts, event: &Event) -> Option<Line>
         Event::RuleGone { rule } => rule_line(at, EntryKind::RuleDelete, *rule),
         Event::JobMade { row } => job_line(at, EntryKind::JobAdd, row.id),
         Event::JobGone { job } => job_line(at, EntryKind::JobDelete, *job),
+        Event::GrantBegan { .. } => return None,
         Event::ConsumerAdded { .. } | Event::ConsumerAcked { .. } => return None,
     };
     Some(line)

@@ -49,7 +49,7 @@ folders =
     ∷ SubjectAdd bob []
     ∷ SubjectAdd ann []
     ∷ InheritAdd (codes "app") kind.Group scope.Sub privilege.Update bob
-    ∷ GrantAdd (codes "app:web:admins") privilege.View entity.Everyone
+    ∷ GrantAdd (codes "app:web:admins") privilege.View entity.Everyone None None
     ∷ [])
     start
 
@@ -81,7 +81,7 @@ pub unseen_before_denied : of_bob hidden (GroupRename (codes "old:web:admins") (
 unfolding hidden folders bob ann events_of object_of resolve placed lies_in member extension_of folder_of
 unseen_before_denied = refl
 
-pub unseen_by_entity : of_bob hidden (GrantAdd (codes "g:gsa/old:web:admins") privilege.Read bob) ≡ Some (NotFound (codes "old:web:admins"))
+pub unseen_by_entity : of_bob hidden (GrantAdd (codes "g:gsa/old:web:admins") privilege.Read bob None None) ≡ Some (NotFound (codes "old:web:admins"))
 unfolding hidden folders bob ann events_of object_of entity_of resolve placed lies_in member extension_of folder_of
 unseen_by_entity = refl
 
@@ -89,9 +89,9 @@ unseen_by_entity = refl
 pub administered : Lists
 administered =
     after
-    (GrantAdd (codes "app:web:admins") privilege.Admin bob
+    (GrantAdd (codes "app:web:admins") privilege.Admin bob None None
     ∷ GroupAdd (codes "secret") []
-    ∷ GrantAdd (codes "app:web:admins") privilege.View (entity.Group (codes "secret"))
+    ∷ GrantAdd (codes "app:web:admins") privilege.View (entity.Group (codes "secret")) None None
     ∷ [])
     folders
 
@@ -103,12 +103,30 @@ pub unseen_holder_is_not_found : of_bob administered (GrantRemove (codes "app:we
 unfolding administered folders bob ann events_of object_of resolve placed lies_in member extension_of folder_of
 unseen_holder_is_not_found = refl
 
+-- bob and a group that bob doesn't see are granted something from a moment on: until then it serves nothing, and it stands
+pub promised : Lists
+promised =
+    after
+    (GroupAdd (codes "secret") []
+    ∷ GrantAdd (codes "app:web:admins") privilege.Admin bob (Some 5) None
+    ∷ GrantAdd (codes "app:web:admins") privilege.View (entity.Group (codes "secret")) (Some 5) None
+    ∷ [])
+    folders
+
+pub to_come_serves_nothing : of_bob promised (GroupRename (codes "app:web:admins") (codes "x")) ≡ Some (Denied (codes "app:web:admins") (codes "ADMIN"))
+unfolding promised folders bob ann events_of object_of resolve placed lies_in member extension_of folder_of
+to_come_serves_nothing = refl
+
+pub to_come_is_found : of_bob promised (GrantRemove (codes "app:web:admins") privilege.View (entity.Group (codes "secret"))) ≡ Some (Denied (codes "app:web:admins") (codes "ADMIN"))
+unfolding promised folders bob ann events_of object_of entity_of resolve placed lies_in member extension_of folder_of
+to_come_is_found = refl
+
 -- of the root no parent is asked, and of the registry itself only root may administer it
 pub root_has_no_parent : of_bob folders (FolderRename (codes ":") (codes "x")) ≡ Some (Denied (codes ":") (codes "stemAdmin"))
 unfolding folders bob ann events_of object_of resolve placed lies_in member extension_of folder_of
 root_has_no_parent = refl
 
-pub internal_is_for_root : of_bob folders (GrantAdd (codes "g:isa/GrouperAll") privilege.Read bob) ≡ Some (Denied (codes ":") (codes "ROOT"))
+pub internal_is_for_root : of_bob folders (GrantAdd (codes "g:isa/GrouperAll") privilege.Read bob None None) ≡ Some (Denied (codes ":") (codes "ROOT"))
 unfolding folders bob ann events_of object_of entity_of resolve placed lies_in member extension_of folder_of
 internal_is_for_root = refl
 
@@ -196,8 +214,8 @@ noted =
     after
     (AttrdefAdd (codes "app:note") owners true values.Text false
     ∷ AttrAdd (codes "app:first") (codes "app:note")
-    ∷ GrantAdd (codes "app:note") privilege.AttrView bob
-    ∷ GrantAdd (codes "app") privilege.Create bob
+    ∷ GrantAdd (codes "app:note") privilege.AttrView bob None None
+    ∷ GrantAdd (codes "app") privilege.Create bob None None
     ∷ [])
     folders
 

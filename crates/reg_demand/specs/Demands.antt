@@ -153,7 +153,7 @@ demands by (MemberWindow group member from until) f = on_group group Update f �
 demands by (CompositeSet group kind left right) f =
     on_group group Update f ∷ on_group left Read f ∷ on_group right Read f ∷ []
 demands by (CompositeClear group) f = on_group group Update f ∷ []
-demands by (GrantAdd object privilege holder) f = on_object object f ∷ []
+demands by (GrantAdd object privilege holder from until) f = on_object object f ∷ []
 demands by (GrantRemove object privilege holder) f = on_object object f ∷ []
 demands by (InheritAdd folder kind scope privilege holder) f = on_folder folder StemAdmin f ∷ []
 demands by (InheritRemove folder kind scope privilege holder) f = on_folder folder StemAdmin f ∷ []

@@ -142,7 +142,7 @@ no_entity_but stands L f c e = (not stands && is_missing L f c e, NotFound (name
 abbrev pub row_stands : Option ℕ → Entity → Lists → Bool
 row_stands group member f = has_member (the_id group) (member_of member f) f.rows
 
--- whether the grant that a command speaks of stands
+-- whether the grant that a command speaks of stands, on or not
 abbrev pub grant_stands : Option GrantRow → Lists → Bool
 grant_stands None f = false
 grant_stands (Some row) f = has_grant row f.grants
@@ -181,11 +181,11 @@ not_found L f c (MemberWindow group member from until) =
 not_found L f c (CompositeSet group kind left right) =
     no_group L f c group ∷ no_group L f c left ∷ no_group L f c right ∷ []
 not_found L f c (CompositeClear group) = no_group L f c group ∷ []
-not_found L f c (GrantAdd object privilege holder) =
+not_found L f c (GrantAdd object privilege holder from until) =
     no_object L f c object ∷ no_entity L f c holder ∷ []
 not_found L f c (GrantRemove object privilege holder) =
     no_object L f c object ∷ no_entity_but
-    (grant_stands (grant_of object privilege holder f) f) L f c holder ∷ []
+    (grant_stands (grant_of object privilege holder None None f) f) L f c holder ∷ []
 not_found L f c (InheritAdd folder kind scope privilege holder) =
     no_folder folder f ∷ no_entity L f c holder ∷ []
 not_found L f c (InheritRemove folder kind scope privilege holder) =

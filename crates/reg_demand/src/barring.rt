@@ -73,7 +73,11 @@ pub fn barred<K: Kept>(
             object,
             privilege,
             holder,
-        } => grant_add(alloc, facts, kept, by, who, object, *privilege, holder),
+            from,
+            until,
+        } => grant_add(
+            alloc, facts, kept, by, who, object, *privilege, holder, *from, *until,
+        ),
         Command::GrantRemove {
             object,
             privilege,

@@ -1,5 +1,5 @@
 // What comes before all else that may refuse a command about grants.
-ghost use Rattle.std.specs.Prelude.{◌≡◌, ◌∷◌, [], IfOk};
+ghost use Rattle.std.specs.Prelude.{◌≡◌, ◌∷◌, [], None, IfOk};
 ghost use Rattle.reg_base.specs.Entities.{entity_of};
 ghost use Rattle.reg_terms.specs.declared.command.Command.TheVariants.{GrantAdd, GrantRemove};
 ghost use Rattle.reg_facts.specs.Grants.{grant_for, holder_of};
@@ -10,7 +10,7 @@ use crate::attributes::demand_on_attribute;
 use crate::finding::{is_missing, is_missing_object, named_text};
 use crate::refusals::{not_found, object_denied, object_not_found};
 use crate::subjects::demand_root;
-use reg_base::{Entity, Privilege, Text};
+use reg_base::{Entity, Moment, Privilege, Text};
 use reg_effect::Kept;
 use reg_facts::{Facts, GrantRow, Object, Refusal};
 use reg_priv::{Who, may};
@@ -90,10 +90,12 @@ pub fn grant_add<K: Kept>(
     object: &Text,
     _privilege: Privilege,
     holder: &Entity,
+    _from: Option<Moment>,
+    _until: Option<Moment>,
 ) -> Result<Option<Refusal>, AllocError>
     ensures { IfOk result (λ found. found
         ≡ first_of (barred (K.held kept.now) facts.now _by.now who.now
-        (GrantAdd object.now _privilege holder.now))) }
+        (GrantAdd object.now _privilege holder.now _from _until))) }
 {
     let found = facts.object_of(alloc, object)?;
     if is_missing_object(alloc, facts, kept, who, object, &found)? {
@@ -105,7 +107,7 @@ pub fn grant_add<K: Kept>(
     demand_admin_found(alloc, facts, kept, who, object, &found)
 }
 
-/// Whether a grant of the privilege stands on an object that was found.
+/// Whether a grant of the privilege stands on an object that was found, whatever its dates.
 fn grant_stands(
     facts: &Facts,
     found: &Option<Object>,
@@ -113,7 +115,7 @@ fn grant_stands(
     holder: &Entity,
 ) -> bool
     ensures { result ≡ grant_stands
-        (grant_for found.now privilege (holder_of holder.now facts.now)) facts.now }
+        (grant_for found.now privilege (holder_of holder.now facts.now) None None) facts.now }
 {
     let Some(object) = found else {
         return false;
@@ -125,6 +127,8 @@ fn grant_stands(
         object: *object,
         privilege,
         holder,
+        from: None,
+        until: None,
     })
 }
 

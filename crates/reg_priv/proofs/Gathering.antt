@@ -11,10 +11,10 @@ use Rattle.reg_terms.specs.declared.kinds.Scope.{Scope}
 use Rattle.reg_terms.specs.declared.rows.GrantRow.{GrantRow}
 use Rattle.reg_terms.specs.declared.rows.InheritRow.{InheritRow}
 use Rattle.reg_terms.specs.Kinds.{is_of_kind, same_scope}
-use Rattle.reg_facts.specs.Grants.{grants_on}
+use Rattle.reg_facts.specs.Grants.{grants_on, has_begun}
 use Rattle.reg_facts.specs.Lists.{Lists}
 use Rattle.reg_priv.specs.Filling.{same_grant, is_among, brings}
-use Rattle.reg_priv.specs.Grants.{Grant, written, given, reaches, grants}
+use Rattle.reg_priv.specs.Grants.{Grant, written, gives_one, given, reaches, grants}
 use Rattle.reg_priv.specs.Holders.{grant_cmp, ordered_into, holders}
 use Rattle.reg_priv.proofs.Ordering.{in_put, put_sorted, one_list, swapped, twice}
 use Rattle.reg_priv.proofs.Placed.{grant_total, one_place}
@@ -38,6 +38,15 @@ shifted false false r = refl
 pub step_in : (x g : Grant) (found new : List Grant) (rest whole : Bool) → new ≡ insert_key grant_cmp found g → (is_among x found || (same_grant x g || rest)) ≡ whole → (is_among x new || rest) ≡ whole
 step_in x g found new rest whole e h = ap (λ (gs : List Grant). is_among x gs || rest) e ∙ (ap (λ b. b || rest) (in_put grant_total x g found) ∙ (shifted (same_grant x g) (is_among x found) rest ∙ h))
 
+and_first : (a b : Bool) → a ≡ true → (a && b) ≡ b
+and_first true b h = refl
+and_first false b h = cc
+
+-- the same of what a grant gives that is on
+pub written_in : (x : Grant) (row : GrantRow) (found new : List Grant) (rest whole : Bool) → new ≡ insert_key grant_cmp found (written row) → has_begun row ≡ true
+    → (is_among x found || (gives_one (same_grant x) row || rest)) ≡ whole → (is_among x new || rest) ≡ whole
+written_in x row found new rest whole e on h = step_in x (written row) found new rest whole e (sym (ap (λ b. is_among x found || (b || rest)) (and_first (has_begun row) (same_grant x (written row)) on)) ∙ h)
+
 -- the same of what an inherit gives that has the scope and is for the object
 pub given_in : (x : Grant) (row : InheritRow) (o : Object) (s : Scope) (found new : List Grant) (rest whole : Bool) → new ≡ insert_key grant_cmp found (given row) → same_scope row.scope s ≡ true → is_of_kind row.kind o ≡ true
     → (is_among x found || (brings o s x row || rest)) ≡ whole → (is_among x new || rest) ≡ whole
@@ -58,7 +67,7 @@ none_sorted = tt
 
 -- a list in order that has the direct grants and the inherited ones is the holders
 pub are_holders : (o : Object) (f : Lists) (list : List Grant) → IsStrictlySortedBy grant_cmp list
-    → ((x : Grant) → is_among x list ≡ (list_any (λ (row : GrantRow). same_grant x (written row)) (grants_on o f.grants) || list_any (λ (row : InheritRow). reaches o f row && same_grant x (given row)) f.inherits))
+    → ((x : Grant) → is_among x list ≡ (list_any (gives_one (same_grant x)) (grants_on o f.grants) || list_any (λ (row : InheritRow). reaches o f row && same_grant x (given row)) f.inherits))
     → list ≡ holders o f
 are_holders o f list sorted has = one_list grant_total one_place list (holders o f) sorted (ordered_sorted [] (grants o f) none_sorted) (λ x. has x ∙ sym (ordered_in x [] (grants o f) ∙ any_grant o f (same_grant x)))
 

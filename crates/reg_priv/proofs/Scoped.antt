@@ -12,9 +12,9 @@ use Rattle.reg_terms.specs.declared.rows.InheritRow.{InheritRow}
 use Rattle.reg_terms.specs.Kinds.{is_of_kind, same_scope}
 use Rattle.reg_facts.specs.Lists.{Lists}
 use Rattle.reg_facts.specs.Naming.{Placed, placed, place_of, parent_of, lies_in, most_levels}
-use Rattle.reg_facts.specs.Grants.{grants_on, inherits_on}
+use Rattle.reg_facts.specs.Grants.{grants_on, has_begun, inherits_on}
 use Rattle.reg_names.specs.Scopes.{place_in_scope, stands_in}
-use Rattle.reg_priv.specs.Grants.{Grant, written, given, reaches, grants}
+use Rattle.reg_priv.specs.Grants.{Grant, written, gives_one, given, reaches, grants}
 use Rattle.reg_priv.proofs.Anys.{any_filter, any_map, any_or, any_same, any_none}
 
 turned : (a b : ℕ) → (a == b) ≡ (b == a)
@@ -131,12 +131,12 @@ unreached o f t rows home = any_none (λ row. reaches o f row && t row) rows (λ
     go row None h = off (is_of_kind row.kind o) (t row)
     go row (Some p) h = cc
 
--- the grants on an object are those written on it and those that inherits give
-pub any_grant : (o : Object) (f : Lists) (t : Grant → Bool) → list_any t (grants o f) ≡ (list_any (λ (row : GrantRow). t (written row)) (grants_on o f.grants) || list_any (λ (row : InheritRow). reaches o f row && t (given row)) f.inherits)
+-- the grants on an object are those written on it that are on, and those that inherits give
+pub any_grant : (o : Object) (f : Lists) (t : Grant → Bool) → list_any t (grants o f) ≡ (list_any (gives_one t) (grants_on o f.grants) || list_any (λ (row : InheritRow). reaches o f row && t (given row)) f.inherits)
 any_grant o f t =
-    list_any-append t (map written (grants_on o f.grants)) (map given (filter (reaches o f) f.inherits))
-    ∙ ap (λ b. b || list_any t (map given (filter (reaches o f) f.inherits))) (any_map t written (grants_on o f.grants))
-    ∙ ap (λ b. list_any (λ (row : GrantRow). t (written row)) (grants_on o f.grants) || b) (any_map t given (filter (reaches o f) f.inherits) ∙ any_filter (λ (row : InheritRow). t (given row)) (reaches o f) f.inherits)
+    list_any-append t (map written (filter has_begun (grants_on o f.grants))) (map given (filter (reaches o f) f.inherits))
+    ∙ ap (λ b. b || list_any t (map given (filter (reaches o f) f.inherits))) (any_map t written (filter has_begun (grants_on o f.grants)) ∙ any_filter (λ (row : GrantRow). t (written row)) has_begun (grants_on o f.grants))
+    ∙ ap (λ b. list_any (gives_one t) (grants_on o f.grants) || b) (any_map t given (filter (reaches o f) f.inherits) ∙ any_filter (λ (row : InheritRow). t (given row)) (reaches o f) f.inherits)
 
 -- the inherits on a folder with nothing above it are all on the way
 pub at_top : (n m d : ℕ) (fs : List FolderRow) (t : InheritRow → Bool) (rows : List InheritRow) → suc n ≡ m → parent_of d fs ≡ None → list_any (here d t) rows ≡ list_any (over m d fs t) rows

@@ -1,11 +1,11 @@
 -- An event leaves the grants of the objects that it doesn't touch as they were.
-use Rattle.std.proofs.Common.{◌≡◌, ◌≤◌, ◌==◌, ◌&&◌, ◌||◌, ◌++◌, ◌+◌, ℕ, List, [], ◌∷◌, Bool, true, false, not, map, filter, Option, Some, None, option_map, is_some, arith, refl, sym, subst, ◌∙◌, ap, inl, inr}
+use Rattle.std.proofs.Common.{◌≡◌, ◌≤◌, ◌==◌, ◌&&◌, ◌||◌, ◌++◌, ◌+◌, ℕ, List, [], ◌∷◌, Bool, true, false, not, map, filter, if◌then◌else◌, Option, Some, None, option_map, is_some, arith, refl, sym, subst, ◌∙◌, ap, inl, inr}
 use Rattle.std.specs.List.{AllByRecursion, list_any}
 use Rattle.std.proofs.lemmas.Bool.{cases_Bool, eqb-true, or_parts, and_parts}
 use Rattle.std.proofs.lemmas.Bool.Decides.{nat_tests}
 use Rattle.reg_terms.specs.Kinds.{same_object, same_scope, same_kind, is_of_kind}
 use Rattle.reg_terms.specs.declared.event.Event.{Event}
-use Rattle.reg_terms.specs.declared.event.Event.TheVariants.{FolderMade, FolderRenamed, FolderMoved, FolderGone, GroupMade, GroupRenamed, GroupMoved, GroupGone, GrantAdded, GrantRemoved, InheritAdded, InheritRemoved, DefinitionMade, DefinitionGone, AttributeMade, AttributeGone}
+use Rattle.reg_terms.specs.declared.event.Event.TheVariants.{FolderMade, FolderRenamed, FolderMoved, FolderGone, GroupMade, GroupRenamed, GroupMoved, GroupGone, GrantAdded, GrantBegan, GrantRemoved, InheritAdded, InheritRemoved, DefinitionMade, DefinitionGone, AttributeMade, AttributeGone}
 use Rattle.reg_terms.specs.declared.kinds.InheritKind.{InheritKind}
 use Rattle.reg_terms.specs.declared.kinds.InheritKind.TheVariants as kind
 use Rattle.reg_terms.specs.declared.kinds.Object.{Object}
@@ -20,7 +20,7 @@ use Rattle.reg_terms.specs.declared.rows.GrantRow.{GrantRow}
 use Rattle.reg_terms.specs.declared.rows.InheritRow.{InheritRow}
 use Rattle.reg_facts.specs.Edits.{folder_renamed, folder_moved, group_renamed, group_moved}
 use Rattle.reg_facts.specs.Events.{happened}
-use Rattle.reg_facts.specs.Grants.{grants_on, same_grant, same_inherit}
+use Rattle.reg_facts.specs.Grants.{grants_on, has_begun, same_grant, same_inherit}
 use Rattle.reg_facts.specs.Lists.{Lists}
 use Rattle.reg_facts.specs.Naming.{Placed, placed, placed_folders, placed_group, placed_definition, placed_attribute, place_of, parent_of, folder_row, lies_in, most_levels}
 use Rattle.reg_facts.specs.Sound.{IsSound, IsRooted, AscendFrom, BeginsAtRoot}
@@ -56,6 +56,17 @@ filter_fewer p q (x ∷ xs) h = elim (cases_Bool (q x)) [
     | inr z ↦ rw (y, z) (filter_fewer p q xs h)
   ]
   | inr y ↦ rw (y, h x y) (filter_fewer p q xs h)
+]
+
+-- one that doesn't pass in the place of some that don't
+filter_put : {X : Type 0} (p q : X → Bool) (put : X) (xs : List X) → p put ≡ false → ((x : X) → q x ≡ true → p x ≡ false) → filter p (map (λ x. if q x then put else x) xs) ≡ filter p xs
+filter_put p q put [] none h = refl
+filter_put p q put (x ∷ xs) none h = elim (cases_Bool (q x)) [
+  | inl y ↦ rw (y, none, h x y) (filter_put p q put xs none h)
+  | inr y ↦ elim (cases_Bool (p x)) [
+    | inl z ↦ rw (y, z) (ap (λ more. x ∷ more) (filter_put p q put xs none h))
+    | inr z ↦ rw (y, z) (filter_put p q put xs none h)
+  ]
 ]
 
 not_not : (b : Bool) → not b ≡ false → b ≡ true
@@ -118,7 +129,7 @@ reached_alike o f g h row = ap (λ b. is_of_kind row.kind o && b) (
 grants_alike : (o : Object) (f g : Lists) → StandsAlike o f g → grants_on o g.grants ≡ grants_on o f.grants → filter (reaches o f) g.inherits ≡ filter (reaches o f) f.inherits → grants o g ≡ grants o f
 grants_alike o f g h direct inherited =
     let reached : filter (reaches o g) g.inherits ≡ filter (reaches o f) f.inherits = filter_alike (reaches o g) (reaches o f) g.inherits (reached_alike o f g h) ∙ inherited in
-    ap (λ rows. map written rows ++ map given (filter (reaches o g) g.inherits)) direct ∙ ap (λ rows. map written (grants_on o f.grants) ++ map given rows) reached
+    ap (λ rows. map written (filter has_begun rows) ++ map given (filter (reaches o g) g.inherits)) direct ∙ ap (λ rows. map written (filter has_begun (grants_on o f.grants)) ++ map given rows) reached
 
 -- ---- events that move nothing
 
@@ -133,6 +144,16 @@ stays o f g a b c d direct inherited = grants_alike o f g (same_place o f g a b 
 
 grant_added : (row : GrantRow) (f : Lists) (o : Object) → same_object row.object o ≡ false → grants o (happened (GrantAdded row) f) ≡ grants o f
 grant_added row f o h = grants_alike o f (happened (GrantAdded row) f) (same_place o f (happened (GrantAdded row) f) refl refl refl refl) (filter_more (λ (r : GrantRow). same_object r.object o) f.grants row h) refl
+
+-- a grant on another object in the place of another on that one
+grant_began : (row : GrantRow) (f : Lists) (o : Object) → same_object row.object o ≡ false → grants o (happened (GrantBegan row) f) ≡ grants o f
+grant_began row f o h = grants_alike o f (happened (GrantBegan row) f) (same_place o f (happened (GrantBegan row) f) refl refl refl refl)
+    (filter_put (λ (r : GrantRow). same_object r.object o) (same_grant row) row f.grants h other) refl
+  where
+    other : (r : GrantRow) → same_grant row r ≡ true → same_object r.object o ≡ false
+    other r e =
+        let both = and_parts (same_object r.object row.object) _ e in
+        rw (one_object r.object row.object both.0) h
 
 grant_removed : (row : GrantRow) (f : Lists) (o : Object) → same_object row.object o ≡ false → grants o (happened (GrantRemoved row) f) ≡ grants o f
 grant_removed row f o h = grants_alike o f (happened (GrantRemoved row) f) (same_place o f (happened (GrantRemoved row) f) refl refl refl refl)
@@ -321,6 +342,7 @@ untouched (DefinitionGone id) f o sound s h = definition_gone_apart id f o h
 untouched (AttributeMade row) f o sound s h = attribute_made_apart row f o h
 untouched (AttributeGone id) f o sound s h = attribute_gone_apart id f o h
 untouched (GrantAdded row) f o sound s h = grant_added row f o h
+untouched (GrantBegan row) f o sound s h = grant_began row f o h
 untouched (GrantRemoved row) f o sound s h = grant_removed row f o h
 untouched (InheritAdded row) f o sound s h = inherit_added row f o h
 untouched (InheritRemoved row) f o sound s h = inherit_removed row f o h

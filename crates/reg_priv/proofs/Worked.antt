@@ -1,5 +1,5 @@
 -- Worked examples computed: a privilege by nested groups, the complement that reads, a move out of a scope, and who holds what.
-use Rattle.std.proofs.Common.{◌≡◌, [], ◌∷◌, true, false, Some, codes, refl}
+use Rattle.std.proofs.Common.{◌≡◌, [], ◌∷◌, true, false, None, Some, codes, refl}
 use Rattle.reg_base.specs.declared.privilege.Privilege.TheVariants.{Read, View, Update, Optin, Create}
 use Rattle.reg_terms.specs.declared.kinds.Holder.TheVariants as holder
 use Rattle.reg_terms.specs.declared.kinds.InheritKind.TheVariants as kind
@@ -31,7 +31,7 @@ live = record {
 
 -- staff sees the group: so does ann, who is in it by night, and nobody else
 pub seen_by_staff : Lists
-seen_by_staff = record facts { grants = (record { object = object.Group 1; privilege = View; holder = holder.Group 2 }) ∷ [] }
+seen_by_staff = record facts { grants = (record { object = object.Group 1; privilege = View; holder = holder.Group 2; from = None; until = None }) ∷ [] }
 
 pub nested_group_sees : visible live seen_by_staff (Person 1) (object.Group 1) ≡ true
 unfolding facts live seen_by_staff resolve placed lies_in member
@@ -45,9 +45,21 @@ pub seeing_is_not_reading : may live seen_by_staff (Person 1) (object.Group 1) R
 unfolding facts live seen_by_staff resolve placed lies_in member
 seeing_is_not_reading = refl
 
+-- staff will see the group from a moment on: nobody sees it yet, and it has no holder
+pub seen_later : Lists
+seen_later = record facts { grants = (record { object = object.Group 1; privilege = View; holder = holder.Group 2; from = Some 7; until = None }) ∷ [] }
+
+pub nobody_sees_it_yet : visible live seen_later (Person 1) (object.Group 1) ≡ false
+unfolding facts live seen_later resolve placed lies_in member
+nobody_sees_it_yet = refl
+
+pub nobody_holds_it_yet : holders (object.Group 1) seen_later ≡ []
+unfolding facts seen_later placed lies_in
+nobody_holds_it_yet = refl
+
 -- day reads the group: bob does, and ann, who is in night, doesn't
 pub read_by_day : Lists
-read_by_day = record facts { grants = (record { object = object.Group 1; privilege = Read; holder = holder.Group 4 }) ∷ [] }
+read_by_day = record facts { grants = (record { object = object.Group 1; privilege = Read; holder = holder.Group 4; from = None; until = None }) ∷ [] }
 
 pub complement_reads : may live read_by_day (Person 2) (object.Group 1) Read ≡ true
 unfolding facts live read_by_day resolve placed lies_in member
@@ -98,7 +110,7 @@ of_another_kind = refl
 
 -- what is written and what is inherited, in order, a pair once
 pub many : Lists
-many = record inherited { grants = (record { object = object.Group 1; privilege = View; holder = holder.Group 2 }) ∷ (record { object = object.Group 1; privilege = View; holder = holder.Everyone }) ∷ (record { object = object.Group 1; privilege = Update; holder = holder.Person 1 }) ∷ [] }
+many = record inherited { grants = (record { object = object.Group 1; privilege = View; holder = holder.Group 2; from = None; until = None }) ∷ (record { object = object.Group 1; privilege = View; holder = holder.Everyone; from = None; until = None }) ∷ (record { object = object.Group 1; privilege = Update; holder = holder.Person 1; from = None; until = None }) ∷ [] }
 
 pub in_order : holders (object.Group 1) many ≡ (Update, holder.Person 1) ∷ (View, holder.Everyone) ∷ (View, holder.Group 2) ∷ []
 unfolding facts inherited many placed lies_in

@@ -1,5 +1,5 @@
--- Grants: the privileges on an object and who holds them, as they are written on it and as inherits
--- give them.
+-- Grants: the privileges on an object and who holds them, as they are written on it and are on, and
+-- as inherits give them.
 use Rattle.std.specs.Prelude.{◌&&◌, ◌++◌, List, Bool, map, filter}
 use Rattle.reg_base.specs.declared.privilege.Privilege.{Privilege}
 use Rattle.reg_terms.specs.declared.kinds.Object.{Object}
@@ -7,7 +7,7 @@ use Rattle.reg_terms.specs.declared.kinds.Holder.{Holder}
 use Rattle.reg_terms.specs.declared.rows.GrantRow.{GrantRow}
 use Rattle.reg_terms.specs.declared.rows.InheritRow.{InheritRow}
 use Rattle.reg_terms.specs.Kinds.{is_of_kind}
-use Rattle.reg_facts.specs.Grants.{grants_on}
+use Rattle.reg_facts.specs.Grants.{grants_on, has_begun}
 use Rattle.reg_facts.specs.Lists.{Lists}
 use Rattle.reg_names.specs.Scopes.{in_scope}
 
@@ -19,6 +19,10 @@ Grant = Privilege × Holder
 abbrev pub written : GrantRow → Grant
 written row = (row.privilege, row.holder)
 
+-- a grant is on, and what it gives passes a test
+abbrev pub gives_one : (Grant → Bool) → GrantRow → Bool
+gives_one t row = has_begun row && t (written row)
+
 -- what an inherit gives
 abbrev pub given : InheritRow → Grant
 given row = (row.privilege, row.holder)
@@ -27,6 +31,8 @@ given row = (row.privilege, row.holder)
 abbrev pub reaches : Object → Lists → InheritRow → Bool
 reaches o f row = is_of_kind row.kind o && in_scope row.folder row.scope o f
 
--- the grants on an object: direct and inherited
+-- the grants on an object: direct ones that are on, and inherited ones
 abbrev pub grants : Object → Lists → List Grant
-grants o f = map written (grants_on o f.grants) ++ map given (filter (reaches o f) f.inherits)
+grants o f =
+    map written (filter has_begun (grants_on o f.grants))
+    ++ map given (filter (reaches o f) f.inherits)

@@ -4,8 +4,9 @@ use Rattle.std.specs.List.{list_any}
 use Rattle.reg_terms.specs.declared.event.Event.{Event}
 use Rattle.reg_terms.specs.declared.event.Event.TheVariants.{FolderMade, FolderMoved, FolderGone}
 use Rattle.reg_terms.specs.declared.event.Event.TheVariants.{GroupMade, GroupMoved, GroupGone}
-use Rattle.reg_terms.specs.declared.event.Event.TheVariants.{GrantAdded, GrantRemoved, InheritAdded}
-use Rattle.reg_terms.specs.declared.event.Event.TheVariants.{InheritRemoved, DefinitionMade}
+use Rattle.reg_terms.specs.declared.event.Event.TheVariants.{GrantAdded, GrantBegan, GrantRemoved}
+use Rattle.reg_terms.specs.declared.event.Event.TheVariants.{InheritAdded, InheritRemoved}
+use Rattle.reg_terms.specs.declared.event.Event.TheVariants.{DefinitionMade}
 use Rattle.reg_terms.specs.declared.event.Event.TheVariants.{DefinitionGone, AttributeMade}
 use Rattle.reg_terms.specs.declared.event.Event.TheVariants.{AttributeGone}
 use Rattle.reg_terms.specs.declared.kinds.Object.{Object}
@@ -18,8 +19,8 @@ use Rattle.reg_names.specs.Scopes.{in_scope}
 use Rattle.reg_priv.specs.Grants.{grants, reaches}
 
 -- whether an event, at the facts before it, may change the grants on an object: what is made, moved
--- or goes, what gets or loses a grant, what an inherit that is added or removed reaches, and all
--- below a folder that is moved
+-- or goes, what gets or loses a grant, or has one that begins, what an inherit that is added or
+-- removed reaches, and all below a folder that is moved
 abbrev pub touched : Event → Lists → Object → Bool
 touched (FolderMade row) f o = same_object (Folder row.id) o
 touched (FolderMoved id to) f o = same_object (Folder id) o || in_scope id Sub o f
@@ -32,6 +33,7 @@ touched (DefinitionGone id) f o = same_object (Def id) o
 touched (AttributeMade row) f o = same_object (Attr row.id) o
 touched (AttributeGone id) f o = same_object (Attr id) o
 touched (GrantAdded row) f o = same_object row.object o
+touched (GrantBegan row) f o = same_object row.object o
 touched (GrantRemoved row) f o = same_object row.object o
 touched (InheritAdded row) f o = reaches o f row
 touched (InheritRemoved row) f o = reaches o f row

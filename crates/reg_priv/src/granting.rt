@@ -1,8 +1,8 @@
 // Whether some of these rows allow it.
 ghost use Rattle.std.specs.Prelude.{◌≡◌, ◌<◌, ◌^◌, length};
 ghost use Rattle.std.specs.List.{list_any};
-ghost use Rattle.reg_terms.specs.declared.rows.GrantRow.{GrantRow};
-ghost use Rattle.reg_priv.specs.Grants.{written};
+ghost use Rattle.reg_facts.specs.Grants.{has_begun};
+ghost use Rattle.reg_priv.specs.Grants.{gives_one};
 ghost use Rattle.reg_priv.specs.Lending.{lends};
 ghost use Rattle.reg_priv.specs.May.{allows};
 
@@ -21,7 +21,14 @@ fn allows<K: Kept>(kept: &K, who: &Who, wanted: Privilege, held: Privilege, hold
     gives(held, wanted) && holds(kept, who, holder)
 }
 
-/// Whether one of these grants allows it.
+/// Whether a grant is on: none of its beginning is to come.
+pub fn has_begun(row: &GrantRow) -> bool
+    ensures { result ≡ has_begun row.now }
+{
+    row.from.is_none()
+}
+
+/// Whether one of these grants is on and allows it.
 pub fn any_written<K: Kept>(
     kept: &K,
     who: &Who,
@@ -30,10 +37,10 @@ pub fn any_written<K: Kept>(
 ) -> bool
     requires { length rows < 2 ^ 63 }
     ensures { result ≡ list_any
-        (λ (row : GrantRow). allows (K.held kept.now) who.now wanted (written row)) rows.entry }
+        (gives_one (allows (K.held kept.now) who.now wanted)) rows.entry }
 {
     for row in rows {
-        if allows(kept, who, wanted, row.privilege, &row.holder) {
+        if has_begun(row) && allows(kept, who, wanted, row.privilege, &row.holder) {
             return true;
         }
     }

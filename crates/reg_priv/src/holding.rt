@@ -2,28 +2,30 @@
 ghost use Rattle.std.specs.Prelude.{◌≡◌, ◌&&◌, ◌||◌, ◌==◌, IfOk, OnOk};
 ghost use Rattle.std.specs.List.{list_any};
 ghost use Rattle.reg_terms.specs.declared.kinds.Scope.TheVariants.{One, Sub};
-ghost use Rattle.reg_terms.specs.declared.rows.GrantRow.{GrantRow};
 ghost use Rattle.reg_terms.specs.declared.rows.InheritRow.{InheritRow};
 ghost use Rattle.reg_facts.specs.Naming.{lies_in, most_levels};
 ghost use Rattle.reg_priv.specs.Filling.{same_grant, is_among, brings};
-ghost use Rattle.reg_priv.specs.Grants.{Grant, written, given, reaches};
+ghost use Rattle.reg_priv.specs.Grants.{Grant, gives_one, given, reaches};
 ghost use Rattle.reg_priv.specs.Holders.{holders};
 
 use crate::climbing::{MOST_LEVELS, home_folder, parent};
 use crate::gathered::Gathered;
+use crate::granting::has_begun;
 use reg_base::{FolderId, Privilege};
 use reg_facts::{Facts, GrantRow, Holder, InheritRow, Object, Scope};
 use reg_table::GroupRows;
 use std::alloc::{AllocError, Global};
 
-/// Puts these grants.
+/// Puts what those of these grants give that are on.
 fn put_written(found: &mut Gathered, rows: GroupRows<'_, GrantRow>) -> Result<(), AllocError>
     ensures { OnOk result ((g : Grant)
         → is_among g found.new ≡ (is_among g found.old
-        || list_any (λ (row : GrantRow). same_grant g (written row)) rows.entry)) }
+        || list_any (gives_one (same_grant g)) rows.entry)) }
 {
     for row in rows {
-        found.put(row.privilege, &row.holder)?;
+        if has_begun(row) {
+            found.put(row.privilege, &row.holder)?;
+        }
     }
     Ok(())
 }
@@ -120,9 +122,9 @@ fn put_inherited(found: &mut Gathered, facts: &Facts, object: &Object) -> Result
     Ok(())
 }
 
-/// The grants on an object, direct and inherited, each pair once: by the privilege's code, then
-/// everyone, persons by id, groups by id. It costs what stands on the object and on the folders
-/// above it. The only error is out of memory.
+/// The grants on an object, direct ones that are on and inherited ones, each pair once: by the
+/// privilege's code, then everyone, persons by id, groups by id. It costs what stands on the object
+/// and on the folders above it. The only error is out of memory.
 pub fn holders(
     alloc: Global,
     facts: &Facts,

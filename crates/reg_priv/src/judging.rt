@@ -44,7 +44,7 @@ pub fn is_root<K: Kept>(facts: &Facts, kept: &K, who: &Who) -> bool
     }
 }
 
-/// Whether some grant on the object, direct or inherited, allows it.
+/// Whether some grant on the object, direct and on or inherited, allows it.
 fn granted<K: Kept>(
     facts: &Facts,
     kept: &K,

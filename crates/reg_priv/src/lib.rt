@@ -10,6 +10,7 @@ mod judging;
 mod touched;
 mod who;
 
+pub use granting::has_begun;
 pub use holding::holders;
 pub use judging::{is_root, is_visible, judged, may, privileges_of, wheel};
 pub use touched::{law_untouched, touched_objects};

@@ -241,6 +241,7 @@ pub fn touched_objects(
         Event::AttributeMade { row } => only(alloc, Object::Attr(row.id)),
         Event::AttributeGone { attribute } => only(alloc, Object::Attr(*attribute)),
         Event::GrantAdded { row } => only(alloc, row.object),
+        Event::GrantBegan { row } => only(alloc, row.object),
         Event::GrantRemoved { row } => only(alloc, row.object),
         Event::InheritAdded { row } => reached_by(alloc, facts, row),
         Event::InheritRemoved { row } => reached_by(alloc, facts, row),
