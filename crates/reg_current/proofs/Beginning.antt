@@ -1,5 +1,5 @@
--- Rows that begin at a date at which none ends, and the steps of rows that end.
-use Rattle.std.proofs.Common.{◌≡◌, ◌<◌, ◌+◌, ◌==◌, ℕ, List, [], ◌∷◌, Bool, true, false, not, filter, map, Option, Some, None, refl, sym, ap, subst, ◌∙◌, arith, inl, inr}
+-- What begins at a date at which nothing ends, and the steps of what ends.
+use Rattle.std.proofs.Common.{◌≡◌, ◌<◌, ◌+◌, ◌==◌, ℕ, suc, List, [], ◌∷◌, Bool, true, false, not, filter, map, Option, Some, None, refl, sym, ap, subst, ◌∙◌, arith, inl, inr}
 use Rattle.std.specs.List.{list_any, AllByRecursion}
 use Rattle.std.specs.Prelude.{IfSome}
 use Rattle.std.specs.List.Sorted.{IsPermutation}
@@ -10,7 +10,6 @@ use Rattle.reg_terms.specs.declared.rows.MemberRow.{MemberRow}
 use Rattle.reg_facts.specs.Events.{happened, all_happened}
 use Rattle.reg_facts.specs.Lists.{Lists}
 use Rattle.reg_facts.specs.Sound.{IsSound}
-use Rattle.reg_facts.proofs.Places.{cases_option}
 use Rattle.reg_graph.specs.Edges.{IsAcyclic}
 use Rattle.reg_effect.specs.declared.live.Live.{Live}
 use Rattle.reg_effect.specs.declared.live.Change.TheVariants.{RowOff}
@@ -19,42 +18,40 @@ use Rattle.reg_effect.specs.Changes.{all_off, all_on, changed, changed_by, rows_
 use Rattle.reg_effect.specs.Order.{has_live_row, row_cmp}
 use Rattle.std.specs.BTreeSet.{insert_key}
 use Rattle.reg_effect.specs.Standing.{standing}
-use Rattle.reg_current.specs.Dates.{begins_at, ends_at, beginning, ending, date_changes, due, pair_gone, without_ended, IsNext}
-use Rattle.reg_current.specs.Invariant.{IsOpen}
+use Rattle.reg_current.specs.Dates.{begins_at, ends_at, beginning, ending, at_date, date_changes, date_events, pair_gone, IsNext}
+use Rattle.reg_current.specs.Invariant.{IsOpen, IsGrantOpen}
 use Rattle.reg_current.specs.Live.{live}
 use Rattle.reg_current.specs.Steps.{changes_of, event_steps, events_steps}
 use Rattle.reg_current.proofs.ChangesJoined.{most_steps_append, suit_front}
 use Rattle.reg_current.proofs.DateChanges.{date_lived, date_suits, where_none}
-use Rattle.reg_current.proofs.DatesGone.{due_at_next, none_begin}
-use Rattle.reg_current.proofs.Passing.{live_stays}
-use Rattle.reg_current.proofs.Opening.{open_after, open_still}
+use Rattle.reg_current.proofs.DateEvents.{date_events_live, date_events_steps}
+use Rattle.reg_current.proofs.Due.{still_grants}
+use Rattle.reg_current.proofs.NextDate.{next_still}
+use Rattle.reg_current.proofs.Opening.{open_left, open_grants_still}
 
 -- what comes on at a date
 pub record Begun (a d : ℕ) (f : Lists) : Type 0 where
   pub lived : live d f ≡ changed_by (all_on (beginning d f.rows)) (live a f)
   pub suit : SuitAll (all_on (beginning d f.rows)) (live a f)
   pub opens : AllByRecursion (IsOpen d) f.rows
+  pub grants : AllByRecursion (IsGrantOpen d) f.grants
 
 all_stay : (test : MemberRow → Bool) (rows : List MemberRow) → list_any test rows ≡ false → filter (λ (row : MemberRow). not (test row)) rows ≡ rows
 all_stay test [] h = refl
 all_stay test (row ∷ rows) h = let parts = or_parts (test row) (list_any test rows) h in rw parts.0 (ap (λ rs. row ∷ rs) (all_stay test rows parts.1))
 
-pub begun : (a d : ℕ) (f : Lists) (graph : List (ℕ × ℕ)) → IsNext a d f.rows → AllByRecursion (IsOpen a) f.rows → IsSound f → IsPermutation graph (standing f.rows f.composites) → IsAcyclic graph → Begun a d f
-begun a d f graph next opens sound same none = elim (cases_option (due a d f.rows)) [
-  | inl e ↦
-      let no : beginning d f.rows ≡ [] = where_none (begins_at d) f.rows (none_begin a d f.rows next.later e) in
-      record { lived = rw no (live_stays a d f (omega (arith, next.later)) e); suit = rw no tt; opens = open_still a d f.rows opens e }
-  | inr w ↦
-      let first : due a d f.rows ≡ Some d = w.1 ∙ ap (λ x. Some x) (due_at_next a d f.rows w.0 next w.1) in
-      let stay = next.none_ends d next.later (omega arith) in
-      let gone : ending d f.rows ≡ [] = where_none (ends_at d) f.rows stay in
-      let stays : without_ended d f ≡ f = ap (λ (rs : List MemberRow). record f { rows = rs }) (all_stay (ends_at d) f.rows stay) in
-      record {
-        lived = ap (λ (x : Lists). live d x) (sym stays) ∙ (date_lived a d d f first opens sound ∙ rw gone refl);
-        suit = rw gone at (date_suits a d d f first opens sound graph same none);
-        opens = subst (λ (x : Lists). AllByRecursion (IsOpen d) x.rows) stays (open_after a d d f opens first);
-      }
-]
+pub begun : (a d : ℕ) (f : Lists) (graph : List (ℕ × ℕ)) → IsNext a d f → AllByRecursion (IsOpen a) f.rows → AllByRecursion (IsGrantOpen a) f.grants → IsSound f → IsPermutation graph (standing f.rows f.composites) → IsAcyclic graph → Begun a d f
+begun a d f graph next opens grants sound same none =
+    let still = next_still a d f next in
+    let stay = next.none_ends d next.later (omega arith) in
+    let gone : ending d f.rows ≡ [] = where_none (ends_at d) f.rows stay in
+    let stays = all_stay (ends_at d) f.rows stay in
+    record {
+      lived = ap (λ (rs : List MemberRow). live d (record f { rows = rs })) (sym stays) ∙ (date_lived a d f next.later still opens sound ∙ rw gone refl);
+      suit = rw gone at (date_suits a d f next.later still opens sound graph same none);
+      opens = subst (λ (rs : List MemberRow). AllByRecursion (IsOpen d) rs) stays (open_left a d f.rows opens still);
+      grants = open_grants_still a d f.grants grants (still_grants a (suc d) f.grants (λ x k l. next.no_grant x k (omega (arith, l))));
+    }
 
 -- ---- rows that end, one after another
 no_steps : (L : Live) → most_steps_of [] L ≡ 0
@@ -105,13 +102,14 @@ same_beginning a d (row ∷ rows) found opens = elim (cases_Bool (begins_at d ro
 ]
 
 -- the steps of a date: of the rows that end, and then of those that begin
-pub date_cost : (t d : ℕ) (f : Lists) (next : Lists) → next ≡ without_ended d f → AllByRecursion (IsOpen t) f.rows → all_happened (map pair_gone (ending d f.rows)) f ≡ without_ended d f
+pub date_cost : (t d : ℕ) (f : Lists) → AllByRecursion (IsOpen t) f.rows → all_happened (date_events d f) f ≡ at_date d f
     → ((g : ℕ) (m : Member) (x : Lists) → live t (happened (RowRemoved g m) x) ≡ changed_by (changes_of t (RowRemoved g m) (live t x)) (live t x)) → SuitAll (date_changes d f) (live t f)
-    → events_steps t (map pair_gone (ending d f.rows)) f + most_steps_of (all_on (beginning d next.rows)) (live t next) ≡ most_steps_of (date_changes d f) (live t f)
-date_cost t d f next is opens leads step suits =
+    → events_steps t (date_events d f) f + most_steps_of (all_on (beginning d (at_date d f).rows)) (live t (at_date d f)) ≡ most_steps_of (date_changes d f) (live t f)
+date_cost t d f opens leads step suits =
     let o = offs t (ending d f.rows) f step (suit_front (all_off (ending d f.rows)) (all_on (beginning d f.rows)) (live t f) suits) in
     let all = most_steps_append (all_off (ending d f.rows)) (all_on (beginning d f.rows)) (live t f) in
-    let same : beginning d next.rows ≡ beginning d f.rows = ap (λ (x : Lists). beginning d x.rows) is ∙ same_beginning t d f.rows [] opens in
-    let on : live t next ≡ changed_by (all_off (ending d f.rows)) (live t f) = ap (λ (x : Lists). live t x) (is ∙ sym leads) ∙ o.lived in
+    let same : beginning d (at_date d f).rows ≡ beginning d f.rows = same_beginning t d f.rows [] opens in
+    let on : live t (at_date d f) ≡ changed_by (all_off (ending d f.rows)) (live t f) = ap (λ (x : Lists). live t x) (sym leads) ∙ (date_events_live t d f ∙ o.lived) in
     let steps = o.steps in
-    rw (same, on) (omega (arith, all, steps))
+    let events = date_events_steps t d f in
+    rw (same, on) (omega (arith, all, steps, events))

@@ -16,18 +16,19 @@ use Rattle.reg_current.specs.Holding.{Holds, AllHold}
 use Rattle.reg_current.specs.Invariant.{IsBeside, Now}
 use Rattle.reg_current.specs.Steps.{changes_of, event_steps, events_steps}
 use Rattle.reg_current.proofs.DatesGone.{later_finds}
-use Rattle.reg_current.proofs.Opening.{still_open}
+use Rattle.reg_current.proofs.Due.{none_still, none_still_grants}
+use Rattle.reg_current.proofs.Opening.{still_open, still_grants_open, open_still, open_grants_still}
 use Rattle.reg_current.proofs.Passing.{live_stays}
 use Rattle.reg_current.proofs.Stepping.{stepped, suit}
-use Rattle.reg_current.proofs.Opening.{open_still}
 
 -- after an event
 pub carried : (at : ℕ) (e : Event) (lists next : Lists) (kept sets : Live) (old new : List (ℕ × ℕ)) (before after : Dates) → IsBeside at lists kept old before → Holds at e lists
-    → next ≡ happened e lists → sets ≡ changed_by (changes_of at e kept) kept → IsPermutation new (standing (happened e lists).rows (happened e lists).composites) → FindsDates after at (happened e lists).rows → IsBeside at next sets new after
+    → next ≡ happened e lists → sets ≡ changed_by (changes_of at e kept) kept → IsPermutation new (standing (happened e lists).rows (happened e lists).composites) → FindsDates after at (happened e lists) → IsBeside at next sets new after
 carried at e lists next kept sets old new before after h holds made changed edges coming = rw made (record {
   sets = changed ∙ (ap (λ (L : Live). changed_by (changes_of at e L) L) h.sets ∙ sym (stepped at e lists holds.suits));
   edges = edges;
   ends = still_open at e lists h.ends holds.later;
+  grants_open = still_grants_open at e lists h.grants_open holds.later;
   coming = coming;
 })
 
@@ -61,13 +62,14 @@ pub holds_now : (clock : ℕ) (lists : Lists) (now : Now) (e : Event) → record
 holds_now clock lists now e is h = subst (λ (n : Now). Holds n.clock e n.facts) (sym is) h
 
 -- a moment up to which no date comes
-pub waited : (at to : ℕ) (f : Lists) (kept : Live) (graph : List (ℕ × ℕ)) (dates : Dates) (now : Now) → record { clock = at; facts = f } ≡ now → now.clock ≤ to → due now.clock to now.facts.rows ≡ None → IsBeside at f kept graph dates → IsBeside to f kept graph dates
+pub waited : (at to : ℕ) (f : Lists) (kept : Live) (graph : List (ℕ × ℕ)) (dates : Dates) (now : Now) → record { clock = at; facts = f } ≡ now → now.clock ≤ to → due now.clock to now.facts ≡ None → IsBeside at f kept graph dates → IsBeside to f kept graph dates
 waited at to f kept graph dates now is later none h =
     let l : at ≤ to = subst (λ (n : Now). n.clock ≤ to) (sym is) later in
-    let e : due at to f.rows ≡ None = subst (λ (n : Now). due n.clock to n.facts.rows ≡ None) (sym is) none in
+    let e : due at to f ≡ None = subst (λ (n : Now). due n.clock to n.facts ≡ None) (sym is) none in
     record {
       sets = h.sets ∙ sym (live_stays at to f l e);
       edges = h.edges;
-      ends = open_still at to f.rows h.ends e;
-      coming = later_finds dates at to f.rows h.coming e l;
+      ends = open_still at to f.rows h.ends (none_still at to f e);
+      grants_open = open_grants_still at to f.grants h.grants_open (none_still_grants at to f e);
+      coming = later_finds dates at to f h.coming e l;
     }

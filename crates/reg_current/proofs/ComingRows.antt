@@ -6,6 +6,7 @@ use Rattle.std.proofs.lemmas.Bool.{cases_Bool, eqb-true, lt-ltb, le-ltb, or_part
 use Rattle.std.proofs.lemmas.Bool.Decides.{nat_tests}
 use Rattle.std.proofs.lemmas.List.Folds.{list_any-append}
 use Rattle.reg_terms.specs.declared.kinds.Member.{Member}
+use Rattle.reg_terms.specs.declared.rows.GrantRow.{GrantRow}
 use Rattle.reg_terms.specs.declared.rows.MemberRow.{MemberRow}
 use Rattle.reg_facts.specs.Edits.{windowed}
 use Rattle.reg_terms.specs.Rows.{is_row, has_row}
@@ -14,7 +15,7 @@ use Rattle.reg_effect.proofs.Edits.{row_is}
 use Rattle.reg_current.specs.declared.dated_rows.DatedRows.{DatedRows}
 use Rattle.reg_current.specs.declared.dates.Dates.{Dates}
 use Rattle.reg_current.specs.Dates.{begins_at, ends_at}
-use Rattle.reg_current.specs.Coming.{has_dated, same_dated, FindsAfter, FindsDates, LosesRows, LosesDates}
+use Rattle.reg_current.specs.Coming.{has_dated, same_dated, FindsAfter, AreFound, LosesRows, LosesDates}
 
 -- ---- a row at a date that lies later than the clock
 pub before : (a b : ℕ) (r : Bool) → r ≡ is_lt (nat_cmp a b) → r ≡ true → a < b
@@ -114,12 +115,14 @@ lost_after old new test clock gone rows left finds lost same d g m =
     turned false b c = refl
 
 -- the dates of a row that goes
-pub row_lost : (old new : Dates) (row : MemberRow) → LosesDates old new (row ∷ []) → (clock g : ℕ) (m : Member) (rows : List MemberRow) → FindsDates old clock rows → AreRowsOnce rows → find (is_row g m) rows ≡ Some row → FindsDates new clock (filter (λ (r : MemberRow). not (is_row g m r)) rows)
-row_lost old new row lost clock g m rows finds once is =
+pub row_lost : (old new : Dates) (row : MemberRow) → LosesDates old new (row ∷ []) → (clock g : ℕ) (m : Member) (rows : List MemberRow) (grants : List GrantRow) → AreFound old clock rows grants → AreRowsOnce rows → find (is_row g m) rows ≡ Some row → AreFound new clock (filter (λ (r : MemberRow). not (is_row g m r)) rows) grants
+row_lost old new row lost clock g m rows grants finds once is =
     let left : List MemberRow = filter (λ (r : MemberRow). not (is_row g m r)) rows in
     record {
       begins = lost_after old.begins new.begins begins_at clock (row ∷ []) rows left finds.begins lost.begins (λ d x n. one_less (begins_at d) g x m n row rows once is);
       ends = lost_after old.ends new.ends ends_at clock (row ∷ []) rows left finds.ends lost.ends (λ d x n. one_less (ends_at d) g x m n row rows once is);
+      grant_begins = rw lost.grant_begins finds.grant_begins;
+      grant_ends = rw lost.grant_ends finds.grant_ends;
     }
 
 -- ---- a row that has other dates
@@ -160,8 +163,10 @@ windowed_after set test clock from until g m rows has finds d x n =
     last false false = refl
 
 -- a row with other dates is the row less, and then one more
-pub windowed_finds : (dates : Dates) (clock from : ℕ) (until : Option ℕ) (g : ℕ) (m : Member) (rows : List MemberRow) → has_row g m rows ≡ true → FindsDates dates clock (filter (λ (row : MemberRow). not (is_row g m row)) rows ++ (record { group = g; member = m; from = from; until = until }) ∷ []) → FindsDates dates clock (map (windowed from until g m) rows)
-windowed_finds dates clock from until g m rows has finds = record {
+pub windowed_finds : (dates : Dates) (clock from : ℕ) (until : Option ℕ) (g : ℕ) (m : Member) (rows : List MemberRow) (grants : List GrantRow) → has_row g m rows ≡ true → AreFound dates clock (filter (λ (row : MemberRow). not (is_row g m row)) rows ++ (record { group = g; member = m; from = from; until = until }) ∷ []) grants → AreFound dates clock (map (windowed from until g m) rows) grants
+windowed_finds dates clock from until g m rows grants has finds = record {
   begins = windowed_after dates.begins begins_at clock from until g m rows has finds.begins;
   ends = windowed_after dates.ends ends_at clock from until g m rows has finds.ends;
+  grant_begins = finds.grant_begins;
+  grant_ends = finds.grant_ends;
 }

@@ -25,9 +25,10 @@ use Rattle.reg_effect.proofs.Graphs.{acyclic_fewer}
 use Rattle.reg_effect.proofs.LiveOf.{empty_sorted, where_sorted, where_has, one_rows}
 use Rattle.reg_effect.proofs.LiveLaws.{live_rows, composites_same}
 use Rattle.reg_effect.proofs.Standing.{acyclic_permuted, edge_stands, edge_row, row_of_facts, live_acyclic}
-use Rattle.reg_current.specs.Dates.{begins_at, ends_at, earlier, with_date, with_end, due, without_ended, ending, beginning, date_changes}
+use Rattle.reg_current.specs.Dates.{begins_at, ends_at, without_ended, ending, beginning, date_changes}
 use Rattle.reg_current.specs.Invariant.{IsOpen}
 use Rattle.reg_current.specs.Live.{live}
+use Rattle.reg_current.proofs.Due.{IsStill}
 use Rattle.reg_current.proofs.ChangesJoined.{changed_by_append, suit_append}
 use Rattle.reg_current.proofs.RowsInTurn.{taken, put, changed_all_off, changed_all_on, all_taken_sorted, all_put_sorted, all_taken_has, all_put_has, suit_all_off, suit_all_on}
 
@@ -38,91 +39,6 @@ each P Q h (x ∷ xs) a = (h x a.0, each P Q h xs a.1)
 both : {X : Type 0} (P Q R : X → Type 0) → ((x : X) → P x → Q x → R x) → (xs : List X) → AllByRecursion P xs → AllByRecursion Q xs → AllByRecursion R xs
 both P Q R h [] a b = tt
 both P Q R h (x ∷ xs) a b = (h x a.0 b.0, both P Q R h xs a.1 b.1)
-
--- ---- the first date after a moment
-module _ (a b : ℕ) where
-  -- a date that was found lies after the one moment and up to the other
-  abbrev Within : Option ℕ → Type 0
-  Within None = Unit {0}
-  Within (Some e) = (a < e) × (e ≤ b)
-
-  -- a number isn't after the moment and before what was found
-  abbrev Passes : Option ℕ → ℕ → Type 0
-  Passes None x = (x ≤ a) ⊎ (b < x)
-  Passes (Some e) x = (x ≤ a) ⊎ (e ≤ x)
-
-  counts : (x : ℕ) → (nat_lt a x && nat_le x b) ≡ true → (a < x) × (x ≤ b)
-  counts x t = let w = and_parts (nat_lt a x) (nat_le x b) t in (ltb-true a x w.0, leb-true x b w.1)
-
-  counts_not : (x : ℕ) → (nat_lt a x && nat_le x b) ≡ false → (x ≤ a) ⊎ (b < x)
-  counts_not x f = elim (cases_Bool (nat_lt a x)) [
-    | inl t ↦ let g : nat_le x b ≡ false = rw t at f in inr (leb-false x b g)
-    | inr n ↦ inl (let l : x ≤ a = grind (arith, nat_tests, common_steps) in l)
-  ]
-
-  earlier_within : (x : ℕ) (found : Option ℕ) → a < x → x ≤ b → Within found → Within (earlier x found)
-  earlier_within x None l h w = (l, h)
-  earlier_within x (Some e) l h w = let after = w.0 in let k : a < min x e = omega arith in let m : min x e ≤ b = omega arith in (k, m)
-
-  date_within : (x : ℕ) (found : Option ℕ) → Within found → Within (with_date a b x found)
-  date_within x found w = elim (cases_Bool (nat_lt a x && nat_le x b)) [
-    | inl t ↦ let c = counts x t in rw t (earlier_within x found c.0 c.1 w)
-    | inr f ↦ rw f w
-  ]
-
-  end_within : (until : Option ℕ) (found : Option ℕ) → Within found → Within (with_end a b until found)
-  end_within None found w = w
-  end_within (Some u) found w = date_within u found w
-
-  due_within : (rows : List MemberRow) → Within (due a b rows)
-  due_within [] = tt
-  due_within (row ∷ rows) = date_within row.from (with_end a b row.until (due a b rows)) (end_within row.until (due a b rows) (due_within rows))
-
-  earlier_passes : (x y : ℕ) (found : Option ℕ) → x ≤ b → Passes found y → Passes (earlier x found) y
-  earlier_passes x y None h (inl l) = inl l
-  earlier_passes x y None h (inr l) = inr (let k : x ≤ y = omega arith in k)
-  earlier_passes x y (Some e) h (inl l) = inl l
-  earlier_passes x y (Some e) h (inr l) = inr (let k : min x e ≤ y = omega arith in k)
-
-  date_passes : (x y : ℕ) (found : Option ℕ) → Passes found y → Passes (with_date a b x found) y
-  date_passes x y found p = elim (cases_Bool (nat_lt a x && nat_le x b)) [
-    | inl t ↦ rw t (earlier_passes x y found (counts x t).1 p)
-    | inr f ↦ rw f p
-  ]
-
-  end_passes : (until : Option ℕ) (y : ℕ) (found : Option ℕ) → Passes found y → Passes (with_end a b until found) y
-  end_passes None y found p = p
-  end_passes (Some u) y found p = date_passes u y found p
-
-  earlier_own : (x : ℕ) (found : Option ℕ) → Passes (earlier x found) x
-  earlier_own x None = inr (let k : x ≤ x = omega arith in k)
-  earlier_own x (Some e) = inr (let k : min x e ≤ x = omega arith in k)
-
-  later_own : (x : ℕ) (found : Option ℕ) → (x ≤ a) ⊎ (b < x) → Within found → Passes found x
-  later_own x None p w = p
-  later_own x (Some e) (inl l) w = inl l
-  later_own x (Some e) (inr l) w = inr (let k : e ≤ x = omega arith in k)
-
-  date_own : (x : ℕ) (found : Option ℕ) → Within found → Passes (with_date a b x found) x
-  date_own x found w = elim (cases_Bool (nat_lt a x && nat_le x b)) [
-    | inl t ↦ rw t (earlier_own x found)
-    | inr f ↦ rw f (later_own x found (counts_not x f) w)
-  ]
-
-  due_passes : (rows : List MemberRow) → AllByRecursion (λ (row : MemberRow). Passes (due a b rows) row.from) rows
-  due_passes [] = tt
-  due_passes (row ∷ rows) = (
-    date_own row.from (with_end a b row.until (due a b rows)) (end_within row.until (due a b rows) (due_within rows)),
-    each (λ (r : MemberRow). Passes (due a b rows) r.from) (λ (r : MemberRow). Passes (due a b (row ∷ rows)) r.from)
-        (λ r p. date_passes row.from r.from (with_end a b row.until (due a b rows)) (end_passes row.until r.from (due a b rows) p)) rows (due_passes rows),
-  )
-
--- it lies after the moment, and no row begins between the two
-later_due : (a b d : ℕ) (rows : List MemberRow) → due a b rows ≡ Some d → a < d
-later_due a b d rows h = let w : Within a b (Some d) = subst (Within a b) h (due_within a b rows) in w.0
-
-none_between : (a b d : ℕ) (rows : List MemberRow) → due a b rows ≡ Some d → AllByRecursion (λ (row : MemberRow). (row.from ≤ a) ⊎ (d ≤ row.from)) rows
-none_between a b d rows h = subst (λ o. AllByRecursion (λ (row : MemberRow). Passes a b o row.from) rows) h (due_passes a b rows)
 
 -- ---- one row at the date
 -- what a row is before the date and at it
@@ -231,10 +147,10 @@ pub where_none : (test : MemberRow → Bool) (rows : List MemberRow) → list_an
 where_none test [] h = refl
 where_none test (r ∷ rs) h = let parts = or_parts (test r) (list_any test rs) h in rw parts.0 (where_none test rs parts.1)
 
--- ---- the date that comes
-module _ (a b d : ℕ) (f : Lists) (first : due a b f.rows ≡ Some d) (ends : AllByRecursion (IsOpen a) f.rows) (sound : IsSound f) where
+-- ---- the date that comes, between which and the moment no row begins or ends
+module _ (a d : ℕ) (f : Lists) (later : a < d) (still : AllByRecursion (IsStill a d) f.rows) (ends : AllByRecursion (IsOpen a) f.rows) (sound : IsSound f) where
   each_turns : AllByRecursion (Turns a d) f.rows
-  each_turns = both (λ (row : MemberRow). (row.from ≤ a) ⊎ (d ≤ row.from)) (IsOpen a) (Turns a d) (λ row p o. turns a d row (later_due a b d f.rows first) p o) f.rows (none_between a b d f.rows first) ends
+  each_turns = both (IsStill a d) (IsOpen a) (Turns a d) (λ row s o. turns a d row later s.begins o) f.rows still ends
 
   -- whether a row was on before
   abbrev was_on : MemberRow → Bool

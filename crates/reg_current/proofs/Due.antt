@@ -1,9 +1,11 @@
--- The least date of rows after one moment and up to another: what it tells of each row, and from and up to which other moments it is the same.
+-- The least date of rows and grants after one moment and up to another: what it tells of each of them, and from and up to which other moments it is the same.
 use Rattle.std.proofs.Common.{◌≡◌, ◌<◌, ◌≤◌, ◌⊎◌, ◌==◌, ◌&&◌, ◌||◌, ℕ, suc, List, [], ◌∷◌, Bool, true, false, Option, Some, None, IfSome, min, nat_lt, nat_le, arith, refl, ◌∙◌, ap, inl, inr, eq-eqb, ne_eqb}
 use Rattle.std.proofs.lemmas.Bool.{cases_Bool, cases_lt, or_parts, or_from, or_left, or_right, and_parts, and_from, both_ways, ltb-true, leb-true, lt-ltb, le-leb}
 use Rattle.std.specs.List.{list_any, AllByRecursion}
+use Rattle.reg_terms.specs.declared.rows.GrantRow.{GrantRow}
 use Rattle.reg_terms.specs.declared.rows.MemberRow.{MemberRow}
-use Rattle.reg_current.specs.Dates.{begins_at, ends_at, earlier, with_date, with_end, due, is_dated, has_date, IsFree, IsLeast}
+use Rattle.reg_facts.specs.Lists.{Lists}
+use Rattle.reg_current.specs.Dates.{begins_at, ends_at, earlier, earliest, with_date, with_end, due_row, due_grant, due, is_dated, is_grant_dated, has_date, IsFree, IsLeast}
 
 -- what is found of dates: none, or the least
 abbrev pub Finds : ℕ → ℕ → (ℕ → Bool) → Option ℕ → Type 0
@@ -62,32 +64,84 @@ finds_same : (a b : ℕ) (has other : ℕ → Bool) (found : Option ℕ) → ((d
 finds_same a b has other None s h = λ d p q. s d ∙ h d p q
 finds_same a b has other (Some c) s h = record { later = h.later; within = h.within; dated = s c ∙ h.dated; none_before = λ e p q. s e ∙ h.none_before e p q }
 
+-- a beginning or an end more, if there is one
+abbrev dated_by : Option ℕ → ℕ → Bool
+dated_by o d = elim o [ None ↦ false | Some u ↦ u == d ]
+
+end_more : (a b : ℕ) (o : Option ℕ) (has : ℕ → Bool) (found : Option ℕ) → Finds a b has found → Finds a b (λ d. dated_by o d || has d) (with_end a b o found)
+end_more a b None has found h = finds_same a b has _ found (λ d. refl) h
+end_more a b (Some u) has found h = one_more a b u has found h
+
+over : (x y z : Bool) → ((x || y) || z) ≡ (x || (y || z))
+over true y z = refl
+over false y z = refl
+
 -- the dates of a row more
 row_more : (a b : ℕ) (row : MemberRow) (has : ℕ → Bool) (found : Option ℕ) → Finds a b has found → Finds a b (λ d. is_dated d row || has d) (with_date a b row.from (with_end a b row.until found))
-row_more a b row has found h = go row.until
-  where
-    go : (until : Option ℕ) → Finds a b (λ d. ((row.from == d) || elim until [ None ↦ false | Some u ↦ u == d ]) || has d) (with_date a b row.from (with_end a b until found))
-    go None = finds_same a b (with_one row.from has) _ (with_date a b row.from found) (λ d. once (row.from == d) (has d)) (one_more a b row.from has found h)
-      where
-        once : (x y : Bool) → ((x || false) || y) ≡ (x || y)
-        once true y = refl
-        once false y = refl
-    go (Some u) = finds_same a b (with_one row.from (with_one u has)) _ (with_date a b row.from (with_date a b u found)) (λ d. over (row.from == d) (u == d) (has d)) (one_more a b row.from (with_one u has) (with_date a b u found) (one_more a b u has found h))
-      where
-        over : (x y z : Bool) → ((x || y) || z) ≡ (x || (y || z))
-        over true y z = refl
-        over false y z = refl
+row_more a b row has found h =
+    finds_same a b (with_one row.from (λ d. dated_by row.until d || has d)) (λ d. is_dated d row || has d) (with_date a b row.from (with_end a b row.until found)) (λ d. over (row.from == d) (dated_by row.until d) (has d))
+    (one_more a b row.from (λ d. dated_by row.until d || has d) (with_end a b row.until found) (end_more a b row.until has found h))
 
--- what is due is none, or the least date of the rows
-pub due_finds : (a b : ℕ) (rows : List MemberRow) → Finds a b (has_date rows) (due a b rows)
-due_finds a b [] = λ d p q. refl
-due_finds a b (row ∷ rows) = row_more a b row (has_date rows) (due a b rows) (due_finds a b rows)
+-- and of a grant
+grant_more : (a b : ℕ) (row : GrantRow) (has : ℕ → Bool) (found : Option ℕ) → Finds a b has found → Finds a b (λ d. is_grant_dated d row || has d) (with_end a b row.from (with_end a b row.until found))
+grant_more a b row has found h =
+    finds_same a b (λ d. dated_by row.from d || (dated_by row.until d || has d)) (λ d. is_grant_dated d row || has d) (with_end a b row.from (with_end a b row.until found)) (λ d. over (dated_by row.from d) (dated_by row.until d) (has d))
+    (end_more a b row.from (λ d. dated_by row.until d || has d) (with_end a b row.until found) (end_more a b row.until has found h))
 
-pub due_none : (a b : ℕ) (rows : List MemberRow) → due a b rows ≡ None → IsFree a b (has_date rows)
-due_none a b rows e = rw e at (due_finds a b rows)
+-- of what is found of two kinds of dates the earlier is found of both
+both_found : (a b : ℕ) (has other : ℕ → Bool) (x y : Option ℕ) → Finds a b has x → Finds a b other y → Finds a b (λ d. has d || other d) (earliest x y)
+both_found a b has other None None h k = λ d p q. or_from (has d) (other d) (h d p q) (k d p q)
+both_found a b has other None (Some e) h k = record {
+  later = k.later;
+  within = k.within;
+  dated = or_right (has e) (other e) k.dated;
+  none_before = λ x p q. or_from (has x) (other x) (h x p (let w = k.within in omega arith)) (k.none_before x p q);
+}
+both_found a b has other (Some c) None h k = record {
+  later = h.later;
+  within = h.within;
+  dated = or_left (has c) (other c) h.dated;
+  none_before = λ x p q. or_from (has x) (other x) (h.none_before x p q) (k x p (let w = h.within in omega arith));
+}
+both_found a b has other (Some c) (Some e) h k = elim (cases_lt e c) [
+  | inl s ↦
+      let m : min c e ≡ e = omega arith in
+      rw m (record {
+        later = k.later;
+        within = k.within;
+        dated = or_right (has e) (other e) k.dated;
+        none_before = λ x p q. or_from (has x) (other x) (h.none_before x p (omega arith)) (k.none_before x p q);
+      })
+  | inr s ↦
+      let m : min c e ≡ c = omega arith in
+      rw m (record {
+        later = h.later;
+        within = h.within;
+        dated = or_left (has c) (other c) h.dated;
+        none_before = λ x p q. or_from (has x) (other x) (h.none_before x p q) (k.none_before x p (omega arith));
+      })
+]
 
-pub due_some : (a b d : ℕ) (rows : List MemberRow) → due a b rows ≡ Some d → IsLeast a b (has_date rows) d
-due_some a b d rows e = rw e at (due_finds a b rows)
+-- what is due of rows is none, or their least date
+pub due_row_finds : (a b : ℕ) (rows : List MemberRow) → Finds a b (λ d. list_any (is_dated d) rows) (due_row a b rows)
+due_row_finds a b [] = λ d p q. refl
+due_row_finds a b (row ∷ rows) = row_more a b row (λ d. list_any (is_dated d) rows) (due_row a b rows) (due_row_finds a b rows)
+
+-- and so is what is due of grants
+pub due_grant_finds : (a b : ℕ) (rows : List GrantRow) → Finds a b (λ d. list_any (is_grant_dated d) rows) (due_grant a b rows)
+due_grant_finds a b [] = λ d p q. refl
+due_grant_finds a b (row ∷ rows) = grant_more a b row (λ d. list_any (is_grant_dated d) rows) (due_grant a b rows) (due_grant_finds a b rows)
+
+-- what is due is none, or the least date of the facts
+pub due_finds : (a b : ℕ) (f : Lists) → Finds a b (has_date f) (due a b f)
+due_finds a b f =
+    both_found a b (λ d. list_any (is_dated d) f.rows) (λ d. list_any (is_grant_dated d) f.grants) (due_row a b f.rows) (due_grant a b f.grants) (due_row_finds a b f.rows) (due_grant_finds a b f.grants)
+
+pub due_none : (a b : ℕ) (f : Lists) → due a b f ≡ None → IsFree a b (has_date f)
+due_none a b f e = rw e at (due_finds a b f)
+
+pub due_some : (a b d : ℕ) (f : Lists) → due a b f ≡ Some d → IsLeast a b (has_date f) d
+due_some a b d f e = rw e at (due_finds a b f)
 
 -- no two are found
 found_one : (a b : ℕ) (has : ℕ → Bool) (x y : Option ℕ) → Finds a b has x → Finds a b has y → x ≡ y
@@ -103,29 +157,29 @@ found_one a b has (Some c) (Some d) h k = elim (cases_lt c d) [
 ]
 
 -- and so what is none or the least is due
-pub due_none_from : (a b : ℕ) (rows : List MemberRow) → IsFree a b (has_date rows) → due a b rows ≡ None
-due_none_from a b rows h = found_one a b (has_date rows) (due a b rows) None (due_finds a b rows) h
+pub due_none_from : (a b : ℕ) (f : Lists) → IsFree a b (has_date f) → due a b f ≡ None
+due_none_from a b f h = found_one a b (has_date f) (due a b f) None (due_finds a b f) h
 
-pub due_some_from : (a b d : ℕ) (rows : List MemberRow) → IsLeast a b (has_date rows) d → due a b rows ≡ Some d
-due_some_from a b d rows h = found_one a b (has_date rows) (due a b rows) (Some d) (due_finds a b rows) h
+pub due_some_from : (a b d : ℕ) (f : Lists) → IsLeast a b (has_date f) d → due a b f ≡ Some d
+due_some_from a b d f h = found_one a b (has_date f) (due a b f) (Some d) (due_finds a b f) h
 
 -- ---- other moments
 
-pub due_nowhere : (a : ℕ) (rows : List MemberRow) → due a a rows ≡ None
-due_nowhere a rows = due_none_from a a rows (λ d p q. absurd (omega arith))
+pub due_nowhere : (a : ℕ) (f : Lists) → due a a f ≡ None
+due_nowhere a f = due_none_from a a f (λ d p q. absurd (omega arith))
 
 -- the least stays the least up to any other moment that it doesn't come after
-pub due_up_to : (a b c d : ℕ) (rows : List MemberRow) → due a b rows ≡ Some d → d ≤ c → due a c rows ≡ Some d
-due_up_to a b c d rows e w = let h = due_some a b d rows e in due_some_from a c d rows (record { later = h.later; within = w; dated = h.dated; none_before = h.none_before })
+pub due_up_to : (a b c d : ℕ) (f : Lists) → due a b f ≡ Some d → d ≤ c → due a c f ≡ Some d
+due_up_to a b c d f e w = let h = due_some a b d f e in due_some_from a c d f (record { later = h.later; within = w; dated = h.dated; none_before = h.none_before })
 
 -- where none is due up to a moment, it is the same to begin there
-pub due_from : (a b c : ℕ) (rows : List MemberRow) → due a b rows ≡ None → a ≤ b → due b c rows ≡ due a c rows
-due_from a b c rows e p = found_one a c (has_date rows) (due b c rows) (due a c rows) (go (due b c rows) (due_finds b c rows)) (due_finds a c rows)
+pub due_from : (a b c : ℕ) (f : Lists) → due a b f ≡ None → a ≤ b → due b c f ≡ due a c f
+due_from a b c f e p = found_one a c (has_date f) (due b c f) (due a c f) (go (due b c f) (due_finds b c f)) (due_finds a c f)
   where
-    free : IsFree a b (has_date rows)
-    free = due_none a b rows e
+    free : IsFree a b (has_date f)
+    free = due_none a b f e
 
-    go : (found : Option ℕ) → Finds b c (has_date rows) found → Finds a c (has_date rows) found
+    go : (found : Option ℕ) → Finds b c (has_date f) found → Finds a c (has_date f) found
     go None h = λ d l w. elim (cases_lt b d) [ inl s ↦ h d s w | inr s ↦ free d l s ]
     go (Some d) h = let l = h.later in record {
       later = omega arith;
@@ -133,8 +187,6 @@ due_from a b c rows e p = found_one a c (has_date rows) (due b c rows) (due a c 
       dated = h.dated;
       none_before = λ x k w. elim (cases_lt b x) [ inl s ↦ h.none_before x s w | inr s ↦ free x k s ];
     }
-
--- ---- by begins and ends
 
 -- ---- row by row
 
@@ -164,14 +216,51 @@ still_row a b row none = record {
     ending (Some u) h = apart_from a b u (λ p q. both_ways (u == u) (h u p q) (eq-eqb u u refl))
 
 -- such a date is one of no row, and conversely
-pub still_rows : (a b : ℕ) (rows : List MemberRow) → ((d : ℕ) → a < d → d < b → has_date rows d ≡ false) → AllByRecursion (IsStill a b) rows
+pub still_rows : (a b : ℕ) (rows : List MemberRow) → ((d : ℕ) → a < d → d < b → list_any (is_dated d) rows ≡ false) → AllByRecursion (IsStill a b) rows
 still_rows a b [] none = tt
-still_rows a b (row ∷ rows) none = (still_row a b row (λ d p q. (or_parts (is_dated d row) (has_date rows d) (none d p q)).0), still_rows a b rows (λ d p q. (or_parts (is_dated d row) (has_date rows d) (none d p q)).1))
+still_rows a b (row ∷ rows) none = (still_row a b row (λ d p q. (or_parts (is_dated d row) (list_any (is_dated d) rows) (none d p q)).0), still_rows a b rows (λ d p q. (or_parts (is_dated d row) (list_any (is_dated d) rows) (none d p q)).1))
 
--- where none is due no row begins or ends, and conversely
-pub none_still : (a b : ℕ) (rows : List MemberRow) → due a b rows ≡ None → AllByRecursion (IsStill a (suc b)) rows
-none_still a b rows e = let h = due_none a b rows e in still_rows a (suc b) rows (λ d p q. h d p (omega arith))
+-- a grant neither begins nor ends between two moments
+pub record IsGrantStill (a b : ℕ) (row : GrantRow) : Type 0 where
+  pub begins : IfSome row.from (IsApart a b)
+  pub ends : IfSome row.until (IsApart a b)
+
+still_date : (a b : ℕ) (o : Option ℕ) → ((d : ℕ) → a < d → d < b → dated_by o d ≡ false) → IfSome o (IsApart a b)
+still_date a b None h = tt
+still_date a b (Some u) h = apart_from a b u (λ p q. both_ways (u == u) (h u p q) (eq-eqb u u refl))
+
+pub still_grants : (a b : ℕ) (rows : List GrantRow) → ((d : ℕ) → a < d → d < b → list_any (is_grant_dated d) rows ≡ false) → AllByRecursion (IsGrantStill a b) rows
+still_grants a b [] none = tt
+still_grants a b (row ∷ rows) none = (
+  record {
+    begins = still_date a b row.from (λ d p q. (or_parts (dated_by row.from d) (dated_by row.until d) (here d p q)).0);
+    ends = still_date a b row.until (λ d p q. (or_parts (dated_by row.from d) (dated_by row.until d) (here d p q)).1);
+  },
+  still_grants a b rows (λ d p q. (or_parts (is_grant_dated d row) (list_any (is_grant_dated d) rows) (none d p q)).1),
+)
+  where
+    here : (d : ℕ) → a < d → d < b → is_grant_dated d row ≡ false
+    here d p q = (or_parts (is_grant_dated d row) (list_any (is_grant_dated d) rows) (none d p q)).0
+
+-- ---- of the facts
+
+-- a date that the facts don't have is one of no row, and of no grant
+pub no_row_dated : (f : Lists) (d : ℕ) → has_date f d ≡ false → list_any (is_dated d) f.rows ≡ false
+no_row_dated f d h = (or_parts (list_any (is_dated d) f.rows) (list_any (is_grant_dated d) f.grants) h).0
+
+pub no_grant_dated : (f : Lists) (d : ℕ) → has_date f d ≡ false → list_any (is_grant_dated d) f.grants ≡ false
+no_grant_dated f d h = (or_parts (list_any (is_dated d) f.rows) (list_any (is_grant_dated d) f.grants) h).1
+
+-- where none is due no row begins or ends, and no grant
+pub none_still : (a b : ℕ) (f : Lists) → due a b f ≡ None → AllByRecursion (IsStill a (suc b)) f.rows
+none_still a b f e = let h = due_none a b f e in still_rows a (suc b) f.rows (λ d p q. no_row_dated f d (h d p (omega arith)))
+
+pub none_still_grants : (a b : ℕ) (f : Lists) → due a b f ≡ None → AllByRecursion (IsGrantStill a (suc b)) f.grants
+none_still_grants a b f e = let h = due_none a b f e in still_grants a (suc b) f.grants (λ d p q. no_grant_dated f d (h d p (omega arith)))
 
 -- nor before what is due
-pub some_still : (a b d : ℕ) (rows : List MemberRow) → due a b rows ≡ Some d → AllByRecursion (IsStill a d) rows
-some_still a b d rows e = still_rows a d rows (due_some a b d rows e).none_before
+pub some_still : (a b d : ℕ) (f : Lists) → due a b f ≡ Some d → AllByRecursion (IsStill a d) f.rows
+some_still a b d f e = let h = due_some a b d f e in still_rows a d f.rows (λ x p q. no_row_dated f x (h.none_before x p q))
+
+pub some_still_grants : (a b d : ℕ) (f : Lists) → due a b f ≡ Some d → AllByRecursion (IsGrantStill a d) f.grants
+some_still_grants a b d f e = let h = due_some a b d f e in still_grants a d f.grants (λ x p q. no_grant_dated f x (h.none_before x p q))

@@ -13,6 +13,10 @@ pub mod Linking
 pub mod Unlinking
 pub mod RowsGone
 pub mod DatedPlaces
+pub mod GrantOrder
+pub mod KeyOrder
+pub mod GrantPlaces
+pub mod ComingGrants
 pub mod FirstDates
 pub mod DatesGone
 pub mod ComingRows
@@ -21,3 +25,6 @@ pub mod Carrying
 pub mod Acting
 pub mod Beginning
 pub mod Touches
+pub mod GrantsInTurn
+pub mod NextDate
+pub mod DateEvents

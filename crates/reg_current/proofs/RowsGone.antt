@@ -17,7 +17,7 @@ use Rattle.reg_effect.specs.Changes.{rows_where}
 use Rattle.reg_effect.specs.Standing.{pair_of, RowsOnce}
 use Rattle.reg_effect.proofs.Edits.{row_is}
 use Rattle.reg_effect.proofs.LiveOf.{where_sorted, where_has, empty_sorted, none_after, row_self, row_turned}
-use Rattle.reg_current.specs.Dates.{ends_at, ending, pair_gone, without_ended}
+use Rattle.reg_current.specs.Dates.{ends_at, ending, pair_gone}
 use Rattle.reg_current.specs.Holding.{AllHold}
 use Rattle.reg_current.proofs.Unlinking.{group_pairs}
 
@@ -76,7 +76,7 @@ unfolding rows_left
 removed_rows [] f = refl
 removed_rows (p ∷ ps) f = removed_rows ps (happened (RowRemoved p.0 p.1) f)
 
-filter_twice : {X : Type 0} (first then : X → Bool) (xs : List X) → filter then (filter first xs) ≡ filter (λ x. first x && then x) xs
+pub filter_twice : {X : Type 0} (first then : X → Bool) (xs : List X) → filter then (filter first xs) ≡ filter (λ x. first x && then x) xs
 filter_twice first then [] = refl
 filter_twice first then (x ∷ xs) =
     let rest = filter_twice first then xs in
@@ -88,11 +88,11 @@ filter_twice first then (x ∷ xs) =
       | inr f ↦ rw (f, rest) refl
     ]
 
-filter_none : {X : Type 0} (xs : List X) → filter (λ x. true) xs ≡ xs
+pub filter_none : {X : Type 0} (xs : List X) → filter (λ x. true) xs ≡ xs
 filter_none [] = refl
 filter_none (x ∷ xs) = ap (λ ys. x ∷ ys) (filter_none xs)
 
-filter_same_in : {X : Type 0} (p q : X → Bool) (xs : List X) → AllByRecursion (λ x. p x ≡ q x) xs → filter p xs ≡ filter q xs
+pub filter_same_in : {X : Type 0} (p q : X → Bool) (xs : List X) → AllByRecursion (λ x. p x ≡ q x) xs → filter p xs ≡ filter q xs
 filter_same_in p q [] a = refl
 filter_same_in p q (x ∷ xs) a =
     let rest = filter_same_in p q xs a.1 in
@@ -161,7 +161,12 @@ where_removed : (test : MemberRow → Bool) (f : Lists) → RowsOnce f.rows → 
 where_removed test f o = removed_rows (rows_where test f.rows []) f ∙ (let g : List MemberRow → Lists = λ rows. record f { rows = rows } in ap g (left_failing test f.rows o))
 
 -- ---- the rows that end at a date
-pub ending_removed : (d : ℕ) (f : Lists) → RowsOnce f.rows → all_removed (ending d f.rows) f ≡ without_ended d f
+
+-- the facts without them
+abbrev pub rows_ended : ℕ → Lists → Lists
+rows_ended d f = record f { rows = filter (λ (row : MemberRow). not (ends_at d row)) f.rows }
+
+pub ending_removed : (d : ℕ) (f : Lists) → RowsOnce f.rows → all_removed (ending d f.rows) f ≡ rows_ended d f
 ending_removed d f o = where_removed (ends_at d) f o
 
 pub ending_hold : (at d : ℕ) (f : Lists) → AllHold at (map pair_gone (ending d f.rows)) f

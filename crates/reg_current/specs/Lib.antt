@@ -1,5 +1,6 @@
 pub mod Live
 pub mod Members
+pub mod Numbers
 pub mod Dates
 pub mod Coming
 pub mod Circles

@@ -1,5 +1,5 @@
 // What stands at a moment: the facts, and all that is kept beside them.
-ghost use Rattle.std.specs.Prelude.{◌≡◌, ◌+◌, ◌≤◌, ◌<◌, false, map, IfOk, OnOk, None, Some};
+ghost use Rattle.std.specs.Prelude.{◌≡◌, ◌+◌, ◌≤◌, ◌<◌, false, IfOk, OnOk, None, Some};
 ghost use Rattle.std.specs.List.{AllByRecursion};
 ghost use Rattle.std.specs.List.Sorted.{IsPermutation};
 ghost use Rattle.reg_terms.specs.Rows as terms;
@@ -15,17 +15,17 @@ ghost use Rattle.reg_priv.specs.Touched.{KnowsTouched};
 ghost use Rattle.reg_current.specs.Circles as circles;
 ghost use Rattle.reg_current.specs.Circles.{ClosesNone};
 ghost use Rattle.reg_current.specs.Coming.{FindsDates};
-ghost use Rattle.reg_current.specs.Dates.{beginning, date_changes, due, ending, pair_gone};
-ghost use Rattle.reg_current.specs.Dates.{without_ended, IsNext};
+ghost use Rattle.reg_current.specs.Dates.{at_date, beginning, date_changes, date_events, due};
+ghost use Rattle.reg_current.specs.Dates.{IsNext};
 ghost use Rattle.reg_current.specs.Holding.{Holds, AllHold};
-ghost use Rattle.reg_current.specs.Invariant.{IsOpen};
+ghost use Rattle.reg_current.specs.Invariant.{IsOpen, IsGrantOpen};
 ghost use Rattle.reg_current.specs.Live.{live};
 ghost use Rattle.reg_current.specs.Steps.{changes_of, event_steps, events_steps};
 
 use crate::changes::carry_out;
 use crate::dates::Dates;
 use crate::edges::relink;
-use crate::ending::rows_gone;
+use crate::ending::events_at;
 use crate::redating::redate;
 use crate::touching::put_touched;
 use reg_base::{GroupId, Moment, Steps};
@@ -73,7 +73,7 @@ fn carry_beside<K: Kept, L: Ledger>(
     requires suits { Suits event.now facts.now }
     requires no_circle { ClosesNone event.now facts.now }
     requires stands { IsPermutation graph.old (standing facts.now.rows facts.now.composites) }
-    requires found { FindsDates dates.old at facts.now.rows }
+    requires found { FindsDates dates.old at facts.now }
     requires suit { SuitAll (changes_of at event.now (K.held kept)) (K.held kept) }
     ensures held { IfOk result (λ k. K.held k
         ≡ changed_by (changes_of at event.now (K.held kept)) (K.held kept)) }
@@ -82,7 +82,7 @@ fn carry_beside<K: Kept, L: Ledger>(
     ensures edges { OnOk result
         (IsPermutation graph.new
         (standing (happened event.now facts.now).rows (happened event.now facts.now).composites)) }
-    ensures coming { OnOk result (FindsDates dates.new at (happened event.now facts.now).rows) }
+    ensures coming { OnOk result (FindsDates dates.new at (happened event.now facts.now)) }
     ensures cost { OnOk result (steps.new
         ≤ steps.old + most_steps_of (changes_of at event.now (K.held kept)) (K.held kept)) }
 {
@@ -129,10 +129,10 @@ impl<K: Kept> Current<K> {
         &self.sets
     }
 
-    /// The next date of a membership, if it comes up to a moment. It is a look at the first dates
-    /// to come.
+    /// The next date of a membership or a grant, if it comes up to a moment. It is a look at the
+    /// first dates to come.
     pub fn next_date(&self, to: Moment) -> Option<Moment>
-        ensures { result ≡ due self.now.clock to self.now.facts.rows }
+        ensures { result ≡ due self.now.clock to self.now.facts }
     {
         self.dates.next(to)
     }
@@ -159,17 +159,27 @@ impl<K: Kept> Current<K> {
         let _ = &self.facts;
     }
 
-    /// The rows that end at the next date can go one after another, which leaves the others, and
-    /// the changes of live data that the date makes suit. It does nothing.
-    fn law_date(&self, date: Moment)
-        requires { due self.now.clock date self.now.facts.rows ≡ Some date }
-        ensures gone { all_happened (map pair_gone (ending date self.now.facts.rows)) self.now.facts
-            ≡ without_ended date self.now.facts }
+    /// A grant that hasn't begun begins later than now, and each grant ends later than now, and
+    /// after it begins. It does nothing.
+    pub fn law_grants_open(&self)
+        ensures { AllByRecursion (IsGrantOpen self.now.clock) self.now.facts.grants }
+    {
+        let _ = &self.facts;
+    }
+
+    /// The events of the next date can happen one after another, and make it, and the changes of
+    /// live data that the date makes suit. It does nothing.
+    pub fn law_date(&self, date: Moment)
+        requires { due self.now.clock date self.now.facts ≡ Some date }
+        ensures hold { AllHold self.now.clock (date_events date self.now.facts) self.now.facts }
+        ensures gone { all_happened (date_events date self.now.facts) self.now.facts
+            ≡ at_date date self.now.facts }
         ensures suit { SuitAll (date_changes date self.now.facts)
             (live self.now.clock self.now.facts) }
     {
         let _date = date;
         self.facts.law_sound();
+        self.facts.law_held();
         self.graph.acyclic();
     }
 
@@ -286,15 +296,16 @@ impl<K: Kept> Current<K> {
         Ok(current)
     }
 
-    /// Goes on to a date, before which no date comes and at which no membership ends: those that
-    /// begin there come on. It takes at most the steps of these.
+    /// Goes on to a date, before which no date comes, and at which no membership ends and no grant
+    /// begins or ends: the memberships that begin there come on. It takes at most the steps of
+    /// these.
     fn begin<L: Ledger>(
         self,
         date: Moment,
         turned: &mut Turned,
         steps: &mut Steps<L>,
     ) -> Result<Current<K>, AllocError>
-        requires { IsNext self.clock date self.facts.rows }
+        requires { IsNext self.clock date self.facts }
         ensures moved { IfOk result (λ c. c ≡ record { clock = date; facts = self.facts }) }
         ensures told { IfOk result (λ c. (M : Live)
             → Remembers M (live self.clock self.facts) turned.old
@@ -324,18 +335,17 @@ impl<K: Kept> Current<K> {
         Ok(current)
     }
 
-    /// The memberships that end at the next date go, one after another.
-    pub fn ending(&self, alloc: Global, date: Moment) -> Result<Vec<Event>, AllocError>
+    /// The events of the next date: the memberships and the grants that end there go, and then the
+    /// grants that begin there are on.
+    pub fn date_events(&self, alloc: Global, date: Moment) -> Result<Vec<Event>, AllocError>
         requires { self.now.clock < date }
-        ensures { IfOk result (λ events. events.items
-            ≡ map pair_gone (ending date self.now.facts.rows)) }
+        ensures { IfOk result (λ events. events.items ≡ date_events date self.now.facts) }
     {
-        let ending = self.dates.ending(date)?;
-        rows_gone(alloc, &ending)
+        events_at(alloc, &self.dates, &self.facts, self.moment, date)
     }
 
-    /// Goes on to the next date: the memberships that end there, whose events these are, go, and
-    /// those that begin there come on. It takes at most the steps of these.
+    /// Goes on to the next date, whose events these are: what ends there goes, and what begins
+    /// there comes on. It takes at most the steps of the memberships among these.
     pub fn pass_date<L: Ledger>(
         self,
         alloc: Global,
@@ -345,10 +355,10 @@ impl<K: Kept> Current<K> {
         touched: &mut Vec<Object>,
         steps: &mut Steps<L>,
     ) -> Result<Current<K>, AllocError>
-        requires due { due self.clock date self.facts.rows ≡ Some date }
-        requires events { events.items ≡ map pair_gone (ending date self.facts.rows) }
+        requires due { due self.clock date self.facts ≡ Some date }
+        requires events { events.items ≡ date_events date self.facts }
         ensures moved { IfOk result (λ c. c
-            ≡ record { clock = date; facts = without_ended date self.facts }) }
+            ≡ record { clock = date; facts = at_date date self.facts }) }
         ensures told { IfOk result (λ c. (M : Live)
             → Remembers M (live self.clock self.facts) turned.old
             → Remembers M (live c.clock c.facts) turned.new) }
@@ -369,7 +379,7 @@ impl<K: Kept> Current<K> {
     /// Goes on to a moment up to which no date comes. Nothing else changes.
     pub fn wait(&mut self, to: Moment)
         requires later { self.old.clock ≤ to }
-        requires none { due self.old.clock to self.old.facts.rows ≡ None }
+        requires none { due self.old.clock to self.old.facts ≡ None }
         ensures { self.new ≡ record { clock = to; facts = self.old.facts } }
     {
         self.moment = to;

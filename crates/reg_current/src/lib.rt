@@ -4,6 +4,7 @@
 
 mod changes;
 mod current;
+mod dated_grants;
 mod dated_rows;
 mod dates;
 mod edges;

@@ -3,10 +3,10 @@ use Rattle.reg_current.proofs.Passing.{pass_none, pass_some, pass_then}
 use Rattle.reg_current.proofs.laws.law_dates.Goals as goal
 
 pub returns-clause-none : goal.returns-clause-none
-returns-clause-none c a b rows none = due_none a b rows none
+returns-clause-none c a b f none = due_none a b f none
 
 pub returns-clause-least : goal.returns-clause-least
-returns-clause-least c a b d rows first = due_some a b d rows first
+returns-clause-least c a b d f first = due_some a b d f first
 
 pub returns-clause-last : goal.returns-clause-last
 returns-clause-last c a b f none = pass_none a b f none

@@ -7,5 +7,5 @@ use Rattle.reg_current.proofs.redating.window_member.Goals as goal
 
 pub returns : goal.returns
 returns c =
-    on_ok c.add_row.result c.add_row.ensures (λ more. windowed_finds _ c.args.clock c.args.row.now.from c.args.row.now.until c.args.row.now.group c.args.row.now.member c.args.facts.now.rows c.requires.there
-    (more (filter (λ (row : MemberRow). not (is_row c.args.row.now.group c.args.row.now.member row)) c.args.facts.now.rows) c.drop_member.ensures))
+    on_ok c.add_row.result c.add_row.ensures (λ more. windowed_finds _ c.args.clock c.args.row.now.from c.args.row.now.until c.args.row.now.group c.args.row.now.member c.args.facts.now.rows c.args.facts.now.grants c.requires.there
+    (more (filter (λ (row : MemberRow). not (is_row c.args.row.now.group c.args.row.now.member row)) c.args.facts.now.rows) c.args.facts.now.grants c.drop_member.ensures))

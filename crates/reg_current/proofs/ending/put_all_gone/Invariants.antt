@@ -1,0 +1,7 @@
+use Rattle.std.proofs.Common.{◌≡◌, ◌++◌, map, drop}
+use Rattle.reg_current.specs.Dates.{grant_gone}
+use Rattle.reg_current.proofs.ending.put_all_gone.Given as goal
+
+-- the events so far, and those of the grants that are left, are all
+abbrev pub invariant-loop-key : goal.invariant-loop-key
+invariant-loop-key l = l.events.items ++ map grant_gone (drop l.key-index l.keys) ≡ l.fn.events.items ++ map grant_gone l.keys
