@@ -45,7 +45,7 @@ member_added_once : line_members 7 8 None (record (given (MemberAdd (codes "app:
 unfolding line_members request_members given
 member_added_once = refl
 
-grant_added : line_members 8 70 None (given (GrantAdd (codes "app") Update entity.Everyone))
+grant_added : line_members 8 70 None (given (GrantAdd (codes "app") Update entity.Everyone None None))
     ≡ member (codes "at") (string (text_of 0))
     (member (codes "by") (string (codes "uni/ann"))
     (member (codes "holder") (string (codes "g:isa/GrouperAll"))
@@ -56,6 +56,21 @@ grant_added : line_members 8 70 None (given (GrantAdd (codes "app") Update entit
     (member (codes "privilege") (string (codes "UPDATE")) no_members)))))))
 unfolding line_members request_members given
 grant_added = refl
+
+-- the same from a moment on and up to another
+grant_dated : line_members 8 70 None (given (GrantAdd (codes "app") Update entity.Everyone (Some 60) (Some 90)))
+    ≡ member (codes "at") (string (text_of 0))
+    (member (codes "by") (string (codes "uni/ann"))
+    (member (codes "from") (string (text_of 60))
+    (member (codes "holder") (string (codes "g:isa/GrouperAll"))
+    (member (codes "number") (number (unsigned 8))
+    (member (codes "object") (string (codes "app"))
+    (member (codes "op") (string (codes "grant.add"))
+    (member (codes "place") (number (unsigned 70))
+    (member (codes "privilege") (string (codes "UPDATE"))
+    (member (codes "until") (string (text_of 90)) no_members)))))))))
+unfolding line_members request_members given
+grant_dated = refl
 
 -- a rule, which has the id 3
 rule_made : line_members 9 132 (Some 3) (given (RuleEndLost (codes "app:x") (codes "app:y") 30))

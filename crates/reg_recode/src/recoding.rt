@@ -8,7 +8,7 @@ ghost use Rattle.reg_recode.specs.Recoded.{recoded_payload};
 
 use reg_base::{Bytes, Entity};
 use reg_terms::Stamped;
-use reg_wire::{dates_left_out, decode_old};
+use reg_wire::{dates_left_out, decode_old, format_1_leaves_dates_out};
 use std::alloc::{AllocError, Global};
 
 /// The least length that a frame's four bytes don't hold.
@@ -37,13 +37,14 @@ fn text_length(entity: &Entity) -> usize
 }
 
 /// The payload of format 2 of a command whose payload of format 1 the bytes are: the byte for no
-/// key comes behind who gave it, and its dates behind its fields.
+/// key comes behind who gave it, and the dates that format 1 leaves out behind its fields.
 #[tactic(auto, using(crate::proofs::Splices::long_enough, crate::proofs::Splices::spliced))]
 fn spliced(alloc: Global, bytes: &[u8], stamped: &Stamped) -> Result<Vec<u8>, AllocError>
     requires old { IsOld stamped.now }
     requires bytes { old_payload stamped.now ≡ bytes.now }
     ensures { IfOk result (λ made. made.items ≡ payload stamped.now) }
 {
+    format_1_leaves_dates_out();
     let mut made = Vec::with_capacity(alloc, bytes.len() + MORE)?;
     let (front, behind) = bytes.split_at(FRONT + text_length(&stamped.by));
     made.extend_from_slice(front)?;

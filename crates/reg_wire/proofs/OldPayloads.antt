@@ -1,41 +1,62 @@
 -- Format 1: each stamped command that is writable and that it has is of one payload there, and each payload is of one stamped command.
-use Rattle.std.proofs.Common.{◌≡◌, ℕ, true, cond, eqb, ◌&&◌, List, [], ◌∷◌, ◌++◌, length, Option, Some, None, refl, sym, ap, subst, ◌∙◌, append-nil}
-use Rattle.std.proofs.lemmas.Bool.{and_parts, eqb-true}
-use Rattle.std.proofs.lemmas.List.{nil_from_length}
+use Rattle.std.proofs.Common.{◌≡◌, ℕ, true, cond, List, [], ◌∷◌, ◌++◌, get_or, Option, Some, None, refl, sym, ap, subst, ◌∙◌, append-nil}
+use Rattle.std.specs.List.{flat_map}
+use Rattle.std.proofs.lemmas.Bool.{false≢true}
+use Rattle.std.proofs.lemmas.Grind.{flat_map-append}
+use Rattle.std.proofs.lemmas.List.{append_cancel_right}
 use Rattle.std.proofs.lemmas.Option.{cond_some, same_Some}
 use Rattle.reg_base.specs.declared.entity.Entity.{Entity}
 use Rattle.reg_terms.specs.declared.command.Command.{Command}
+use Rattle.reg_terms.specs.declared.command.Command.TheVariants.{GrantAdd}
 use Rattle.reg_terms.specs.declared.command.Stamped.{Stamped}
+use Rattle.reg_ops.specs.declared.field.Field.{Field}
+use Rattle.reg_ops.specs.declared.field.Field.TheVariants as field
 use Rattle.reg_ops.specs.Forms.{is_moment, is_entity, has_form, key_fits, takes_key}
 use Rattle.reg_ops.specs.Parts.{◌>>=◌}
-use Rattle.reg_wire.specs.Fields.{moment_bytes}
-use Rattle.reg_wire.specs.Reading.{moment_at, entity_at, command_of}
-use Rattle.reg_wire.specs.Payload.{command_bytes, IsWritable}
-use Rattle.reg_wire.specs.OldPayload.{is_old, IsOld, old_payload, old_command_of, old_stamped_at, stamped_of_old}
+use Rattle.reg_ops.specs.Table.{code_of}
+use Rattle.reg_wire.specs.Fields.{field_bytes, moment_bytes}
+use Rattle.reg_wire.specs.Reading.{moment_at, entity_at}
+use Rattle.reg_wire.specs.Payload.{command_bytes, fields_bytes, whole_command_of, IsWritable}
+use Rattle.reg_wire.specs.OldPayload.{is_old, IsOld, old_payload, old_command_bytes, old_command_of, old_stamped_at, stamped_of_old, left_out, left_out_behind, dates_left_out}
 use Rattle.reg_wire.proofs.Exact.{bind_some, moment_exact}
 use Rattle.reg_wire.proofs.Entities.{entity_bytes, entity_exact}
-use Rattle.reg_wire.proofs.Commands.{TableMakes, TableParts, command_takes, command_again}
+use Rattle.reg_wire.proofs.Commands.{TableMakes, TableParts}
+use Rattle.reg_wire.proofs.Payloads.{whole_again, whole_takes}
 
 -- ---- a payload is read again
 
-old_command_again : TableParts → (command : Command) → has_form command ≡ true → is_old command ≡ true → old_command_of (command_bytes command) ≡ Some command
-unfolding old_command_of
+-- the bytes of a command are those of format 1, and behind them what that leaves out
+pub old_whole : (c : Command) → is_old c ≡ true → old_command_bytes c ++ dates_left_out c ≡ command_bytes c
+unfolding old_command_bytes command_bytes fields_bytes
+old_whole (GrantAdd object privilege holder (Some from) until) old = absurd (false≢true old)
+old_whole (GrantAdd object privilege holder None (Some until)) old = absurd (false≢true old)
+old_whole (GrantAdd object privilege holder None None) old =
+    let told : List Field = field.Object object ∷ field.Privilege privilege ∷ field.Entity holder ∷ [] in
+    let untold : List Field = field.OptionalMoment None ∷ field.OptionalMoment None ∷ [] in
+    ap (λ (l : List ℕ). 15 ∷ l) (sym (flat_map-append field_bytes told untold))
+old_whole _ old = append-nil _
+
+-- what is read as a command is one that format 1 has
+then_old : (o : Option Command) (c : Command) → o ≡ Some c → is_old c ≡ true → (o >>= λ found. cond (is_old found) (Some found) None) ≡ Some c
+then_old o c is old = rw (is, old) refl
+
+old_command_again : TableParts → (command : Command) → has_form command ≡ true → is_old command ≡ true → old_command_of (old_command_bytes command) ≡ Some command
+unfolding old_command_of old_command_bytes
 old_command_again table command form old =
-    let behind : command_of (command_bytes command) ≡ Some (command, []) = ap command_of (sym (append-nil (command_bytes command))) ∙ command_again table command [] form in
-    rw (behind, old) refl
+    then_old (whole_command_of (old_command_bytes command ++ dates_left_out command)) command (ap whole_command_of (old_whole command old) ∙ whole_again table command form) old
 
 abbrev made_of : ℕ → Entity → Option (List ℕ) → Command → Stamped
 made_of moment by key command = record { at = moment; by = by; key = key; command = command }
 
 -- what stands behind the moment of a stamped command
 abbrev behind_bytes : Stamped → List ℕ
-behind_bytes stamped = entity_bytes stamped.by ++ command_bytes stamped.command
+behind_bytes stamped = entity_bytes stamped.by ++ old_command_bytes stamped.command
 
 old_stamped_again : TableParts → (stamped : Stamped) → IsWritable stamped → IsOld stamped → old_stamped_at stamped.at (behind_bytes stamped) ≡ Some stamped
 unfolding old_stamped_at
 old_stamped_again table stamped h old =
     let keyless : Some (made_of stamped.at stamped.by None stamped.command) ≡ Some stamped = ap (λ (key : Option (List ℕ)). Some (made_of stamped.at stamped.by key stamped.command)) (sym old.key) in
-    rw (entity_exact.again stamped.by (command_bytes stamped.command) h.caller, old_command_again table stamped.command h.command old.command) keyless
+    rw (entity_exact.again stamped.by (old_command_bytes stamped.command) h.caller, old_command_again table stamped.command h.command old.command) keyless
 
 -- the payload of a writable command reads back as that command
 pub old_reads_back : TableParts → (stamped : Stamped) → IsWritable stamped → IsOld stamped → stamped_of_old (old_payload stamped) ≡ Some stamped
@@ -52,16 +73,23 @@ record IsBehind (moment : ℕ) (bytes : List ℕ) (stamped : Stamped) : Type 0 w
   pub form : has_form stamped.command ≡ true
   pub old : IsOld stamped
 
-old_command_takes : TableMakes → (bytes : List ℕ) (command : Command) → old_command_of bytes ≡ Some command → (bytes ≡ command_bytes command) × (has_form command ≡ true) × (is_old command ≡ true)
+-- without what is left out behind them
+cut : (bytes : List ℕ) (c : Command) → is_old c ≡ true → bytes ++ left_out_behind bytes ≡ command_bytes c → bytes ≡ old_command_bytes c
+unfolding command_bytes
+cut [] c old e = absurd cc
+cut (b ∷ rest) c old e =
+    let first : b ≡ code_of c = ap (λ (l : List ℕ). get_or l 0 0) e in
+    let whole : (b ∷ rest) ++ left_out b ≡ old_command_bytes c ++ left_out b = e ∙ sym (old_whole c old) ∙ ap (λ (n : ℕ). old_command_bytes c ++ left_out n) (sym first) in
+    append_cancel_right (b ∷ rest) (old_command_bytes c) (left_out b) whole
+
+old_command_takes : TableMakes → (bytes : List ℕ) (command : Command) → old_command_of bytes ≡ Some command → (bytes ≡ old_command_bytes command) × (has_form command ≡ true) × (is_old command ≡ true)
 unfolding old_command_of
 old_command_takes table bytes command e =
-    let c = bind_some (command_of bytes) (λ found. cond (eqb (length found.1) 0 && is_old found.0) (Some found.0) None) command e in
-    let g = cond_some (eqb (length c.0.1) 0 && is_old c.0.0) c.0.0 command c.2 in
-    let both = and_parts (eqb (length c.0.1) 0) (is_old c.0.0) g.0 in
-    let nothing : c.0.1 ≡ [] = nil_from_length c.0.1 (eqb-true _ _ both.0) in
-    let r = command_takes table bytes c.0 c.1 in
-    let parts : bytes ≡ command_bytes c.0.0 = r.0 ∙ ap (λ (l : List ℕ). command_bytes c.0.0 ++ l) nothing ∙ append-nil (command_bytes c.0.0) in
-    subst (λ (found : Command). (bytes ≡ command_bytes found) × (has_form found ≡ true) × (is_old found ≡ true)) g.1 (parts, r.1, both.1)
+    let whole = bytes ++ left_out_behind bytes in
+    let c = bind_some (whole_command_of whole) (λ found. cond (is_old found) (Some found) None) command e in
+    let g = cond_some (is_old c.0) c.0 command c.2 in
+    let r = whole_takes table whole c.0 c.1 in
+    subst (λ (found : Command). (bytes ≡ old_command_bytes found) × (has_form found ≡ true) × (is_old found ≡ true)) g.1 (cut bytes c.0 g.0 r.0, r.1, g.0)
 
 old_stamped_takes : TableMakes → (moment : ℕ) (bytes : List ℕ) (stamped : Stamped) → old_stamped_at moment bytes ≡ Some stamped → IsBehind moment bytes stamped
 unfolding old_stamped_at

@@ -1,14 +1,12 @@
 -- Each stamped command that is writable has one payload, and each payload is of one stamped command.
-use Rattle.std.proofs.Common.{◌≡◌, ℕ, ◌+◌, ◌*◌, ◌^◌, ◌<◌, ◌≤◌, zero, suc, true, cond, List, [], ◌∷◌, ◌++◌, length, Option, Some, None, refl, sym, ap, subst, ◌∙◌, arith, lit≤}
+use Rattle.std.proofs.Common.{◌≡◌, ℕ, ◌+◌, ◌*◌, ◌^◌, ◌<◌, ◌≤◌, zero, suc, true, cond, eqb, List, [], ◌∷◌, ◌++◌, length, Option, Some, None, refl, sym, ap, subst, ◌∙◌, append-nil, arith, lit≤}
 use Rattle.std.specs.List.{list_all, flat_map}
-use Rattle.std.specs.Str.{bytes_eq}
-use Rattle.std.proofs.lemmas.Bool.{and_parts}
-use Rattle.std.proofs.lemmas.List.{length-append}
+use Rattle.std.proofs.lemmas.Bool.{and_parts, eqb-true}
+use Rattle.std.proofs.lemmas.List.{length-append, nil_from_length}
 use Rattle.std.proofs.lemmas.Option.{cond_some, same_Some}
-use Rattle.std.proofs.lemmas.Slice.Eq.{bytes_eq-Decides}
 use Rattle.reg_base.specs.declared.entity.Entity.{Entity}
 use Rattle.reg_terms.specs.declared.command.Command.{Command}
-use Rattle.reg_terms.specs.declared.command.Command.TheVariants.{GrantAdd, Load}
+use Rattle.reg_terms.specs.declared.command.Command.TheVariants.{Load}
 use Rattle.reg_terms.specs.declared.command.Stamped.{Stamped}
 use Rattle.reg_terms.specs.declared.kinds.DefKind.{DefKind}
 use Rattle.reg_terms.specs.declared.kinds.DefKind.TheVariants.{Marker, Integer, Text, Timestamp}
@@ -27,7 +25,7 @@ use Rattle.reg_ops.specs.Parts.{◌>>=◌}
 use Rattle.reg_ops.specs.Table.{fields_of, code_of}
 use Rattle.reg_wire.specs.Fields.{entity_text, key_bytes, moment_bytes, field_bytes}
 use Rattle.reg_wire.specs.Reading.{moment_at, entity_at, key_at, command_of}
-use Rattle.reg_wire.specs.Payload.{listed, AreFew, fields_bytes, command_bytes, dates_left_out, IsWritable, payload, whole_command_of, stamped_at, stamped_of}
+use Rattle.reg_wire.specs.Payload.{listed, AreFew, fields_bytes, command_bytes, IsWritable, payload, whole_command_of, stamped_at, stamped_of}
 use Rattle.reg_wire.proofs.Texts.{name_short, folder_short, extension_short, source_short, display_short}
 use Rattle.reg_wire.proofs.Exact.{bind_some, moment_exact}
 use Rattle.reg_wire.proofs.Entities.{entity_short, entity_bytes, entity_exact}
@@ -38,23 +36,20 @@ use Rattle.reg_wire.proofs.Commands.{TableMakes, TableParts, command_takes, comm
 
 -- ---- a payload is read again
 
--- what stands behind the key
-abbrev whole_bytes : Command → List ℕ
-whole_bytes command = command_bytes command ++ dates_left_out command
-
 -- what stands behind the moment
 abbrev behind_bytes : Stamped → List ℕ
-behind_bytes stamped = entity_bytes stamped.by ++ (key_bytes stamped.key ++ whole_bytes stamped.command)
+behind_bytes stamped = entity_bytes stamped.by ++ (key_bytes stamped.key ++ command_bytes stamped.command)
 
-whole_again : TableParts → (command : Command) → has_form command ≡ true → whole_command_of (whole_bytes command) ≡ Some command
+pub whole_again : TableParts → (command : Command) → has_form command ≡ true → whole_command_of (command_bytes command) ≡ Some command
 unfolding whole_command_of
 whole_again table command form =
-    rw (command_again table command (dates_left_out command) form, (bytes_eq-Decides (dates_left_out command) (dates_left_out command)).1 refl) refl
+    let behind : command_of (command_bytes command) ≡ Some (command, []) = ap command_of (sym (append-nil (command_bytes command))) ∙ command_again table command [] form in
+    rw behind refl
 
 stamped_again : TableParts → (stamped : Stamped) → IsWritable stamped → stamped_at stamped.at (behind_bytes stamped) ≡ Some stamped
 unfolding stamped_at
 stamped_again table stamped h =
-    rw (entity_exact.again stamped.by (key_bytes stamped.key ++ whole_bytes stamped.command) h.caller, key_exact.again stamped.key (whole_bytes stamped.command) (writable_key stamped h), whole_again table stamped.command h.command, h.key) refl
+    rw (entity_exact.again stamped.by (key_bytes stamped.key ++ command_bytes stamped.command) h.caller, key_exact.again stamped.key (command_bytes stamped.command) (writable_key stamped h), whole_again table stamped.command h.command, h.key) refl
 
 -- the payload of a writable command reads back as that command
 pub reads_back : TableParts → (stamped : Stamped) → IsWritable stamped → stamped_of (payload stamped) ≡ Some stamped
@@ -71,15 +66,15 @@ record IsBehind (moment : ℕ) (bytes : List ℕ) (stamped : Stamped) : Type 0 w
   pub key : key_fits (takes_key stamped.command) stamped.key ≡ true
   pub form : has_form stamped.command ≡ true
 
-whole_takes : TableMakes → (bytes : List ℕ) (command : Command) → whole_command_of bytes ≡ Some command → (bytes ≡ whole_bytes command) × (has_form command ≡ true)
+pub whole_takes : TableMakes → (bytes : List ℕ) (command : Command) → whole_command_of bytes ≡ Some command → (bytes ≡ command_bytes command) × (has_form command ≡ true)
 unfolding whole_command_of
 whole_takes table bytes command e =
-    let c = bind_some (command_of bytes) (λ found. cond (bytes_eq found.1 (dates_left_out found.0)) (Some found.0) None) command e in
-    let g = cond_some (bytes_eq c.0.1 (dates_left_out c.0.0)) c.0.0 command c.2 in
-    let dates : c.0.1 ≡ dates_left_out c.0.0 = (bytes_eq-Decides c.0.1 (dates_left_out c.0.0)).0 g.0 in
+    let c = bind_some (command_of bytes) (λ found. cond (eqb (length found.1) 0) (Some found.0) None) command e in
+    let g = cond_some (eqb (length c.0.1) 0) c.0.0 command c.2 in
+    let nothing : c.0.1 ≡ [] = nil_from_length c.0.1 (eqb-true _ _ g.0) in
     let r = command_takes table bytes c.0 c.1 in
-    let parts : bytes ≡ whole_bytes c.0.0 = r.0 ∙ ap (λ (l : List ℕ). command_bytes c.0.0 ++ l) dates in
-    subst (λ (found : Command). (bytes ≡ whole_bytes found) × (has_form found ≡ true)) g.1 (parts, r.1)
+    let parts : bytes ≡ command_bytes c.0.0 = r.0 ∙ ap (λ (l : List ℕ). command_bytes c.0.0 ++ l) nothing ∙ append-nil (command_bytes c.0.0) in
+    subst (λ (found : Command). (bytes ≡ command_bytes found) × (has_form found ≡ true)) g.1 (parts, r.1)
 
 abbrev made_of : ℕ → Entity → Option (List ℕ) → Command → Stamped
 made_of moment by key command = record { at = moment; by = by; key = key; command = command }
@@ -99,7 +94,7 @@ stamped_takes table moment bytes stamped e =
     let p = entity_exact.takes bytes a.0 a.1 in
     let q = key_exact.takes a.0.1 k.0 k.1 in
     let r = whole_takes table k.0.1 c.0 c.1 in
-    let last : a.0.1 ≡ key_bytes k.0.0 ++ whole_bytes c.0 = q.0 ∙ ap (λ (l : List ℕ). key_bytes k.0.0 ++ l) r.0 in
+    let last : a.0.1 ≡ key_bytes k.0.0 ++ command_bytes c.0 = q.0 ∙ ap (λ (l : List ℕ). key_bytes k.0.0 ++ l) r.0 in
     subst (IsBehind moment bytes) g.1 (record {
       at_moment = refl;
       parts = p.0 ∙ ap (λ (l : List ℕ). entity_bytes a.0.0 ++ l) last;
@@ -200,15 +195,11 @@ fields_list : (c : Command) → items_of (fields_of c) ≡ listed c
 fields_list (Load job created removed added) = omega arith
 fields_list _ = refl
 
-dates_short : (c : Command) → length (dates_left_out c) ≤ 2
-dates_short (GrantAdd object privilege holder) = lit≤ tt
-dates_short _ = lit≤ tt
-
 -- a payload has fewer than 2 ^ 32 bytes, where no load in it lists more than there may be
 pub payload_short : TableParts → (stamped : Stamped) → IsWritable stamped → AreFew stamped.command → length (payload stamped) < 2 ^ 32
 unfolding payload command_bytes fields_bytes has_form
 payload_short table stamped h few =
     let fields = flat_map field_bytes (fields_of stamped.command) in
-    let whole = code_of stamped.command ∷ (fields ++ dates_left_out stamped.command) in
+    let whole = code_of stamped.command ∷ fields in
     let behind = key_bytes stamped.key ++ whole in
-    omega (arith, few, entity_short stamped.by h.caller, key_short stamped.key (writable_key stamped h), fields_short (fields_of stamped.command) h.command, fields_list stamped.command, (table stamped.command).few, length-append (entity_text stamped.by) behind, length-append (key_bytes stamped.key) whole, length-append fields (dates_left_out stamped.command), dates_short stamped.command)
+    omega (arith, few, entity_short stamped.by h.caller, key_short stamped.key (writable_key stamped h), fields_short (fields_of stamped.command) h.command, fields_list stamped.command, (table stamped.command).few, length-append (entity_text stamped.by) behind, length-append (key_bytes stamped.key) whole)

@@ -1,4 +1,4 @@
--- Payloads of a load, of a grant and of a union worked by hand, byte by byte, the first two in both formats.
+-- Payloads of a load, of grants and of a union worked by hand, byte by byte, of a load and of a grant in both formats.
 use Rattle.std.proofs.Common.{◌≡◌, ℕ, List, [], ◌∷◌, ◌++◌, codes, Some, None, refl}
 use Rattle.reg_base.specs.declared.entity.Entity.TheVariants.{Person, System}
 use Rattle.reg_base.specs.declared.privilege.Privilege.TheVariants.{Create}
@@ -7,7 +7,7 @@ use Rattle.reg_terms.specs.declared.command.Stamped.{Stamped}
 use Rattle.reg_terms.specs.declared.kinds.SetOp.TheVariants.{Union}
 use Rattle.reg_terms.specs.declared.lists.LoadRow.{LoadRow}
 use Rattle.reg_wire.specs.Payload.{fields_bytes, command_bytes, payload}
-use Rattle.reg_wire.specs.OldPayload.{old_payload}
+use Rattle.reg_wire.specs.OldPayload.{old_command_bytes, old_payload}
 
 row : List ℕ → List ℕ → LoadRow
 row group person = record { group = group; person = person }
@@ -44,7 +44,7 @@ unfolding payload command_bytes fields_bytes load row stamp job created removed 
 load_written = refl
 
 load_in_format_1 : old_payload load ≡ stamp ++ job ++ created ++ removed ++ added
-unfolding old_payload command_bytes fields_bytes load row stamp job created removed added
+unfolding old_payload old_command_bytes load row stamp job created removed added
 load_in_format_1 = refl
 
 -- ann may make what is in the folder app, from the same moment on
@@ -53,7 +53,7 @@ grant = record {
   at = 1756684800000000;
   by = System;
   key = None;
-  command = GrantAdd (codes "app") Create (Person (codes "uni/ann"));
+  command = GrantAdd (codes "app") Create (Person (codes "uni/ann")) None None;
 }
 
 -- the code, the folder, the privilege and its holder
@@ -66,8 +66,25 @@ unfolding payload command_bytes fields_bytes grant stamp given
 grant_written = refl
 
 grant_in_format_1 : old_payload grant ≡ stamp ++ given
-unfolding old_payload command_bytes fields_bytes grant stamp given
+unfolding old_payload old_command_bytes grant stamp given
 grant_in_format_1 = refl
+
+-- the same a day later, until the day after
+dated : Stamped
+dated = record {
+  at = 1756684800000000;
+  by = System;
+  key = None;
+  command = GrantAdd (codes "app") Create (Person (codes "uni/ann")) (Some 1756771200000000) (Some 1756857600000000);
+}
+
+-- the beginning and the end, each behind a byte that says that there is one
+dates : List ℕ
+dates = 1 ∷ 0 ∷ 224 ∷ 83 ∷ 43 ∷ 198 ∷ 61 ∷ 6 ∷ 0 ∷ 1 ∷ 0 ∷ 64 ∷ 43 ∷ 73 ∷ 218 ∷ 61 ∷ 6 ∷ 0 ∷ []
+
+dated_written : payload dated ≡ stamp ++ 0 ∷ given ++ dates
+unfolding payload command_bytes fields_bytes dated stamp given dates
+dated_written = refl
 
 -- app:z has who is in app:x or in app:y, by a command that was given under the key r-1
 union : Stamped

@@ -1,18 +1,16 @@
 -- The payload of a stamped command in format 2: its moment, who gave it, its key if it has one, its
--- op's code and its fields, one behind the other, and behind those of a grant its two dates.
-use Rattle.std.specs.Prelude.{◌≡◌, ◌≤◌, ◌+◌, ℕ, List, [], ◌∷◌, ◌++◌, true, if◌then◌else◌, length}
+-- op's code and its fields, one behind the other.
+use Rattle.std.specs.Prelude.{◌≡◌, ◌≤◌, ◌+◌, ◌==◌, ℕ, List, ◌∷◌, ◌++◌, true, if◌then◌else◌, length}
 use Rattle.std.specs.Prelude.{Option, Some, None}
 use Rattle.std.specs.List.{flat_map}
-use Rattle.std.specs.Str.{bytes_eq}
 use Rattle.reg_terms.specs.declared.command.Command.{Command}
-use Rattle.reg_terms.specs.declared.command.Command.TheVariants.{GrantAdd, Load}
+use Rattle.reg_terms.specs.declared.command.Command.TheVariants.{Load}
 use Rattle.reg_terms.specs.declared.command.Stamped.{Stamped}
 use Rattle.reg_ops.specs.Forms.{is_moment, is_entity, has_form, key_fits, takes_key}
 use Rattle.reg_terms.specs.Limits.{max_groups, max_records, max_rows}
 use Rattle.reg_ops.specs.Parts.{◌>>=◌}
 use Rattle.reg_ops.specs.Table.{fields_of, code_of}
-use Rattle.reg_wire.specs.Fields.{entity_text, field_bytes, key_bytes, moment_bytes}
-use Rattle.reg_wire.specs.Fields.{optional_moment_bytes, text_bytes}
+use Rattle.reg_wire.specs.Fields.{entity_text, field_bytes, key_bytes, moment_bytes, text_bytes}
 use Rattle.reg_wire.specs.Reading.{entity_at, moment_at, key_at, command_of}
 
 -- the bytes of a command's fields
@@ -23,18 +21,11 @@ fields_bytes command = flat_map field_bytes (fields_of command)
 unfoldable pub command_bytes : Command → List ℕ
 command_bytes command = code_of command ∷ fields_bytes command
 
--- the dates behind the fields of a grant that is added: a beginning and an end, each left out
-abbrev pub dates_left_out : Command → List ℕ
-dates_left_out (GrantAdd object privilege holder) =
-    optional_moment_bytes None ++ optional_moment_bytes None
-dates_left_out _ = []
-
 -- the bytes of a stamped command
 unfoldable pub payload : Stamped → List ℕ
 payload stamped =
     moment_bytes stamped.at ++ (text_bytes (entity_text stamped.by)
-    ++ (key_bytes stamped.key
-    ++ (command_bytes stamped.command ++ dates_left_out stamped.command)))
+    ++ (key_bytes stamped.key ++ command_bytes stamped.command))
 
 -- a stamped command that has a payload: its moment, who gave it, its key and each field have their
 -- forms, and no load has a key
@@ -58,7 +49,7 @@ AreFew command = listed command ≤ max_groups + max_rows + max_records
 unfoldable pub whole_command_of : List ℕ → Option Command
 whole_command_of bytes = do
   command ← command_of bytes
-  if bytes_eq command.1 (dates_left_out command.0) then Some command.0 else None
+  if length command.1 == 0 then Some command.0 else None
 
 -- the stamped command of a moment and what is behind it, all of it
 unfoldable pub stamped_at : ℕ → List ℕ → Option Stamped

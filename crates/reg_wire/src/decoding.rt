@@ -5,7 +5,6 @@ ghost use Rattle.reg_wire.specs.Payload.{payload, stamped_at, stamped_of, whole_
 ghost use Rattle.reg_wire.specs.Payload.{IsWritable};
 ghost use Rattle.reg_terms.specs.declared.command.Stamped.{Stamped};
 
-use crate::encoding::dates_left_out;
 use crate::fault::ReadFault;
 use crate::fields::{entity_at, key_at, moment_at};
 use crate::reading::command_of;
@@ -16,14 +15,14 @@ use std::alloc::{AllocError, Global};
 
 /// The command that the bytes are, all of them.
 #[tactic(auto, unfolding(crate::specs::Payload::whole_command_of))]
-fn whole_command_of(alloc: Global, bytes: &[u8]) -> Result<Command, ReadFault>
+pub(crate) fn whole_command_of(alloc: Global, bytes: &[u8]) -> Result<Command, ReadFault>
     ensures { Gives (λ command. command) result (whole_command_of bytes.now) }
 {
     let (command, rest) = match command_of(alloc, bytes) {
         Ok(found) => found,
         Err(fault) => return Err(fault),
     };
-    if rest != dates_left_out(&command) {
+    if !rest.is_empty() {
         drop(command);
         return Err(ReadFault::Malformed);
     }

@@ -12,7 +12,7 @@ ghost use Rattle.reg_wire.specs.Fields.{number_bytes, optional_moment_bytes, set
 ghost use Rattle.reg_wire.specs.Fields.{inherit_kind_bytes, scope_bytes, privilege_bytes};
 ghost use Rattle.reg_wire.specs.Fields.{owners_code, owners_bytes, flag_bytes, def_kind_bytes};
 ghost use Rattle.reg_wire.specs.Fields.{int_bytes, value_bytes, list_bytes, load_row_bytes};
-ghost use Rattle.reg_wire.specs.Payload.{fields_bytes, command_bytes, dates_left_out};
+ghost use Rattle.reg_wire.specs.Payload.{fields_bytes, command_bytes};
 ghost use Rattle.reg_wire.specs.Payload.{payload, IsWritable, AreFew};
 
 use crate::fields::{
@@ -321,7 +321,7 @@ fn put_fields(out: &mut Vec<u8>, fields: &[FieldRef<'_>]) -> Result<(), AllocErr
 }
 
 /// The code of a command's op.
-fn code_of(command: &Command) -> u8
+pub(crate) fn code_of(command: &Command) -> u8
     ensures { result ≡ code_of command.now }
 {
     command_row(kind_of(command)).code
@@ -347,16 +347,6 @@ fn put_command(out: &mut Vec<u8>, command: &Command) -> Result<(), AllocError>
     put_fields_of(out, command)
 }
 
-/// The two dates behind the fields of a grant, each left out; nothing behind those of others.
-pub fn dates_left_out(command: &Command) -> &'static [u8]
-    ensures { result.now ≡ dates_left_out command.now }
-{
-    match command {
-        Command::GrantAdd { .. } => b"\0\0",
-        _ => b"",
-    }
-}
-
 /// The payload of a stamped command, before its length is told.
 #[tactic(auto, using(crate::proofs::Keys::writable_key), unfolding(crate::specs::Payload::payload))]
 fn payload(alloc: Global, stamped: &Stamped) -> Result<Vec<u8>, AllocError>
@@ -368,7 +358,6 @@ fn payload(alloc: Global, stamped: &Stamped) -> Result<Vec<u8>, AllocError>
     put_entity(&mut out, &stamped.by)?;
     put_key(&mut out, &stamped.key)?;
     put_command(&mut out, &stamped.command)?;
-    out.extend_from_slice(dates_left_out(&stamped.command))?;
     Ok(out)
 }
 

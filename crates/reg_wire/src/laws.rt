@@ -1,11 +1,12 @@
 // What holds of payloads, for crates above to cite: each law is the clause of a function that does
 // nothing.
-ghost use Rattle.std.specs.Prelude.{◌≡◌, ◌<◌, ◌^◌, ℕ, List, Some, true, length};
+ghost use Rattle.std.specs.Prelude.{◌≡◌, ◌++◌, ◌<◌, ◌^◌, ℕ, List, Some, true, length};
 ghost use Rattle.reg_terms.specs.declared.command.Command.{Command};
 ghost use Rattle.reg_terms.specs.declared.command.Stamped.{Stamped};
 ghost use Rattle.reg_ops.specs.Forms.{has_form};
 ghost use Rattle.reg_wire.specs.Payload.{command_bytes, payload, stamped_of, AreFew, IsWritable};
-ghost use Rattle.reg_wire.specs.OldPayload.{old_payload, stamped_of_old, IsOld};
+ghost use Rattle.reg_wire.specs.OldPayload.{old_payload, stamped_of_old, IsOld, is_old};
+ghost use Rattle.reg_wire.specs.OldPayload.{dates_left_out, old_command_bytes};
 
 use reg_ops::law_commands;
 
@@ -41,6 +42,12 @@ pub fn read_is_old_payload()
 {
     law_commands();
 }
+
+/// The bytes of a command in format 2 are those of format 1 and behind them what that leaves out.
+pub fn format_1_leaves_dates_out()
+    ensures { (command : Command) → is_old command ≡ true
+        → old_command_bytes command ++ dates_left_out command ≡ command_bytes command }
+{}
 
 /// A payload has fewer than 2^32 bytes, where no load in it lists more groups, rows and records
 /// than there may be.

@@ -1,27 +1,62 @@
 // Stamped commands from their payloads of format 1.
-ghost use Rattle.std.specs.Prelude.{◌≡◌, IfOk, IfSome, IfNone};
+ghost use Rattle.std.specs.Prelude.{◌≡◌, ◌++◌, IfOk, IfSome, IfNone};
 ghost use Rattle.reg_wire.specs.Steps.{Gives};
 ghost use Rattle.reg_wire.specs.Payload.{IsWritable};
 ghost use Rattle.reg_wire.specs.OldPayload.{old_payload, old_command_of, old_stamped_at, IsOld};
-ghost use Rattle.reg_wire.specs.OldPayload.{is_old, stamped_of_old};
+ghost use Rattle.reg_wire.specs.OldPayload.{is_old, stamped_of_old, left_out, left_out_behind};
+ghost use Rattle.reg_wire.specs.OldPayload.{dates_left_out};
 ghost use Rattle.reg_terms.specs.declared.command.Stamped.{Stamped};
 
+use crate::decoding::whole_command_of;
+use crate::encoding::code_of;
 use crate::fault::ReadFault;
 use crate::fields::{entity_at, moment_at};
-use crate::reading::command_of;
 use reg_base::Moment;
-use reg_ops::law_commands;
+use reg_ops::{CommandKind, command_row, law_commands};
 use reg_terms::{Command, SetOp, Stamped};
 use std::alloc::{AllocError, Global};
 
-/// Whether format 1 has the command: it has no union.
+/// Whether format 1 has the command: it has no union, and no date of a grant.
 fn is_old(command: &Command) -> bool
     ensures { result ≡ is_old command.now }
 {
     match command {
         Command::CompositeSet { kind, .. } => !matches!(kind, SetOp::Union),
+        Command::GrantAdd { from, until, .. } => from.is_none() && until.is_none(),
         _ => true,
     }
+}
+
+/// What format 1 leaves out behind the fields of a command of this code: of a grant that is added
+/// a beginning and an end, and neither of them is told.
+fn left_out(code: u8) -> &'static [u8]
+    ensures { result.now ≡ left_out code }
+{
+    if code == command_row(CommandKind::GrantAdd).code {
+        b"\0\0"
+    } else {
+        b""
+    }
+}
+
+/// What format 1 leaves out behind the fields of a command: the dates of a grant that is added, as
+/// format 2 has them where neither is told; nothing behind those of others.
+pub fn dates_left_out(command: &Command) -> &'static [u8]
+    ensures { result.now ≡ dates_left_out command.now }
+{
+    left_out(code_of(command))
+}
+
+/// The bytes of a command of format 1, and behind them what that leaves out.
+fn with_dates(alloc: Global, bytes: &[u8]) -> Result<Vec<u8>, AllocError>
+    ensures { IfOk result (λ whole. whole.items ≡ bytes.now ++ left_out_behind bytes.now) }
+{
+    let mut whole = Vec::new(alloc);
+    whole.extend_from_slice(bytes)?;
+    if let [code, ..] = bytes {
+        whole.extend_from_slice(left_out(*code))?;
+    }
+    Ok(whole)
 }
 
 /// The command of format 1 that the bytes are, all of them.
@@ -29,11 +64,15 @@ fn is_old(command: &Command) -> bool
 fn old_command_of(alloc: Global, bytes: &[u8]) -> Result<Command, ReadFault>
     ensures { Gives (λ command. command) result (old_command_of bytes.now) }
 {
-    let (command, rest) = match command_of(alloc, bytes) {
+    let whole = match with_dates(alloc, bytes) {
+        Ok(whole) => whole,
+        Err(_) => return Err(ReadFault::Memory),
+    };
+    let command = match whole_command_of(alloc, &whole) {
         Ok(found) => found,
         Err(fault) => return Err(fault),
     };
-    if !rest.is_empty() || !is_old(&command) {
+    if !is_old(&command) {
         drop(command);
         return Err(ReadFault::Malformed);
     }
