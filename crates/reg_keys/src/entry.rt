@@ -4,6 +4,7 @@ ghost use Rattle.std.specs.Prelude.{if◌then◌else◌};
 ghost use Rattle.std.specs.Str.{bytes_eq};
 ghost use Rattle.reg_keys.specs.Keys.{at_key, entry_in};
 
+use crate::caller::Caller;
 use std::alloc::{AllocError, Global};
 use std::collections::BTreeMap;
 
@@ -31,24 +32,10 @@ pub fn entry_of(start: u64, len: u64, number: u64, id: Option<u64>) -> Entry
     }
 }
 
-/// One key more of a caller. Out of memory the keys stay as they were.
-fn add_key(
-    keys: &mut BTreeMap<Vec<u8>, Entry>,
-    key: Vec<u8>,
-    entry: Entry,
-) -> Result<(), AllocError>
-    ensures added { OnOk result ((k : List ℕ) → at_key keys.new k
-        ≡ (if bytes_eq key.items k then Some entry else at_key keys.old k)) }
-    ensures err { OnErr result ((k : List ℕ) → at_key keys.new k ≡ at_key keys.old k) }
-{
-    keys.insert(key, entry)?;
-    Ok(())
-}
-
 /// Puts an entry under a caller and a key. Out of memory each caller has the keys that it had.
 pub fn add_entry(
     alloc: Global,
-    callers: &mut BTreeMap<Vec<u8>, BTreeMap<Vec<u8>, Entry>>,
+    callers: &mut BTreeMap<Vec<u8>, Caller>,
     by: &[u8],
     key: &[u8],
     entry: Entry,
@@ -61,7 +48,7 @@ pub fn add_entry(
 {
     let key = Vec::from_slice(alloc, key)?;
     if let Some(keys) = callers.get_mut(by) {
-        return add_key(keys, key, entry);
+        return keys.put(key, entry);
     }
     add_caller(alloc, callers, by, key, entry)
 }
@@ -69,7 +56,7 @@ pub fn add_entry(
 /// A caller's first key. Out of memory each caller has the keys that it had.
 fn add_caller(
     alloc: Global,
-    callers: &mut BTreeMap<Vec<u8>, BTreeMap<Vec<u8>, Entry>>,
+    callers: &mut BTreeMap<Vec<u8>, Caller>,
     by: &[u8],
     key: Vec<u8>,
     entry: Entry,
@@ -82,8 +69,8 @@ fn add_caller(
         ≡ entry_in callers.old b k) }
 {
     let by = Vec::from_slice(alloc, by)?;
-    let mut keys = BTreeMap::new(alloc);
-    add_key(&mut keys, key, entry)?;
+    let mut keys = Caller::new(alloc);
+    keys.put(key, entry)?;
     callers.insert(by, keys)?;
     Ok(())
 }

@@ -5,7 +5,8 @@ ghost use Rattle.std.specs.Str.{bytes_eq};
 ghost use Rattle.reg_keys.specs.declared.entry.Entry.{Entry};
 ghost use Rattle.reg_keys.specs.Keys.{entry_in};
 
-use crate::entry::{Entry, add_entry, entry_of};
+use crate::caller::Caller;
+use crate::entry::{add_entry, entry_of};
 use std::alloc::{AllocError, Global};
 use std::collections::BTreeMap;
 
@@ -22,7 +23,7 @@ pub struct Found<'a> {
 #[derive(Drop)]
 pub struct Keys {
     alloc: Global,
-    callers: BTreeMap<Vec<u8>, BTreeMap<Vec<u8>, Entry>>,
+    callers: BTreeMap<Vec<u8>, Caller>,
     // The commands, one behind the other.
     bytes: Vec<u8>,
     ghost inside: { (b k : List ℕ) (e : Entry) → entry_in callers b k ≡ Some e

@@ -2,6 +2,7 @@
 //! what it made, and the command's bytes. It is what finds the keys of requests.
 #![tactic(auto)]
 
+mod caller;
 mod entry;
 mod keys;
 
