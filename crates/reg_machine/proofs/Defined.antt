@@ -1,5 +1,5 @@
 -- At each moment up to the clock an attribute is of the definition that the steps tell.
-use Rattle.std.proofs.Common.{◌≡◌, ◌⊎◌, ◌≤◌, ◌<◌, ◌+◌, ◌==◌, ℕ, List, [], ◌∷◌, ◌++◌, true, false, not, Option, None, Some, nat_le, map, filter, if◌then◌else◌, arith, refl, sym, ◌∙◌, ap, subst, inl, inr}
+use Rattle.std.proofs.Common.{◌≡◌, ◌⊎◌, ◌≤◌, ◌<◌, ◌+◌, ◌==◌, ℕ, List, [], ◌∷◌, ◌++◌, true, false, not, Option, None, Some, nat_le, filter, if◌then◌else◌, arith, refl, sym, ◌∙◌, ap, subst, inl, inr}
 use Rattle.std.proofs.lemmas.Bool.{cases_Bool, eqb-true}
 use Rattle.std.proofs.lemmas.Bool.Decides.{nat_tests}
 use Rattle.std.proofs.lemmas.List.{append-nil, append_assoc}
@@ -9,7 +9,6 @@ use Rattle.reg_terms.specs.declared.command.Stamped.{Stamped}
 use Rattle.reg_terms.specs.declared.command.Command.{Command}
 use Rattle.reg_terms.specs.declared.event.Event.{Event}
 use Rattle.reg_terms.specs.declared.event.Event.TheVariants.{AttributeMade, AttributeGone}
-use Rattle.reg_terms.specs.declared.kinds.Member.{Member}
 use Rattle.reg_terms.specs.declared.rows.AttributeRow.{AttributeRow}
 use Rattle.reg_facts.specs.Attributes.{attribute_row}
 use Rattle.reg_facts.specs.Events.{all_happened, events_of, happened}
@@ -22,13 +21,14 @@ use Rattle.reg_audit.specs.Definitions.{all_attributes, attributes_made, definit
 use Rattle.reg_audit.specs.Steps.{Step}
 use Rattle.reg_effect.specs.Deltas as deltas
 use Rattle.reg_rules.specs.Settling.{settle}
-use Rattle.reg_current.specs.Dates.{date_passed, due, ending, pair_gone, pass, without_ended}
+use Rattle.reg_current.specs.Dates.{at_date, date_events, date_passed, due, pass}
 use Rattle.reg_machine.specs.Defining.{AreDefined}
 use Rattle.reg_machine.specs.History.{State, acted, facts}
 use Rattle.reg_current.specs.Holding.{AllHold}
 use Rattle.reg_machine.specs.Invariant.{IsBy}
 use Rattle.reg_current.specs.Live.{live}
 use Rattle.reg_machine.specs.Past.{command_step, date_step, def_of, steps}
+use Rattle.reg_machine.proofs.DateEvents.{each_date}
 use Rattle.reg_machine.proofs.Lived.{facts_earlier, none_before, none_within}
 use Rattle.reg_machine.proofs.Moments.{facts_push, next_comes, none_comes}
 use Rattle.reg_current.proofs.Due.{due_some}
@@ -173,7 +173,7 @@ settle_attributes pairs at f = ap (λ (x : Lists). x.attributes) (settle_is pair
 settle_count : (pairs : List (ℕ × ℕ)) (at : ℕ) (f : Lists) → (settle pairs at f).made.attributes ≡ f.made.attributes
 settle_count pairs at f = ap (λ (x : Lists). x.made.attributes) (settle_is pairs at f)
 
-pub defined_later : (history : List Stamped) (t u : ℕ) → AllByRecursion (IsBy t) history → AreDefined history t → t ≤ u → due t u (facts history t).rows ≡ None → AreDefined history u
+pub defined_later : (history : List Stamped) (t u : ℕ) → AllByRecursion (IsBy t) history → AreDefined history t → t ≤ u → due t u (facts history t) ≡ None → AreDefined history u
 defined_later history t u by h w none =
     let same = steps_none t u history by w none in
     record {
@@ -187,18 +187,21 @@ defined_later history t u by h w none =
     }
 
 -- a date makes nothing
-date_defines : (rows : List (ℕ × Member)) (a : ℕ) (known : Option ℕ) → defined_after a (map pair_gone rows) known ≡ known
-date_defines [] a known = refl
-date_defines (row ∷ rows) a known = date_defines rows a known
+none_defined : (a : ℕ) (es : List Event) (known : Option ℕ) → AllByRecursion (λ e. (k : Option ℕ) → defined_by a e k ≡ k) es → defined_after a es known ≡ known
+none_defined a [] known h = refl
+none_defined a (e ∷ es) known h = ap (defined_after a es) (h.0 known) ∙ none_defined a es known h.1
 
-pub defined_next : (history : List Stamped) (t d : ℕ) → AllByRecursion (IsBy t) history → AreDefined history t → due t d (facts history t).rows ≡ Some d → AreDefined history d
+date_defines : (a d : ℕ) (f : Lists) (known : Option ℕ) → defined_after a (date_events d f) known ≡ known
+date_defines a d f known = none_defined a (date_events d f) known (each_date (λ e. (k : Option ℕ) → defined_by a e k ≡ k) d f (record { row = λ g m k. refl; gone = λ grant k. refl; began = λ grant k. refl }))
+
+pub defined_next : (history : List Stamped) (t d : ℕ) → AllByRecursion (IsBy t) history → AreDefined history t → due t d (facts history t) ≡ Some d → AreDefined history d
 defined_next history t d by h first =
     let f = facts history t in
     let are : facts history d ≡ date_passed t d f = next_comes t d d history by first in
-    let lost = deltas.ended (live t f) (live d (without_ended d f)) in
-    let same : (a : ℕ) → definition_in a (steps history d) ≡ definition_in a (steps history t) = λ a. ap (definition_in a) (steps_next t d d history by first) ∙ (one_more a (steps history t) (date_step t d f) ∙ date_defines (ending d f.rows) a (definition_in a (steps history t))) in
-    let attributes : (facts history d).attributes ≡ f.attributes = ap (λ (x : Lists). x.attributes) are ∙ settle_attributes lost d (without_ended d f) in
-    let count : (facts history d).made.attributes ≡ f.made.attributes = ap (λ (x : Lists). x.made.attributes) are ∙ settle_count lost d (without_ended d f) in
+    let lost = deltas.ended (live t f) (live d (at_date d f)) in
+    let same : (a : ℕ) → definition_in a (steps history d) ≡ definition_in a (steps history t) = λ a. ap (definition_in a) (steps_next t d d history by first) ∙ (one_more a (steps history t) (date_step t d f) ∙ date_defines a d f (definition_in a (steps history t))) in
+    let attributes : (facts history d).attributes ≡ f.attributes = ap (λ (x : Lists). x.attributes) are ∙ settle_attributes lost d (at_date d f) in
+    let count : (facts history d).made.attributes ≡ f.made.attributes = ap (λ (x : Lists). x.made.attributes) are ∙ settle_count lost d (at_date d f) in
     record {
       defined = λ v a row x is. same a ∙ elim (cases_Bool (nat_le d v)) [
         | inl y ↦

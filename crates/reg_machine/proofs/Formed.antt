@@ -7,7 +7,7 @@ use Rattle.reg_base.specs.Names.{is_person}
 use Rattle.reg_terms.specs.Limits.{max_rows}
 use Rattle.reg_terms.specs.declared.command.Stamped.{Stamped}
 use Rattle.reg_terms.specs.declared.event.Event.{Event}
-use Rattle.reg_terms.specs.declared.event.Event.TheVariants.{FolderMade, FolderRenamed, FolderMoved, FolderGone, GroupMade, GroupRenamed, GroupMoved, GroupGone, RowAdded, RowRemoved, RowRedated, Composed, Decomposed, GrantAdded, GrantRemoved, InheritAdded, InheritRemoved, DefinitionMade, DefinitionGone, AttributeMade, AttributeGone, AssignMade, AssignGone, ValueAdded, ValueRemoved, RuleMade, RuleGone, JobMade, JobGone, ConsumerAdded, ConsumerAcked, SubjectMade}
+use Rattle.reg_terms.specs.declared.event.Event.TheVariants.{FolderMade, FolderRenamed, FolderMoved, FolderGone, GroupMade, GroupRenamed, GroupMoved, GroupGone, RowAdded, RowRemoved, RowRedated, Composed, Decomposed, GrantAdded, GrantBegan, GrantRemoved, InheritAdded, InheritRemoved, DefinitionMade, DefinitionGone, AttributeMade, AttributeGone, AssignMade, AssignGone, ValueAdded, ValueRemoved, RuleMade, RuleGone, JobMade, JobGone, ConsumerAdded, ConsumerAcked, SubjectMade}
 use Rattle.reg_terms.specs.declared.kinds.Member.TheVariants.{Person}
 use Rattle.reg_terms.specs.declared.rows.MemberRow.{MemberRow}
 use Rattle.reg_terms.specs.declared.rows.RuleRow.{RuleRow}
@@ -22,7 +22,7 @@ use Rattle.reg_effect.specs.Deltas.{ended}
 use Rattle.reg_rules.specs.declared.actions.Action.TheVariants.{Removed, Ended}
 use Rattle.reg_rules.specs.Actions.{all_done, done, with_end}
 use Rattle.reg_rules.specs.Settling.{acting, settle}
-use Rattle.reg_current.specs.Dates.{date_passed, ends_at, without_ended}
+use Rattle.reg_current.specs.Dates.{date_passed, ends_at, at_date}
 use Rattle.reg_machine.specs.Formed.{AreFormed, IsFormed}
 use Rattle.reg_machine.specs.History.{State, facts}
 use Rattle.reg_current.specs.Invariant.{Now}
@@ -81,6 +81,7 @@ formed (GroupGone g) f suits h = h
 formed (Composed row) f suits h = h
 formed (Decomposed g) f suits h = h
 formed (GrantAdded row) f suits h = h
+formed (GrantBegan row) f suits h = h
 formed (GrantRemoved row) f suits h = h
 formed (InheritAdded row) f suits h = h
 formed (InheritRemoved row) f suits h = h
@@ -116,7 +117,7 @@ settle_formed at pairs f h = settle_keeps at AreFormed (λ (rule : RuleRow). ⊤
 
 -- a date that comes, and a command
 pub date_formed : (a d : ℕ) (f : Lists) → AreFormed f → AreFormed (date_passed a d f)
-date_formed a d f h = settle_formed d (ended (live a f) (live d (without_ended d f))) (without_ended d f) (with_less (λ (row : MemberRow). not (ends_at d row)) f.subjects f.rows h)
+date_formed a d f h = settle_formed d (ended (live a f) (live d (at_date d f))) (at_date d f) (with_less (λ (row : MemberRow). not (ends_at d row)) f.subjects f.rows h)
 
 pub carried_formed : (now : Now) (es : List Event) → AllSuit es now.facts → AreFormed now.facts → AreFormed (settled_after now es)
 carried_formed now es suit h = settle_formed now.clock (ended (live now.clock now.facts) (live now.clock (all_happened es now.facts))) (all_happened es now.facts) (all_formed es now.facts suit h)

@@ -7,7 +7,7 @@ use Rattle.reg_base.specs.declared.entity.Entity.{Entity}
 use Rattle.reg_terms.specs.declared.command.Stamped.{Stamped}
 use Rattle.reg_terms.specs.declared.command.Command.{Command}
 use Rattle.reg_terms.specs.declared.event.Event.{Event}
-use Rattle.reg_terms.specs.declared.event.Event.TheVariants.{FolderMade, FolderRenamed, FolderMoved, FolderGone, GroupMade, GroupRenamed, GroupMoved, GroupGone, RowAdded, RowRemoved, RowRedated, Composed, Decomposed, GrantAdded, GrantRemoved, InheritAdded, InheritRemoved, DefinitionMade, DefinitionGone, AttributeMade, AttributeGone, AssignMade, AssignGone, ValueAdded, ValueRemoved, RuleMade, RuleGone, JobMade, JobGone, ConsumerAdded, ConsumerAcked, SubjectMade}
+use Rattle.reg_terms.specs.declared.event.Event.TheVariants.{FolderMade, FolderRenamed, FolderMoved, FolderGone, GroupMade, GroupRenamed, GroupMoved, GroupGone, RowAdded, RowRemoved, RowRedated, Composed, Decomposed, GrantAdded, GrantBegan, GrantRemoved, InheritAdded, InheritRemoved, DefinitionMade, DefinitionGone, AttributeMade, AttributeGone, AssignMade, AssignGone, ValueAdded, ValueRemoved, RuleMade, RuleGone, JobMade, JobGone, ConsumerAdded, ConsumerAcked, SubjectMade}
 use Rattle.reg_terms.specs.declared.kinds.Member.{Member}
 use Rattle.reg_terms.specs.declared.kinds.Member.TheVariants.{Person, Group}
 use Rattle.reg_terms.specs.declared.kinds.SetOp.{SetOp}
@@ -26,7 +26,7 @@ use Rattle.reg_effect.specs.Member.{combine, gives, in_rows, in_factors, member_
 use Rattle.reg_effect.specs.Order.{has_live_row}
 use Rattle.reg_effect.proofs.LiveOf.{rows_on_has}
 use Rattle.reg_rules.specs.Settling.{settle}
-use Rattle.reg_current.specs.Dates.{date_passed, due, pass, without_ended}
+use Rattle.reg_current.specs.Dates.{date_passed, due, pass, at_date}
 use Rattle.reg_machine.specs.History.{acted, facts}
 use Rattle.reg_machine.specs.Invariant.{IsBy}
 use Rattle.reg_current.specs.Live.{live}
@@ -145,6 +145,7 @@ stays (RowRedated g m from until) f s h = h
 stays (Composed row) f s h = h
 stays (Decomposed g) f s h = h
 stays (GrantAdded row) f s h = h
+stays (GrantBegan row) f s h = h
 stays (GrantRemoved row) f s h = h
 stays (InheritAdded row) f s h = h
 stays (InheritRemoved row) f s h = h
@@ -172,7 +173,7 @@ settle_subjects : (pairs : List (ℕ × ℕ)) (at : ℕ) (f : Lists) → (settle
 settle_subjects pairs at f = ap (λ (x : Lists). x.subjects) (settle_is pairs at f)
 
 date_subjects : (a d : ℕ) (f : Lists) → (date_passed a d f).subjects ≡ f.subjects
-date_subjects a d f = settle_subjects (ended (live a f) (live d (without_ended d f))) d (without_ended d f)
+date_subjects a d f = settle_subjects (ended (live a f) (live d (at_date d f))) d (at_date d f)
 
 acted_subjects : (at : ℕ) (by : Entity) (command : Command) (f : Lists) → (acted at by command f).subjects ≡ (edit at by command f).subjects
 acted_subjects at by command f = settle_subjects (ended (live at f) (live at (edit at by command f))) at (edit at by command f)
@@ -180,7 +181,7 @@ acted_subjects at by command f = settle_subjects (ended (live at f) (live at (ed
 -- ---- who was a member stands
 
 -- a clock up to which no date comes
-pub known_later : (history : List Stamped) (t u : ℕ) → AllByRecursion (IsBy t) history → AreKnown history t → t ≤ u → due t u (facts history t).rows ≡ None → AreKnown history u
+pub known_later : (history : List Stamped) (t u : ℕ) → AllByRecursion (IsBy t) history → AreKnown history t → t ≤ u → due t u (facts history t) ≡ None → AreKnown history u
 known_later history t u by h w none v g s x was = rw (none_comes t u history by w none) (elim (cases_Bool (nat_le v t)) [
   | inl y ↦ h v g s (grind (arith, nat_tests, y)) was
   | inr n ↦
@@ -189,7 +190,7 @@ known_later history t u by h w none v g s x was = rw (none_comes t u history by 
 ])
 
 -- the next date
-pub known_next : (history : List Stamped) (t d : ℕ) → AllByRecursion (IsBy t) history → AreKnown history t → due t d (facts history t).rows ≡ Some d → IsSound (facts history d) → AreKnown history d
+pub known_next : (history : List Stamped) (t d : ℕ) → AllByRecursion (IsBy t) history → AreKnown history t → due t d (facts history t) ≡ Some d → IsSound (facts history d) → AreKnown history d
 known_next history t d by h first sound v g s x was = elim (cases_Bool (nat_le d v)) [
   | inl y ↦
       let same : v ≡ d = grind (arith, nat_tests, y, x) in

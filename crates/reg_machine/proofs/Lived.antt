@@ -98,32 +98,32 @@ unfolding facts
 facts_before before after c t h w = ap (λ ss. facts_after 0 ss t the_facts.start) (filter-append (λ (s : Stamped). nat_le s.at t) before after ∙ (ap (λ ss. up_to t before ++ ss) (none_up_to c t after h w) ∙ append-nil (up_to t before)))
 
 -- between two dates nothing changes
-pub still : (history : List Stamped) (t v : ℕ) → AllByRecursion (IsBy t) history → t ≤ v → due t v (facts history t).rows ≡ None → live v (facts history v) ≡ live t (facts history t)
+pub still : (history : List Stamped) (t v : ℕ) → AllByRecursion (IsBy t) history → t ≤ v → due t v (facts history t) ≡ None → live v (facts history v) ≡ live t (facts history t)
 still history t v by later none = ap (λ (f : Lists). live v f) (none_comes t v history by later none) ∙ live_stays t v (facts history t) later none
 
-pub none_within : (a b c : ℕ) (f : Lists) → due a b f.rows ≡ None → c ≤ b → due a c f.rows ≡ None
-none_within a b c f none w = due_none_from a c f.rows (λ x p q. due_none a b f.rows none x p (omega (arith, q, w)))
+pub none_within : (a b c : ℕ) (f : Lists) → due a b f ≡ None → c ≤ b → due a c f ≡ None
+none_within a b c f none w = due_none_from a c f (λ x p q. due_none a b f none x p (omega (arith, q, w)))
 
-pub none_before : (a d c : ℕ) (f : Lists) → due a d f.rows ≡ Some d → c < d → due a c f.rows ≡ None
-none_before a d c f first w = let h = due_some a d d f.rows first in due_none_from a c f.rows (λ x p q. h.none_before x p (omega (arith, q, w)))
+pub none_before : (a d c : ℕ) (f : Lists) → due a d f ≡ Some d → c < d → due a c f ≡ None
+none_before a d c f first w = let h = due_some a d d f first in due_none_from a c f (λ x p q. h.none_before x p (omega (arith, q, w)))
 
 -- ---- a clock up to which no date comes
 
 -- by the steps up to the clock, also later as long as no date comes
-lived_on : (history : List Stamped) (t v g s : ℕ) → AllByRecursion (IsBy t) history → AreLived history t → t ≤ v → due t v (facts history t).rows ≡ None → member (live_by v (steps history t)) g s ≡ was_member history v g s
+lived_on : (history : List Stamped) (t v g s : ℕ) → AllByRecursion (IsBy t) history → AreLived history t → t ≤ v → due t v (facts history t) ≡ None → member (live_by v (steps history t)) g s ≡ was_member history v g s
 lived_on history t v g s by h later none =
     ap (λ (L : Live). member L g s) (live_late t v (steps history t) later h.by)
     ∙ (h.lived t g s (omega arith) ∙ ap (λ (L : Live). member L g s) (sym (still history t v by later none)))
 
 -- and so are the facts
-left_on : (history : List Stamped) (t v : ℕ) → AllByRecursion (IsBy t) history → AreLived history t → t ≤ v → due t v (facts history t).rows ≡ None → facts_by v (steps history t) ≡ facts history v
+left_on : (history : List Stamped) (t v : ℕ) → AllByRecursion (IsBy t) history → AreLived history t → t ≤ v → due t v (facts history t) ≡ None → facts_by v (steps history t) ≡ facts history v
 left_on history t v by h later none = ap facts_of (last_late t v (steps history t) later h.by) ∙ (h.left t (omega arith) ∙ sym (none_comes t v history by later none))
 
 -- the facts after the last step are those at the clock
 pub last_left : (history : List Stamped) (clock : ℕ) → AreLived history clock → last_facts (steps history clock) ≡ facts history clock
 last_left history clock h = ap facts_of (sym (last_is clock (steps history clock) h.by)) ∙ h.left clock (omega arith)
 
-pub lived_later : (history : List Stamped) (t u : ℕ) → AllByRecursion (IsBy t) history → AreLived history t → t ≤ u → due t u (facts history t).rows ≡ None → AreLived history u
+pub lived_later : (history : List Stamped) (t u : ℕ) → AllByRecursion (IsBy t) history → AreLived history t → t ≤ u → due t u (facts history t) ≡ None → AreLived history u
 lived_later history t u by h w none =
     let same = steps_none t u history by w none in
     record {
@@ -140,10 +140,10 @@ lived_later history t u by h w none =
 
 -- ---- the next date
 
-pub lived_next : (history : List Stamped) (t d : ℕ) → AllByRecursion (IsBy t) history → AreLived history t → due t d (facts history t).rows ≡ Some d → AreLived history d
+pub lived_next : (history : List Stamped) (t d : ℕ) → AllByRecursion (IsBy t) history → AreLived history t → due t d (facts history t) ≡ Some d → AreLived history d
 lived_next history t d by h first =
     let more = steps_next t d d history by first in
-    let later = (due_some t d d (facts history t).rows first).later in
+    let later = (due_some t d d (facts history t) first).later in
     let step = date_step t d (facts history t) in
     record {
       by = rw more (all_push (IsStepBy d) (steps history t) step (later_steps t d (steps history t) (omega (arith, later)) h.by) (omega arith));

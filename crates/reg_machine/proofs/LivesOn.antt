@@ -4,7 +4,7 @@ use Rattle.std.proofs.lemmas.Bool.{cases_Bool}
 use Rattle.std.proofs.lemmas.Bool.Decides.{nat_tests}
 use Rattle.reg_terms.specs.Kinds.{same_object}
 use Rattle.reg_terms.specs.declared.event.Event.{Event}
-use Rattle.reg_terms.specs.declared.event.Event.TheVariants.{FolderMade, FolderRenamed, FolderMoved, FolderGone, GroupMade, GroupRenamed, GroupMoved, GroupGone, RowAdded, RowRemoved, RowRedated, Composed, Decomposed, GrantAdded, GrantRemoved, InheritAdded, InheritRemoved, DefinitionMade, DefinitionGone, AttributeMade, AttributeGone, AssignMade, AssignGone, ValueAdded, ValueRemoved, RuleMade, RuleGone, JobMade, JobGone, ConsumerAdded, ConsumerAcked, SubjectMade}
+use Rattle.reg_terms.specs.declared.event.Event.TheVariants.{FolderMade, FolderRenamed, FolderMoved, FolderGone, GroupMade, GroupRenamed, GroupMoved, GroupGone, RowAdded, RowRemoved, RowRedated, Composed, Decomposed, GrantAdded, GrantBegan, GrantRemoved, InheritAdded, InheritRemoved, DefinitionMade, DefinitionGone, AttributeMade, AttributeGone, AssignMade, AssignGone, ValueAdded, ValueRemoved, RuleMade, RuleGone, JobMade, JobGone, ConsumerAdded, ConsumerAcked, SubjectMade}
 use Rattle.reg_terms.specs.declared.kinds.Object.{Object}
 use Rattle.reg_terms.specs.declared.kinds.Object.TheVariants.{Folder, Group, Def, Attr, Subject}
 use Rattle.reg_terms.specs.declared.rows.Made.{Made}
@@ -214,6 +214,7 @@ event_lived at (RowRedated g m from until) f o life s suits h = (still_lived at 
 event_lived at (Composed row) f o life s suits h = (still_lived at f (happened (Composed row) f) o o life h (rest_still f (happened (Composed row) f) refl refl) refl, λ v w. refl)
 event_lived at (Decomposed g) f o life s suits h = (still_lived at f (happened (Decomposed g) f) o o life h (rest_still f (happened (Decomposed g) f) refl refl) refl, λ v w. refl)
 event_lived at (GrantAdded row) f o life s suits h = (still_lived at f (happened (GrantAdded row) f) o o life h (rest_still f (happened (GrantAdded row) f) refl refl) refl, λ v w. refl)
+event_lived at (GrantBegan row) f o life s suits h = (still_lived at f (happened (GrantBegan row) f) o o life h (rest_still f (happened (GrantBegan row) f) refl refl) refl, λ v w. refl)
 event_lived at (GrantRemoved row) f o life s suits h = (still_lived at f (happened (GrantRemoved row) f) o o life h (rest_still f (happened (GrantRemoved row) f) refl refl) refl, λ v w. refl)
 event_lived at (InheritAdded row) f o life s suits h = (still_lived at f (happened (InheritAdded row) f) o o life h (rest_still f (happened (InheritAdded row) f) refl refl) refl, λ v w. refl)
 event_lived at (InheritRemoved row) f o life s suits h = (still_lived at f (happened (InheritRemoved row) f) o o life h (rest_still f (happened (InheritRemoved row) f) refl refl) refl, λ v w. refl)
@@ -292,6 +293,7 @@ never_again (RowRedated g m from until ∷ es) f o was suit = never_again es (ha
 never_again (Composed row ∷ es) f o was suit = never_again es (happened (Composed row) f) o was suit.1
 never_again (Decomposed g ∷ es) f o was suit = never_again es (happened (Decomposed g) f) o was suit.1
 never_again (GrantAdded row ∷ es) f o was suit = never_again es (happened (GrantAdded row) f) o was suit.1
+never_again (GrantBegan row ∷ es) f o was suit = never_again es (happened (GrantBegan row) f) o was suit.1
 never_again (GrantRemoved row ∷ es) f o was suit = never_again es (happened (GrantRemoved row) f) o was suit.1
 never_again (InheritAdded row ∷ es) f o was suit = never_again es (happened (InheritAdded row) f) o was suit.1
 never_again (InheritRemoved row ∷ es) f o was suit = never_again es (happened (InheritRemoved row) f) o was suit.1
@@ -368,6 +370,7 @@ in_turn at (RowRedated g m from until) es f o life suits rest h = refl
 in_turn at (Composed row) es f o life suits rest h = refl
 in_turn at (Decomposed g) es f o life suits rest h = refl
 in_turn at (GrantAdded row) es f o life suits rest h = refl
+in_turn at (GrantBegan row) es f o life suits rest h = refl
 in_turn at (GrantRemoved row) es f o life suits rest h = refl
 in_turn at (InheritAdded row) es f o life suits rest h = refl
 in_turn at (InheritRemoved row) es f o life suits rest h = refl

@@ -11,6 +11,8 @@ use Rattle.reg_facts.specs.Lists.{Lists}
 use Rattle.reg_facts.specs.Suiting.{AllSuit}
 use Rattle.reg_current.specs.Circles.{ClosesNone}
 use Rattle.reg_current.specs.Holding.{AllHold, EndsLater}
+use Rattle.reg_current.specs.Invariant.{IsGrantOpen}
+use Rattle.reg_machine.proofs.OpenGrants.{new_groups_open}
 
 -- an event closes no circle, whatever the facts, and no row ends early by it
 record IsCalm (at : ℕ) (e : Event) : Type 0 where
@@ -26,14 +28,14 @@ both_calm : (at : ℕ) (es ds : List Event) → AllByRecursion (IsCalm at) es �
 both_calm at [] ds a b = b
 both_calm at (e ∷ es) ds a b = (a.0, both_calm at es ds a.1 b)
 
-grants_calm : (at : ℕ) (rows : List GrantRow) → AllByRecursion (IsCalm at) (grants_added rows)
-grants_calm at [] = tt
-grants_calm at (row ∷ rows) = (record { no_circle = λ f. tt; later = tt }, grants_calm at rows)
+grants_calm : (at : ℕ) (rows : List GrantRow) → AllByRecursion (IsGrantOpen at) rows → AllByRecursion (IsCalm at) (grants_added rows)
+grants_calm at [] opens = tt
+grants_calm at (row ∷ rows) opens = (record { no_circle = λ f. tt; later = opens.0 }, grants_calm at rows opens.1)
 
 groups_calm : (at : ℕ) (by : Entity) (names : List (List ℕ)) (f : Lists) → AllByRecursion (IsCalm at) (groups_events by names f)
 groups_calm at by [] f = tt
 groups_calm at by (name ∷ names) f =
-    (record { no_circle = λ g. tt; later = tt }, both_calm at (grants_added (new_groups_grants by name f)) (groups_events by names (all_happened (group_events by name f) f)) (grants_calm at (new_groups_grants by name f)) (groups_calm at by names (all_happened (group_events by name f) f)))
+    (record { no_circle = λ g. tt; later = tt }, both_calm at (grants_added (new_groups_grants by name f)) (groups_events by names (all_happened (group_events by name f) f)) (grants_calm at (new_groups_grants by name f) (new_groups_open at by name f)) (groups_calm at by names (all_happened (group_events by name f) f)))
 
 going_calm : (at : ℕ) (rows : List PersonRow) → AllByRecursion (IsCalm at) (map row_goes rows)
 going_calm at [] = tt

@@ -4,7 +4,7 @@ use Rattle.std.proofs.lemmas.List.{map-append}
 use Rattle.std.specs.List.{AllByRecursion, list_any}
 use Rattle.reg_terms.specs.declared.command.Stamped.{Stamped}
 use Rattle.reg_terms.specs.declared.event.Event.{Event}
-use Rattle.reg_terms.specs.declared.event.Event.TheVariants.{FolderMade, FolderRenamed, FolderMoved, FolderGone, SubjectMade, GroupMade, GroupRenamed, GroupMoved, GroupGone, RowAdded, RowRemoved, RowRedated, Composed, Decomposed, GrantAdded, GrantRemoved, InheritAdded, InheritRemoved, DefinitionMade, DefinitionGone, AttributeMade, AttributeGone, AssignMade, AssignGone, ValueAdded, ValueRemoved, RuleMade, RuleGone, JobMade, JobGone, ConsumerAdded, ConsumerAcked}
+use Rattle.reg_terms.specs.declared.event.Event.TheVariants.{FolderMade, FolderRenamed, FolderMoved, FolderGone, SubjectMade, GroupMade, GroupRenamed, GroupMoved, GroupGone, RowAdded, RowRemoved, RowRedated, Composed, Decomposed, GrantAdded, GrantBegan, GrantRemoved, InheritAdded, InheritRemoved, DefinitionMade, DefinitionGone, AttributeMade, AttributeGone, AssignMade, AssignGone, ValueAdded, ValueRemoved, RuleMade, RuleGone, JobMade, JobGone, ConsumerAdded, ConsumerAcked}
 use Rattle.reg_facts.specs.Lists as the_facts
 use Rattle.reg_facts.specs.Lists.{Lists}
 use Rattle.reg_effect.specs.Turned.{turns}
@@ -14,7 +14,7 @@ use Rattle.reg_log.specs.declared.entries.Line.{Line}
 use Rattle.reg_audit.specs.Lines.{line_of, is_told, direct_lines, action_line, action_lines, turn_line, turn_lines, lines_of, log_of}
 use Rattle.reg_audit.specs.Objects.{is_deletion}
 use Rattle.reg_audit.specs.Steps.{Step}
-use Rattle.reg_current.specs.Dates.{date_passed, due, pass}
+use Rattle.reg_current.specs.Dates.{date_passed, due, most_dates, pass}
 use Rattle.reg_current.proofs.Due.{due_some}
 use Rattle.reg_machine.specs.History.{State, acted}
 use Rattle.reg_machine.specs.Invariant.{IsBy}
@@ -77,6 +77,7 @@ event_stamped at before (RowRedated g m from until) = refl
 event_stamped at before (Composed row) = refl
 event_stamped at before (Decomposed g) = refl
 event_stamped at before (GrantAdded row) = refl
+event_stamped at before (GrantBegan row) = tt
 event_stamped at before (GrantRemoved row) = refl
 event_stamped at before (InheritAdded row) = refl
 event_stamped at before (InheritRemoved row) = refl
@@ -150,17 +151,17 @@ lines_climb a b (step ∷ ss) h =
 
 dates_climb_in : (n a b : ℕ) (f : Lists) → a ≤ b → Climb a b (moments (dates_passed_in n a b f))
 dates_climb_in zero a b f w = w
-dates_climb_in (suc n) a b f w = elim (cases_option (due a b f.rows)) [
+dates_climb_in (suc n) a b f w = elim (cases_option (due a b f)) [
   | inl none ↦ rw (passed_in_none (suc n) a b f none) w
   | inr one ↦
       let d = one.0 in
-      let least = due_some a b d f.rows one.1 in
+      let least = due_some a b d f one.1 in
       rw (passed_in_some n a b d f one.1) (omega (arith, least.later), dates_climb_in n d b (date_passed a d f) least.within)
 ]
 
 dates_climb : (a b : ℕ) (f : Lists) → a ≤ b → Climb a b (moments (dates_passed a b f))
 unfolding dates_passed
-dates_climb a b f w = dates_climb_in (2 * length f.rows) a b f w
+dates_climb a b f w = dates_climb_in (most_dates f) a b f w
 
 steps_climb : (a t : ℕ) (ss : List Stamped) (f : Lists) → Climb a t (map (λ (s : Stamped). s.at) ss) → Climb a t (moments (steps_after a ss t f))
 steps_climb a t [] f h = dates_climb a t f h

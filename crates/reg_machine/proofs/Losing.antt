@@ -16,7 +16,7 @@ use Rattle.reg_rules.specs.Live.{row_on}
 use Rattle.reg_rules.specs.Lost.{has_removal}
 use Rattle.reg_rules.specs.Settling.{settle}
 use Rattle.reg_audit.specs.Steps.{Step}
-use Rattle.reg_current.specs.Dates.{date_passed, due, pass, without_ended}
+use Rattle.reg_current.specs.Dates.{at_date, date_passed, due, most_dates, pass}
 use Rattle.reg_machine.specs.History.{acted, up_to}
 use Rattle.reg_current.specs.Live.{live}
 use Rattle.reg_machine.specs.Losing.{TakesLost}
@@ -36,7 +36,7 @@ module _ (law : (at : ℕ) (before : Live) (group owner person : ℕ) (f : Lists
   -- after a date
   pub date_takes : (a d : ℕ) (f : Lists) → TakesLost (date_step a d f)
   date_takes a d f group owner person rule was gone =
-      law d (live a f) group owner person (without_ended d f) (stood (ended (live a f) (live d (without_ended d f))) d group owner (without_ended d f) rule) was gone
+      law d (live a f) group owner person (at_date d f) (stood (ended (live a f) (live d (at_date d f))) d group owner (at_date d f) rule) was gone
 
   -- after a command
   pub command_takes : (at : ℕ) (by : Entity) (command : Command) (f : Lists) → TakesLost (command_step at by command f)
@@ -45,14 +45,14 @@ module _ (law : (at : ℕ) (before : Live) (group owner person : ℕ) (f : Lists
 
   dates_take : (n a b : ℕ) (f : Lists) → AllByRecursion TakesLost (dates_passed_in n a b f)
   dates_take zero a b f = tt
-  dates_take (suc n) a b f = elim (cases_option (due a b f.rows)) [
+  dates_take (suc n) a b f = elim (cases_option (due a b f)) [
     | inl none ↦ subst (AllByRecursion TakesLost) (sym (passed_in_none (suc n) a b f none)) tt
     | inr one ↦ subst (AllByRecursion TakesLost) (sym (passed_in_some n a b one.0 f one.1)) (date_takes a one.0 f, dates_take n one.0 b (date_passed a one.0 f))
   ]
 
   all_dates_take : (a b : ℕ) (f : Lists) → AllByRecursion TakesLost (dates_passed a b f)
   unfolding dates_passed
-  all_dates_take a b f = dates_take (2 * length f.rows) a b f
+  all_dates_take a b f = dates_take (most_dates f) a b f
 
   from_take : (a : ℕ) (ss : List Stamped) (t : ℕ) (f : Lists) → AllByRecursion TakesLost (steps_after a ss t f)
   from_take a [] t f = all_dates_take a t f

@@ -216,9 +216,9 @@ module _ (L : Live) (f : Lists) (c : Who) where
   made_known entity.System some holds none fails h = refl
   made_known entity.Everyone some holds none fails h = refl
 
-  grant_known : (o : Option Object) (p : Privilege) (e : Entity) → demand.grant_stands (grant_for o p (holder_of e f)) f ≡ true → is_unknown e f ≡ false
+  grant_known : (o : Option Object) (p : Privilege) (e : Entity) → demand.grant_stands (grant_for o p (holder_of e f) None None) f ≡ true → is_unknown e f ≡ false
   grant_known None p e h = absurd (both_ways false refl h)
-  grant_known (Some x) p e h = made_known e (λ (w : Option Holder). grant_for (Some x) p w) (λ row. demand.grant_stands row f) refl refl h
+  grant_known (Some x) p e h = made_known e (λ (w : Option Holder). grant_for (Some x) p w None None) (λ row. demand.grant_stands row f) refl refl h
 
   inherit_known : (o : Option ℕ) (k : InheritKind) (s : Scope) (p : Privilege) (e : Entity) → demand.inherit_stands (inherit_for o k s p (holder_of e f)) f ≡ true → is_unknown e f ≡ false
   inherit_known None k s p e h = absurd (both_ways false refl h)
@@ -245,7 +245,7 @@ module _ (L : Live) (f : Lists) (c : Who) where
   all_sixes (MemberWindow group member from until) = refl
   all_sixes (CompositeSet group op left right) = refl
   all_sixes (CompositeClear group) = refl
-  all_sixes (GrantAdd text p e) = refl
+  all_sixes (GrantAdd text p e from until) = refl
   all_sixes (GrantRemove text p e) = refl
   all_sixes (InheritAdd folder kind scope p e) = refl
   all_sixes (InheritRemove folder kind scope p e) = refl
@@ -291,7 +291,7 @@ module _ (L : Live) (f : Lists) (c : Who) where
     all_rise (MemberWindow group member from until) plain = refl
     all_rise (CompositeSet group op left right) plain = refl
     all_rise (CompositeClear group) plain = refl
-    all_rise (GrantAdd text p e) plain = refl
+    all_rise (GrantAdd text p e from until) plain = refl
     all_rise (GrantRemove text p e) plain = refl
     all_rise (InheritAdd folder kind scope p e) plain = refl
     all_rise (InheritRemove folder kind scope p e) plain = refl
@@ -332,8 +332,8 @@ module _ (L : Live) (f : Lists) (c : Who) where
     all_found (MemberWindow group who from until) plain h = rw (group_stands (group_id group f) h.0, entity_or (demand.row_stands (group_id group f) who f) who (row_known (the_id (group_id group f)) who) h.1.0) refl
     all_found (CompositeSet group op left right) plain h = rw (group_stands (group_id group f) h.0, group_stands (group_id left f) h.1.0, group_stands (group_id right f) h.1.1.0) refl
     all_found (CompositeClear group) plain h = rw (group_stands (group_id group f) h.0) refl
-    all_found (GrantAdd text p e) plain h = rw (object_stands (object_of text f) (entity_of text) h.0, entity_stands e h.1.0) refl
-    all_found (GrantRemove text p e) plain h = rw (object_stands (object_of text f) (entity_of text) h.0, entity_or (demand.grant_stands (grant_of text p e f) f) e (grant_known (object_of text f) p e) h.1.0) refl
+    all_found (GrantAdd text p e from until) plain h = rw (object_stands (object_of text f) (entity_of text) h.0, entity_stands e h.1.0) refl
+    all_found (GrantRemove text p e) plain h = rw (object_stands (object_of text f) (entity_of text) h.0, entity_or (demand.grant_stands (grant_of text p e None None f) f) e (grant_known (object_of text f) p e) h.1.0) refl
     all_found (InheritAdd folder kind scope p e) plain h = rw (h.0, entity_stands e h.1.0) refl
     all_found (InheritRemove folder kind scope p e) plain h = rw (h.0, entity_or (demand.inherit_stands (inherit_of folder kind scope p e f) f) e (inherit_known (folder_id folder f) kind scope p e) h.1.0) refl
     all_found (AttrdefAdd definition owners several kind many) plain h = rw h.0 refl

@@ -1,11 +1,11 @@
 -- The machine stays in step and records its steps: with a date that comes, with a later clock, and with a command.
-use Rattle.std.proofs.Common.{◌≡◌, ◌≤◌, ◌++◌, ◌∷◌, [], ℕ, List, Option, true, map, None, Some, arith, refl, sym, ◌∙◌, ap, subst}
+use Rattle.std.proofs.Common.{◌≡◌, ◌≤◌, ◌++◌, ◌∷◌, [], ℕ, List, Option, true, None, Some, arith, refl, sym, ◌∙◌, ap, subst}
+use Rattle.std.specs.List.{AllByRecursion}
 use Rattle.reg_base.specs.declared.entity.Entity.{Entity}
 use Rattle.reg_terms.specs.declared.command.Stamped.{Stamped}
 use Rattle.reg_terms.specs.declared.command.Command.{Command}
 use Rattle.reg_terms.specs.declared.event.Event.{Event}
 use Rattle.reg_terms.specs.declared.event.Event.TheVariants.{AssignMade}
-use Rattle.reg_terms.specs.declared.kinds.Member.{Member}
 use Rattle.reg_terms.specs.declared.kinds.Object.{Object}
 use Rattle.reg_facts.specs.Events.{all_happened, events_of, happened}
 use Rattle.reg_facts.specs.Lists as the_facts
@@ -16,14 +16,13 @@ use Rattle.reg_facts.proofs.Sounding.{start_sound}
 use Rattle.reg_effect.specs.declared.live.Live.{Live}
 use Rattle.reg_effect.specs.Member.{member}
 use Rattle.reg_priv.specs.Grants.{grants}
-use Rattle.reg_priv.proofs.Untouched.{stays}
 use Rattle.reg_ops.specs.Forms.{key_fits, takes_key}
 use Rattle.reg_audit.specs.Assigning.{AllMakeNew, MakesNew}
 use Rattle.reg_audit.specs.Audit.{IsAudit}
 use Rattle.reg_audit.specs.Steps.{Step, FollowsOn, left_by}
 use Rattle.reg_effect.specs.Deltas.{ended}
 use Rattle.reg_rules.specs.Settling.{settle}
-use Rattle.reg_current.specs.Dates.{date_passed, due, ending, pair_gone, without_ended}
+use Rattle.reg_current.specs.Dates.{at_date, date_events, date_passed, due}
 use Rattle.reg_machine.specs.History.{facts}
 use Rattle.reg_current.specs.Holding.{AllHold}
 use Rattle.reg_current.specs.Invariant.{Now}
@@ -35,9 +34,11 @@ use Rattle.reg_machine.specs.Recording.{IsRecorded, Recording, Records, carried_
 use Rattle.reg_machine.specs.Refusals.{refusal}
 use Rattle.reg_machine.specs.Standing.{AreStood}
 use Rattle.reg_machine.proofs.Acting.{settled_grants}
+use Rattle.reg_machine.proofs.DateEvents.{each_date}
 use Rattle.reg_machine.proofs.Defined.{defined_later, defined_next, defined_push, defined_start}
 use Rattle.reg_current.proofs.Due.{due_some}
 use Rattle.reg_machine.proofs.Formed.{carried_formed, date_formed, start_formed}
+use Rattle.reg_machine.proofs.GrantWindows.{opened_later, opened_next, opened_push, opened_start}
 use Rattle.reg_machine.proofs.InStep.{command_in_step, later_in_step, next_in_step}
 use Rattle.reg_machine.proofs.KnownPersons.{known_later, known_next, known_push, known_start}
 use Rattle.reg_machine.proofs.Lived.{last_is, last_left, last_moment_by, lived_later, lived_next, lived_push, lived_start}
@@ -46,46 +47,29 @@ use Rattle.reg_machine.proofs.StepByStep.{no_steps, steps_next, steps_none, step
 use Rattle.reg_machine.proofs.Starting.{start_in_step}
 use Rattle.reg_machine.proofs.Stood.{all_suit, stood_later, stood_next, stood_push, stood_start}
 
--- rows that go change no consumer
-rows_keep : (rows : List (ℕ × Member)) (f : Lists) → (all_happened (map pair_gone rows) f).consumers ≡ f.consumers
-rows_keep [] f = refl
-rows_keep (row ∷ rows) f = rows_keep rows (happened (pair_gone row) f)
-
--- and rules change none
+-- rules change no consumer
 settle_consumers : (pairs : List (ℕ × ℕ)) (at : ℕ) (f : Lists) → (settle pairs at f).consumers ≡ f.consumers
 settle_consumers pairs at f = ap (λ (x : Lists). x.consumers) (settle_is pairs at f)
 
 date_consumers : (a d : ℕ) (f : Lists) → (date_passed a d f).consumers ≡ f.consumers
-date_consumers a d f = settle_consumers (ended (live a f) (live d (without_ended d f))) d (without_ended d f)
+date_consumers a d f = settle_consumers (ended (live a f) (live d (at_date d f))) d (at_date d f)
 
 -- and neither assignments
-rows_leave : (rows : List (ℕ × Member)) (f : Lists) → (all_happened (map pair_gone rows) f).assigns ≡ f.assigns
-rows_leave [] f = refl
-rows_leave (row ∷ rows) f = rows_leave rows (happened (pair_gone row) f)
-
 settle_assigns : (pairs : List (ℕ × ℕ)) (at : ℕ) (f : Lists) → (settle pairs at f).assigns ≡ f.assigns
 settle_assigns pairs at f = ap (λ (x : Lists). x.assigns) (settle_is pairs at f)
 
 date_assigns : (a d : ℕ) (f : Lists) → (date_passed a d f).assigns ≡ f.assigns
-date_assigns a d f = settle_assigns (ended (live a f) (live d (without_ended d f))) d (without_ended d f)
-
-rows_count : (rows : List (ℕ × Member)) (f : Lists) → (all_happened (map pair_gone rows) f).made.assigns ≡ f.made.assigns
-rows_count [] f = refl
-rows_count (row ∷ rows) f = rows_count rows (happened (pair_gone row) f)
+date_assigns a d f = settle_assigns (ended (live a f) (live d (at_date d f))) d (at_date d f)
 
 -- nor the grants on an object
-rows_grant : (rows : List (ℕ × Member)) (f : Lists) (o : Object) → grants o (all_happened (map pair_gone rows) f) ≡ grants o f
-rows_grant [] f o = refl
-rows_grant (row ∷ rows) f o = rows_grant rows (happened (pair_gone row) f) o ∙ stays o f (happened (pair_gone row) f) refl refl refl refl refl refl
-
-date_grants : (a d : ℕ) (f : Lists) (o : Object) → grants o (date_passed a d f) ≡ grants o f
-date_grants a d f o = settled_grants (ended (live a f) (live d (without_ended d f))) d (without_ended d f) o ∙ stays o f (without_ended d f) refl refl refl refl refl refl
+date_grants : (a d : ℕ) (f : Lists) (o : Object) → grants o (date_passed a d f) ≡ grants o (at_date d f)
+date_grants a d f o = settled_grants (ended (live a f) (live d (at_date d f))) d (at_date d f) o
 
 settle_count : (pairs : List (ℕ × ℕ)) (at : ℕ) (f : Lists) → (settle pairs at f).made.assigns ≡ f.made.assigns
 settle_count pairs at f = ap (λ (x : Lists). x.made.assigns) (settle_is pairs at f)
 
 date_count : (a d : ℕ) (f : Lists) → (date_passed a d f).made.assigns ≡ f.made.assigns
-date_count a d f = settle_count (ended (live a f) (live d (without_ended d f))) d (without_ended d f)
+date_count a d f = settle_count (ended (live a f) (live d (at_date d f))) d (at_date d f)
 
 -- an assignment that is made has a later id than all before, and no value yet
 makes_new : (e : Event) (f : Lists) → Suits e f → MakesNew e f
@@ -96,9 +80,12 @@ all_make_new : (es : List Event) (f : Lists) → AllSuit es f → AllMakeNew es 
 all_make_new [] f suit = tt
 all_make_new (e ∷ es) f suit = (makes_new e f suit.0, all_make_new es (happened e f) suit.1)
 
-rows_make_none : (rows : List (ℕ × Member)) (f : Lists) → AllMakeNew (map pair_gone rows) f
-rows_make_none [] f = tt
-rows_make_none (row ∷ rows) f = (tt, rows_make_none rows (happened (pair_gone row) f))
+none_new : (es : List Event) (f : Lists) → AllByRecursion (λ e. (g : Lists) → MakesNew e g) es → AllMakeNew es f
+none_new [] f h = tt
+none_new (e ∷ es) f h = (h.0 f, none_new es (happened e f) h.1)
+
+date_makes_none : (d : ℕ) (f : Lists) → AllMakeNew (date_events d f) f
+date_makes_none d f = none_new (date_events d f) f (each_date (λ e. (g : Lists) → MakesNew e g) d f (record { row = λ g m k. tt; gone = λ grant k. tt; began = λ grant k. tt }))
 
 -- a step from the live data at the clock on comes after those of the history
 follows : (history : List Stamped) (clock : ℕ) (step : Step) → AreLived history clock → clock ≤ step.at → step.live ≡ live clock (facts history clock) → step.before ≡ facts history clock → step.after.consumers ≡ (all_happened step.events step.before).consumers
@@ -118,12 +105,13 @@ follows history clock step h later is from after assigned made new granted =
     }
 
 -- the next date comes after the steps so far, and so does what events make at the clock
-pub next_follows : (history : List Stamped) (d : ℕ) (r : Recording) → IsRecorded history r → due r.now.clock d r.now.facts.rows ≡ Some d → FollowsOn (steps history r.now.clock) (date_step r.now.clock d r.now.facts)
-next_follows history d r h first =
-    let later = (due_some r.now.clock d d r.now.facts.rows first).later in
-    follows history r.now.clock (date_step r.now.clock d r.now.facts) h.lived (omega (arith, later)) (ap (λ (f : Lists). live r.now.clock f) h.in_step.facts) h.in_step.facts (date_consumers r.now.clock d r.now.facts ∙ sym (rows_keep (ending d r.now.facts.rows) r.now.facts)) (date_assigns r.now.clock d r.now.facts ∙ sym (rows_leave (ending d r.now.facts.rows) r.now.facts))
-    (date_count r.now.clock d r.now.facts ∙ sym (rows_count (ending d r.now.facts.rows) r.now.facts)) (rows_make_none (ending d r.now.facts.rows) r.now.facts)
-    (λ o. date_grants r.now.clock d r.now.facts o ∙ sym (rows_grant (ending d r.now.facts.rows) r.now.facts o))
+pub next_follows : (history : List Stamped) (d : ℕ) (r : Recording) → IsRecorded history r → due r.now.clock d r.now.facts ≡ Some d → all_happened (date_events d r.now.facts) r.now.facts ≡ at_date d r.now.facts → FollowsOn (steps history r.now.clock) (date_step r.now.clock d r.now.facts)
+next_follows history d r h first are =
+    let later = (due_some r.now.clock d d r.now.facts first).later in
+    follows history r.now.clock (date_step r.now.clock d r.now.facts) h.lived (omega (arith, later)) (ap (λ (f : Lists). live r.now.clock f) h.in_step.facts) h.in_step.facts
+    (date_consumers r.now.clock d r.now.facts ∙ ap (λ (f : Lists). f.consumers) (sym are)) (date_assigns r.now.clock d r.now.facts ∙ ap (λ (f : Lists). f.assigns) (sym are))
+    (date_count r.now.clock d r.now.facts ∙ ap (λ (f : Lists). f.made.assigns) (sym are)) (date_makes_none d r.now.facts)
+    (λ o. date_grants r.now.clock d r.now.facts o ∙ ap (grants o) (sym are))
 
 pub carried_follows : (history : List Stamped) (r : Recording) (es : List Event) → IsRecorded history r → AllHold r.now.clock es r.now.facts → FollowsOn (steps history r.now.clock) (carried_step r.now es)
 carried_follows history r es h hold = follows history r.now.clock (carried_step r.now es) h.lived (omega arith) (ap (λ (f : Lists). live r.now.clock f) h.in_step.facts) h.in_step.facts (settle_consumers (ended (live r.now.clock r.now.facts) (live r.now.clock (all_happened es r.now.facts))) r.now.clock (all_happened es r.now.facts))
@@ -131,7 +119,7 @@ carried_follows history r es h hold = follows history r.now.clock (carried_step 
     (settle_count (ended (live r.now.clock r.now.facts) (live r.now.clock (all_happened es r.now.facts))) r.now.clock (all_happened es r.now.facts)) (all_make_new es r.now.facts (all_suit r.now.clock es r.now.facts hold))
     (settled_grants (ended (live r.now.clock r.now.facts) (live r.now.clock (all_happened es r.now.facts))) r.now.clock (all_happened es r.now.facts))
 
-known_then : (history : List Stamped) (d : ℕ) (r new : Recording) → IsRecorded history r → new.now ≡ record { clock = d; facts = date_passed r.now.clock d r.now.facts } → due r.now.clock d (facts history r.now.clock).rows ≡ Some d → IsInStep history new.now → IsSound new.now.facts → AreKnown history new.now.clock
+known_then : (history : List Stamped) (d : ℕ) (r new : Recording) → IsRecorded history r → new.now ≡ record { clock = d; facts = date_passed r.now.clock d r.now.facts } → due r.now.clock d (facts history r.now.clock) ≡ Some d → IsInStep history new.now → IsSound new.now.facts → AreKnown history new.now.clock
 known_then history d r new h is there stands sound =
     let clock : new.now.clock ≡ d = ap (λ (n : Now). n.clock) is in
     let here : new.now.facts ≡ facts history d = stands.facts ∙ ap (facts history) clock in
@@ -143,7 +131,7 @@ known_more history by key c r new h clock stands sound =
     let here : new.now.facts ≡ facts (history ++ (record { at = r.now.clock; by = by; key = key; command = c }) ∷ []) r.now.clock = stands.facts ∙ ap (facts (history ++ (record { at = r.now.clock; by = by; key = key; command = c }) ∷ [])) clock in
     rw clock (known_push history r.now.clock by key c h.in_step.by h.known (rw here at sound))
 
-stood_then : (history : List Stamped) (d : ℕ) (r new : Recording) → IsRecorded history r → new.now ≡ record { clock = d; facts = date_passed r.now.clock d r.now.facts } → due r.now.clock d (facts history r.now.clock).rows ≡ Some d → IsInStep history new.now → IsSound new.now.facts → AreStood history new.now.clock
+stood_then : (history : List Stamped) (d : ℕ) (r new : Recording) → IsRecorded history r → new.now ≡ record { clock = d; facts = date_passed r.now.clock d r.now.facts } → due r.now.clock d (facts history r.now.clock) ≡ Some d → IsInStep history new.now → IsSound new.now.facts → AreStood history new.now.clock
 stood_then history d r new h is there stands sound =
     let clock : new.now.clock ≡ d = ap (λ (n : Now). n.clock) is in
     let here : new.now.facts ≡ facts history d = stands.facts ∙ ap (facts history) clock in
@@ -157,13 +145,13 @@ stood_more history by key c r new es h clock stands are hold sound =
     rw clock (stood_push history r.now.clock by key c h.in_step.by h.stood held (rw here at sound))
 
 -- a date that comes next
-pub next_recorded : (history : List Stamped) (d : ℕ) (r new : Recording) → IsRecorded history r → due r.now.clock d r.now.facts.rows ≡ Some d → new.now ≡ record { clock = d; facts = date_passed r.now.clock d r.now.facts } → Records r.audit new.audit (date_step r.now.clock d r.now.facts)
+pub next_recorded : (history : List Stamped) (d : ℕ) (r new : Recording) → IsRecorded history r → due r.now.clock d r.now.facts ≡ Some d → all_happened (date_events d r.now.facts) r.now.facts ≡ at_date d r.now.facts → new.now ≡ record { clock = d; facts = date_passed r.now.clock d r.now.facts } → Records r.audit new.audit (date_step r.now.clock d r.now.facts)
     → IsSound new.now.facts → IsRecorded history new
-next_recorded history d r new h first is records sound =
+next_recorded history d r new h first are_events is records sound =
     let stands : IsInStep history new.now = rw is (next_in_step history d r.now h.in_step first) in
-    let there : due r.now.clock d (facts history r.now.clock).rows ≡ Some d = rw (← h.in_step.facts) first in
+    let there : due r.now.clock d (facts history r.now.clock) ≡ Some d = rw (← h.in_step.facts) first in
     let step = date_step r.now.clock d r.now.facts in
-    let more = records (steps history r.now.clock) h.audit (next_follows history d r h first) in
+    let more = records (steps history r.now.clock) h.audit (next_follows history d r h first are_events) in
     let are : steps history r.now.clock ++ step ∷ [] ≡ steps history d = ap (λ (f : Lists). steps history r.now.clock ++ date_step r.now.clock d f ∷ []) h.in_step.facts ∙ sym (steps_next r.now.clock d d history h.in_step.by there) in
     record {
       in_step = stands;
@@ -173,12 +161,13 @@ next_recorded history d r new h first is records sound =
       stood = stood_then history d r new h is there stands sound;
       defined = rw is (defined_next history r.now.clock d h.in_step.by h.defined there);
       formed = rw is (date_formed r.now.clock d r.now.facts h.formed);
+      opened = rw is (opened_next history r.now.clock d h.in_step.by h.opened there);
     }
 
 -- a clock up to which no date comes
-pub later_recorded : (history : List Stamped) (u : ℕ) (r new : Recording) → IsRecorded history r → r.now.clock ≤ u → due r.now.clock u r.now.facts.rows ≡ None → new.now ≡ record { clock = u; facts = r.now.facts } → new.audit ≡ r.audit → IsRecorded history new
+pub later_recorded : (history : List Stamped) (u : ℕ) (r new : Recording) → IsRecorded history r → r.now.clock ≤ u → due r.now.clock u r.now.facts ≡ None → new.now ≡ record { clock = u; facts = r.now.facts } → new.audit ≡ r.audit → IsRecorded history new
 later_recorded history u r new h later none is same =
-    let there : due r.now.clock u (facts history r.now.clock).rows ≡ None = rw (← h.in_step.facts) none in
+    let there : due r.now.clock u (facts history r.now.clock) ≡ None = rw (← h.in_step.facts) none in
     record {
       in_step = rw is (later_in_step history u r.now h.in_step later none);
       audit = rw (is, same) (subst (λ ss. IsAudit ss r.audit) (sym (steps_none r.now.clock u history h.in_step.by later there)) h.audit);
@@ -187,6 +176,7 @@ later_recorded history u r new h later none is same =
       stood = rw is (stood_later history r.now.clock u h.in_step.by h.stood later there);
       defined = rw is (defined_later history r.now.clock u h.in_step.by h.defined later there);
       formed = rw is h.formed;
+      opened = rw is (opened_later history r.now.clock u h.in_step.by h.opened later there);
     }
 
 -- a command more
@@ -209,6 +199,7 @@ command_recorded history by key c r new es h allowed free fits are hold is recor
       stood = stood_more history by key c r new es h (ap (λ (n : Now). n.clock) is) stands are hold sound;
       defined = rw is (defined_push history r.now.clock by key c h.in_step.by h.defined (subst (λ (f : Lists). AllHold r.now.clock (events_of r.now.clock by c f) f) h.in_step.facts (subst (λ (xs : List Event). AllHold r.now.clock xs r.now.facts) are hold)));
       formed = rw is (carried_formed r.now es (all_suit r.now.clock es r.now.facts hold) h.formed);
+      opened = rw is (opened_push history r.now.clock by key c h.in_step.by h.opened (subst (λ (f : Lists). AllHold r.now.clock (events_of r.now.clock by c f) f) h.in_step.facts (subst (λ (xs : List Event). AllHold r.now.clock xs r.now.facts) are hold)));
     }
 
 -- nothing stands in an empty history
@@ -221,4 +212,5 @@ start_recorded r is none = record {
   stood = rw is (stood_start start_sound);
   defined = rw is defined_start;
   formed = rw is start_formed;
+  opened = rw is opened_start;
 }

@@ -1,5 +1,5 @@
 -- At each moment up to the clock the facts are sound, and an object stands exactly where it lives by the steps.
-use Rattle.std.proofs.Common.{◌≡◌, ◌≤◌, ◌<◌, ◌==◌, ℕ, List, Option, [], ◌∷◌, ◌++◌, true, false, None, Some, nat_le, nat_lt, map, arith, refl, sym, ◌∙◌, ap, subst, inl, inr}
+use Rattle.std.proofs.Common.{◌≡◌, ◌≤◌, ◌<◌, ◌==◌, ℕ, List, Option, [], ◌∷◌, ◌++◌, true, false, None, Some, nat_le, nat_lt, arith, refl, sym, ◌∙◌, ap, subst, inl, inr}
 use Rattle.std.proofs.lemmas.Bool.{cases_Bool}
 use Rattle.std.proofs.lemmas.Bool.Decides.{nat_tests}
 use Rattle.std.specs.List.{AllByRecursion}
@@ -7,9 +7,9 @@ use Rattle.reg_base.specs.declared.entity.Entity.{Entity}
 use Rattle.reg_terms.specs.declared.command.Stamped.{Stamped}
 use Rattle.reg_terms.specs.declared.command.Command.{Command}
 use Rattle.reg_terms.specs.declared.event.Event.{Event}
-use Rattle.reg_terms.specs.declared.kinds.Member.{Member}
 use Rattle.reg_terms.specs.declared.kinds.Object.{Object}
 use Rattle.reg_terms.specs.declared.kinds.Object.TheVariants.{Folder, Group, Def, Attr, Subject}
+use Rattle.reg_terms.specs.declared.rows.GrantRow.{GrantRow}
 use Rattle.reg_terms.specs.declared.rows.MemberRow.{MemberRow}
 use Rattle.reg_facts.specs.Events.{all_happened, events_of, happened}
 use Rattle.reg_facts.specs.Lists as the_facts
@@ -18,12 +18,12 @@ use Rattle.reg_facts.specs.Naming.{placed}
 use Rattle.reg_facts.specs.Sound.{IsSound}
 use Rattle.reg_facts.specs.Suiting.{AllSuit}
 use Rattle.reg_audit.specs.Lives.{begun, ended, life_of, first_life}
-use Rattle.reg_audit.specs.Objects.{gone_by, made_by}
+use Rattle.reg_audit.specs.Objects.{gone_by, made_by, object_gone, object_made}
 use Rattle.reg_audit.specs.Steps.{Step}
 use Rattle.reg_audit.proofs.Stepping.{life_more}
 use Rattle.reg_effect.specs.Deltas as deltas
 use Rattle.reg_rules.specs.Settling.{settle}
-use Rattle.reg_current.specs.Dates.{date_passed, due, ending, pair_gone, pass, without_ended}
+use Rattle.reg_current.specs.Dates.{at_date, date_events, date_passed, due, pass}
 use Rattle.reg_machine.specs.History.{State, acted, facts}
 use Rattle.reg_current.specs.Holding.{AllHold}
 use Rattle.reg_machine.specs.Invariant.{IsBy}
@@ -31,6 +31,7 @@ use Rattle.reg_current.specs.Live.{live}
 use Rattle.reg_machine.specs.Past.{command_step, date_step, life, steps}
 use Rattle.reg_machine.specs.Standing.{lives_at, stands, was_made, LifeBy, IsLived, AreStood}
 use Rattle.reg_current.proofs.Due.{due_some}
+use Rattle.reg_machine.proofs.DateEvents.{each_date, none_of}
 use Rattle.reg_machine.proofs.LivesOn.{Life, events_lived, rest_still, step_life}
 use Rattle.reg_machine.proofs.Lived.{facts_earlier, none_before, none_within}
 use Rattle.reg_machine.proofs.Moments.{facts_push, next_comes, none_comes}
@@ -72,13 +73,13 @@ lived_on t v f g o life w same made h = record {
 
 -- ---- a clock up to which no date comes
 
-stood_on : (history : List Stamped) (t v : ℕ) (o : Object) → AllByRecursion (IsBy t) history → AreStood history t → t ≤ v → due t v (facts history t).rows ≡ None → stands o (facts history v) ≡ lives_at v (life_of o (steps history t))
+stood_on : (history : List Stamped) (t v : ℕ) (o : Object) → AllByRecursion (IsBy t) history → AreStood history t → t ≤ v → due t v (facts history t) ≡ None → stands o (facts history v) ≡ lives_at v (life_of o (steps history t))
 stood_on history t v o by h later none = ap (stands o) (none_comes t v history by later none) ∙ ((h.lived o).now ∙ sym (still_lives t v (life_of o (steps history t)) (h.lived o).by later))
 
-sound_on : (history : List Stamped) (t v : ℕ) → AllByRecursion (IsBy t) history → AreStood history t → t ≤ v → due t v (facts history t).rows ≡ None → IsSound (facts history v)
+sound_on : (history : List Stamped) (t v : ℕ) → AllByRecursion (IsBy t) history → AreStood history t → t ≤ v → due t v (facts history t) ≡ None → IsSound (facts history v)
 sound_on history t v by h later none = subst IsSound (sym (none_comes t v history by later none)) (h.sound t (omega arith))
 
-pub stood_later : (history : List Stamped) (t u : ℕ) → AllByRecursion (IsBy t) history → AreStood history t → t ≤ u → due t u (facts history t).rows ≡ None → AreStood history u
+pub stood_later : (history : List Stamped) (t u : ℕ) → AllByRecursion (IsBy t) history → AreStood history t → t ≤ u → due t u (facts history t) ≡ None → AreStood history u
 stood_later history t u by h w none =
     let same = steps_none t u history by w none in
     let facts_are = none_comes t u history by w none in
@@ -96,25 +97,27 @@ stood_later history t u by h w none =
 
 -- ---- the next date
 
-none_made : (rows : List (ℕ × Member)) → made_by (map pair_gone rows) ≡ []
-none_made [] = refl
-none_made (row ∷ rows) = none_made rows
+none_made : (d : ℕ) (f : Lists) → made_by (date_events d f) ≡ []
+none_made d f = none_of object_made (date_events d f) (each_date (λ e. object_made e ≡ None) d f (record { row = λ g m. refl; gone = λ grant. refl; began = λ grant. refl }))
 
-none_gone : (rows : List (ℕ × Member)) → gone_by (map pair_gone rows) ≡ []
-none_gone [] = refl
-none_gone (row ∷ rows) = none_gone rows
+none_gone : (d : ℕ) (f : Lists) → gone_by (date_events d f) ≡ []
+none_gone d f = none_of object_gone (date_events d f) (each_date (λ e. object_gone e ≡ None) d f (record { row = λ g m. refl; gone = λ grant. refl; began = λ grant. refl }))
 
 -- a date makes nothing, and nothing goes by it
 date_life : (t d : ℕ) (f : Lists) (o : Object) (ss : List Step) → life_of o (ss ++ date_step t d f ∷ []) ≡ life_of o ss
 unfolding life_of
 date_life t d f o ss =
     life_more o ss (date_step t d f) (first_life o)
-    ∙ (ap (λ ms. ended d (gone_by (map pair_gone (ending d f.rows))) o (begun d ms o (life_of o ss))) (none_made (ending d f.rows)) ∙ ap (λ gs. ended d gs o (life_of o ss)) (none_gone (ending d f.rows)))
+    ∙ (ap (λ ms. ended d (gone_by (date_events d f)) o (begun d ms o (life_of o ss))) (none_made d f) ∙ ap (λ gs. ended d gs o (life_of o ss)) (none_gone d f))
 
 -- and no object comes or goes when rules act
 rows_stand : (rows : List MemberRow) (f : Lists) (o : Object) → stands o (record f { rows = rows }) ≡ stands o f
 unfolding placed
 rows_stand rows f o = rest_still f (record f { rows = rows }) refl refl o
+
+dated_stand : (rows : List MemberRow) (grants : List GrantRow) (f : Lists) (o : Object) → stands o (record f { rows = rows; grants = grants }) ≡ stands o f
+unfolding placed
+dated_stand rows grants f o = rest_still f (record f { rows = rows; grants = grants }) refl refl o
 
 settle_stands : (pairs : List (ℕ × ℕ)) (at : ℕ) (f : Lists) (o : Object) → stands o (settle pairs at f) ≡ stands o f
 settle_stands pairs at f o = ap (stands o) (settle_is pairs at f) ∙ rows_stand (settle pairs at f).rows f o
@@ -123,14 +126,14 @@ settle_made : (pairs : List (ℕ × ℕ)) (at : ℕ) (f : Lists) (o : Object) �
 settle_made pairs at f o = ap (λ (x : Lists). was_made x.made o) (settle_is pairs at f)
 
 date_stands : (a d : ℕ) (f : Lists) (o : Object) → stands o (date_passed a d f) ≡ stands o f
-date_stands a d f o = settle_stands (deltas.ended (live a f) (live d (without_ended d f))) d (without_ended d f) o ∙ rows_stand (without_ended d f).rows f o
+date_stands a d f o = settle_stands (deltas.ended (live a f) (live d (at_date d f))) d (at_date d f) o ∙ dated_stand (at_date d f).rows (at_date d f).grants f o
 
 date_made : (a d : ℕ) (f : Lists) (o : Object) → was_made (date_passed a d f).made o ≡ was_made f.made o
-date_made a d f o = settle_made (deltas.ended (live a f) (live d (without_ended d f))) d (without_ended d f) o
+date_made a d f o = settle_made (deltas.ended (live a f) (live d (at_date d f))) d (at_date d f) o
 
-pub stood_next : (history : List Stamped) (t d : ℕ) → AllByRecursion (IsBy t) history → AreStood history t → due t d (facts history t).rows ≡ Some d → IsSound (facts history d) → AreStood history d
+pub stood_next : (history : List Stamped) (t d : ℕ) → AllByRecursion (IsBy t) history → AreStood history t → due t d (facts history t) ≡ Some d → IsSound (facts history d) → AreStood history d
 stood_next history t d by h first sound =
-    let later = (due_some t d d (facts history t).rows first).later in
+    let later = (due_some t d d (facts history t) first).later in
     let are : facts history d ≡ date_passed t d (facts history t) = next_comes t d d history by first in
     let life : (o : Object) → life_of o (steps history d) ≡ life_of o (steps history t) = λ o. ap (life_of o) (steps_next t d d history by first) ∙ date_life t d (facts history t) o (steps history t) in
     let lived : (o : Object) → IsLived d (facts history d) o (life_of o (steps history d)) = λ o. rw (are, life o) (lived_on t d (facts history t) (date_passed t d (facts history t)) o (life_of o (steps history t)) (omega (arith, later)) (date_stands t d (facts history t) o) (date_made t d (facts history t) o) (h.lived o)) in

@@ -1,5 +1,5 @@
--- The keys that commands were given under: each caller has a key once, and it stands for the command
--- that was kept under it.
+-- The keys that commands were given under: each caller has a key once, and it stands for the
+-- command that was kept under it.
 use Rattle.std.specs.Prelude.{◌≡◌, ℕ, suc, ◌&&◌, List, [], ◌∷◌, ◌++◌, Bool, true, false, Option}
 use Rattle.std.specs.Prelude.{Some, None, codes, length, is_none, if◌then◌else◌}
 use Rattle.std.specs.List.{list_any}
@@ -12,7 +12,8 @@ use Rattle.reg_wire.specs.Payload.{command_bytes}
 use Rattle.reg_machine.specs.History.{facts}
 use Rattle.reg_machine.specs.Ids.{made_id}
 
--- what tells a caller from all others: the text of a person or of an internal entity, a group's name
+-- what tells a caller from all others: the text of a person or of an internal entity, a group's
+-- name
 abbrev pub caller_text : Entity → List ℕ
 caller_text (entity.Person text) = text
 caller_text (entity.Group name) = name

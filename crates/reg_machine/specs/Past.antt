@@ -32,19 +32,19 @@ use Rattle.reg_pit.specs.Grants.{has_grant}
 use Rattle.reg_pit.specs.Spans.{spans_until}
 use Rattle.reg_priv.specs.Grants.{grants}
 use Rattle.reg_table.specs.Keyed.{in_order}
-use Rattle.reg_current.specs.Dates.{date_actions, date_passed, due, ending, pair_gone, pass}
+use Rattle.reg_current.specs.Dates.{date_actions, date_events, date_passed, due, most_dates, pass}
 use Rattle.reg_machine.specs.History.{acted, command_actions, facts, up_to}
 use Rattle.reg_current.specs.Live.{live}
 
 -- ---- steps
 
--- a date that comes, the first one after a moment: the rows that end there go, and rules act on
--- what that ended
+-- a date that comes, the first one after a moment: the rows and the grants that end there go,
+-- grants that begin there are on, and rules act on what that ended
 abbrev pub date_step : ℕ → ℕ → Lists → Step
 date_step a d f = record {
   at = d;
   before = f;
-  events = map pair_gone (ending d f.rows);
+  events = date_events d f;
   actions = date_actions a d f;
   after = date_passed a d f;
   live = live a f;
@@ -67,7 +67,7 @@ command_step at by command f = record {
 abbrev pub dates_passed_in : ℕ → ℕ → ℕ → Lists → List Step
 dates_passed_in zero a b f = []
 dates_passed_in (suc n) a b f =
-    elim (due a b f.rows) [
+    elim (due a b f) [
       | None ↦ []
       | Some d ↦ date_step a d f
           ∷ dates_passed_in n d b (date_passed a d f)
@@ -75,7 +75,7 @@ dates_passed_in (suc n) a b f =
 
 -- the dates that come after one moment and up to another
 unfoldable pub dates_passed : ℕ → ℕ → Lists → List Step
-dates_passed a b f = dates_passed_in (2 * length f.rows) a b f
+dates_passed a b f = dates_passed_in (most_dates f) a b f
 
 -- these commands from a moment on, and the dates up to each and up to a last moment
 abbrev pub steps_after : ℕ → List Stamped → ℕ → Lists → List Step
@@ -125,7 +125,7 @@ all_spans history now g (s ∷ ss) =
 
 -- ---- grants
 
--- whether a holder had a privilege on an object at a moment, by a grant or an inherit
+-- whether a holder had a privilege on an object at a moment, by a grant that was on or an inherit
 abbrev pub was_granted : List Stamped → ℕ → Object → Privilege → Holder → Bool
 was_granted history t o p h = has_grant (grants o (facts history t)) p h
 

@@ -15,6 +15,7 @@ use Rattle.reg_audit.specs.Steps.{Step, FollowsOn}
 use Rattle.reg_audit.specs.declared.audit.Audit.{Audit}
 use Rattle.reg_machine.specs.Defining.{AreDefined}
 use Rattle.reg_machine.specs.Formed.{AreFormed}
+use Rattle.reg_machine.specs.GrantDates.{AreOpened}
 use Rattle.reg_current.specs.Invariant.{Now}
 use Rattle.reg_machine.specs.Invariant.{IsInStep}
 use Rattle.reg_current.specs.Live.{live}
@@ -88,3 +89,4 @@ pub record IsRecorded (history : List Stamped) (recording : Recording) : Type 0 
   pub stood : AreStood history recording.now.clock
   pub defined : AreDefined history recording.now.clock
   pub formed : AreFormed recording.now.facts
+  pub opened : AreOpened history recording.now.clock

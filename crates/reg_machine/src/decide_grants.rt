@@ -1,8 +1,8 @@
 // What refuses a command about grants and inherits.
-ghost use Rattle.std.specs.Prelude.{◌≡◌, ◌&&◌, not, is_some, IfOk, Some};
+ghost use Rattle.std.specs.Prelude.{◌≡◌, ◌&&◌, not, is_some, IfOk, None, Some};
 ghost use Rattle.reg_base.specs.Entities.{entity_of};
 ghost use Rattle.reg_facts.specs.Grants.{grant_for};
-ghost use Rattle.reg_machine.specs.Checks.{grant_add_checks, grant_remove_checks};
+ghost use Rattle.reg_machine.specs.Checks.{grant_add_checks, grant_remove_checks, new_grant_checks};
 ghost use Rattle.reg_machine.specs.Checks.{inherit_add_checks, inherit_remove_checks, bare_text};
 ghost use Rattle.reg_machine.specs.Checks.{names_internal, takes_no_grant, is_foreign, is_system};
 ghost use Rattle.reg_machine.specs.Checks.{is_unknown, grant_stands, inherit_stands};
@@ -12,7 +12,7 @@ ghost use Rattle.reg_machine.specs.Refusals.{first_of};
 use crate::Machine;
 use crate::decide_members::{is_internal, named_text};
 use crate::refusing::{full, not_found, wrong_kind};
-use reg_base::{Entity, Privilege, Text};
+use reg_base::{Entity, Moment, Privilege, Text};
 use reg_effect::Kept;
 use reg_facts::{GrantRow, Holder, InheritKind, InheritRow, Object, Refusal, Scope};
 use reg_terms::{MAX_GRANTS, MAX_INHERITS, privilege_kind};
@@ -91,13 +91,13 @@ pub fn is_system(entity: &Entity) -> bool
     }
 }
 
-/// The grant of a privilege, where its object and its holder stand.
+/// The grant of a privilege, without dates, where its object and its holder stand.
 fn grant_for(
     object: Option<Object>,
     privilege: Privilege,
     holder: Option<Holder>,
 ) -> Option<GrantRow>
-    ensures { result ≡ grant_for object privilege holder }
+    ensures { result ≡ grant_for object privilege holder None None }
 {
     let object = object?;
     let holder = holder?;
@@ -105,6 +105,8 @@ fn grant_for(
         object,
         privilege,
         holder,
+        from: None,
+        until: None,
     })
 }
 
@@ -116,7 +118,7 @@ impl<K: Kept> Machine<K> {
         !is_internal(entity) && self.facts().member_of(entity).is_none()
     }
 
-    /// Whether the grant that a command speaks of stands.
+    /// Whether the grant that a command speaks of stands, on or not.
     fn grant_stands(&self, row: &Option<GrantRow>) -> bool
         ensures { result ≡ grant_stands row.now (now_facts self.now) }
     {
@@ -136,24 +138,19 @@ impl<K: Kept> Machine<K> {
         }
     }
 
-    pub(crate) fn decide_grant_add(
+    /// What refuses a grant on an object for a holder that were looked up. One that stands is the
+    /// same whatever its dates.
+    fn decide_new_grant(
         &self,
         alloc: Global,
-        object: &Text,
+        found: Option<Object>,
         privilege: Privilege,
         holder: &Entity,
     ) -> Result<Option<Refusal>, AllocError>
-        ensures { IfOk result (λ found. found
-            ≡ first_of (grant_add_checks self.now.history
-            (now_facts self.now) object.now privilege holder.now)) }
+        ensures { IfOk result (λ refusal. refusal
+            ≡ first_of (new_grant_checks self.now.history
+            (now_facts self.now) found privilege holder.now)) }
     {
-        let found = self.facts().object_of(alloc, object)?;
-        if is_missing(alloc, object, &found)? {
-            return missing_object(alloc, object);
-        }
-        if self.is_unknown(holder) {
-            return not_found(alloc, named_text(holder));
-        }
         if takes_no_grant(&found) {
             return wrong_kind(alloc, "object");
         }
@@ -171,6 +168,32 @@ impl<K: Kept> Machine<K> {
             return full(alloc, "grant", MAX_GRANTS as u64);
         }
         self.decide_room(alloc)
+    }
+
+    pub(crate) fn decide_grant_add(
+        &self,
+        alloc: Global,
+        object: &Text,
+        privilege: Privilege,
+        holder: &Entity,
+        from: Option<Moment>,
+        until: Option<Moment>,
+    ) -> Result<Option<Refusal>, AllocError>
+        ensures { IfOk result (λ found. found
+            ≡ first_of (grant_add_checks self.now.history self.now.clock
+            (now_facts self.now) object.now privilege holder.now from until)) }
+    {
+        let found = self.facts().object_of(alloc, object)?;
+        if is_missing(alloc, object, &found)? {
+            return missing_object(alloc, object);
+        }
+        if self.is_unknown(holder) {
+            return not_found(alloc, named_text(holder));
+        }
+        if self.ends_early(from, until) {
+            return Ok(Some(Refusal::BadWindow));
+        }
+        self.decide_new_grant(alloc, found, privilege, holder)
     }
 
     pub(crate) fn decide_grant_remove(

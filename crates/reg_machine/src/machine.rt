@@ -24,6 +24,7 @@ ghost use Rattle.reg_machine.specs.Checks as checks;
 ghost use Rattle.reg_current.specs.Circles as circles;
 ghost use Rattle.reg_current.specs.Dates.{due, is_on, pass_steps};
 ghost use Rattle.reg_machine.specs.Formed.{AreFormed};
+ghost use Rattle.reg_machine.specs.GrantDates.{grants_by};
 ghost use Rattle.reg_machine.specs.Numbers.{NoneLess, is_load, number, tests};
 ghost use Rattle.reg_machine.specs.History as histories;
 ghost use Rattle.reg_machine.specs.History.{State, appended, start};
@@ -200,26 +201,28 @@ impl<K: Kept> Machine<K> {
         self.recorded.current().leads_back(group, other)
     }
 
-    /// The next date of a membership, if it comes up to a moment. It is a look at the first dates
-    /// to come.
+    /// The next date of a membership or a grant, if it comes up to a moment. It is a look at the
+    /// first dates to come.
     fn next_date(&self, to: Moment) -> Option<Moment>
-        ensures { result ≡ due self.now.clock to (now_facts self.now).rows }
+        ensures { result ≡ due self.now.clock to (now_facts self.now) }
     {
         self.recorded.current().next_date(to)
     }
 
     /// What stands from the clock on, as long as no command comes: nothing that is live changes
     /// between two dates, and a row on which no rule acts is on from its beginning until just
-    /// before its end. It does nothing.
+    /// before its end. So is each grant, on which no rule ever acts. It does nothing.
     fn law_stays(&self)
         ensures between { (u : ℕ) → self.now.clock ≤ u
-            → due self.now.clock u (now_facts self.now).rows ≡ None
+            → due self.now.clock u (now_facts self.now) ≡ None
             → live u (facts self.now.history u) ≡ live self.now.clock (now_facts self.now) }
         ensures on { (u g : ℕ) (m : Member) → self.now.clock ≤ u
             → may_lose g m (now_facts self.now).rules ≡ false
             → has_live_row g m (live u (facts self.now.history u)).rows
             ≡ list_any (λ (row : MemberRow). is_row g m row
             && is_on u row) (now_facts self.now).rows }
+        ensures granted { (u : ℕ) → self.now.clock ≤ u
+            → (facts self.now.history u).grants ≡ grants_by u (now_facts self.now).grants }
     {
         self.recorded.current().law_rows_open();
     }
@@ -271,31 +274,32 @@ impl<K: Kept> Machine<K> {
         self.law_legal();
     }
 
-    /// The machine at the next date: the rows that end there go, those that begin there come on,
-    /// and rules do what follows. It takes at most the steps that the dates after it leave of those
-    /// up to any later moment.
+    /// The machine at the next date: the rows and the grants that end there go, those that begin
+    /// there come on, and rules do what follows. It takes at most the steps that the dates after it
+    /// leave of those up to any later moment.
     fn pass_date<L: Ledger>(
         self,
         alloc: Global,
         date: Moment,
         steps: &mut Steps<L>,
     ) -> Result<Machine<K>, Spent>
-        requires { due self.clock date (now_facts self).rows ≡ Some date }
+        requires { due self.clock date (now_facts self) ≡ Some date }
         ensures moved { IfOk result (λ m. m ≡ record { history = self.history; clock = date }) }
-        ensures cost { OnOk result ((u : ℕ) → due self.clock u (now_facts self).rows ≡ Some date
+        ensures cost { OnOk result ((u : ℕ) → due self.clock u (now_facts self) ≡ Some date
             → steps.new + pass_steps date u (facts self.history date)
             ≤ steps.old + pass_steps self.clock u (now_facts self)) }
     {
         let Machine { stamped, recorded } = self;
         recorded.audit().law_follows();
+        recorded.current().law_date(date);
         let recorded = passed_on(alloc, recorded, date, steps)?;
         Ok(Machine { stamped, recorded })
     }
 
-    /// Sets the clock forward, and changes nothing else: the dates of memberships up to the new
-    /// moment come, one after another, and rules do what follows each. It takes at most the steps
-    /// of what these dates and the rules change, and where no date comes it is a look at the first
-    /// dates to come.
+    /// Sets the clock forward, and changes nothing else: the dates of memberships and grants up to
+    /// the new moment come, one after another, and rules do what follows each. It takes at most the
+    /// steps of what these dates and the rules change, and where no date comes it is a look at the
+    /// first dates to come.
     pub fn advance<L: Ledger>(
         self,
         alloc: Global,
@@ -308,12 +312,13 @@ impl<K: Kept> Machine<K> {
             ≤ steps.old + pass_steps self.clock to (now_facts self)) }
 
         // As long as no command comes, nothing that is live changes between two dates, and a row on
-        // which no rule acts is on from its beginning until just before its end.
-        ensures between { due self.clock to (now_facts self).rows ≡ None
+        // which no rule acts is on from its beginning until just before its end. So is each grant.
+        ensures between { due self.clock to (now_facts self) ≡ None
             → live to (facts self.history to) ≡ live self.clock (now_facts self) }
         ensures on { (g : ℕ) (m : Member) → may_lose g m (now_facts self).rules ≡ false
             → has_live_row g m (live to (facts self.history to)).rows
             ≡ list_any (λ (row : MemberRow). is_row g m row && is_on to row) (now_facts self).rows }
+        ensures granted { (facts self.history to).grants ≡ grants_by to (now_facts self).grants }
     {
         let mut machine = self;
         machine.law_stays();
@@ -444,7 +449,9 @@ impl<K: Kept> Machine<K> {
                 object,
                 privilege,
                 holder,
-            } => self.decide_grant_add(alloc, object, *privilege, holder),
+                from,
+                until,
+            } => self.decide_grant_add(alloc, object, *privilege, holder, *from, *until),
             Command::GrantRemove {
                 object,
                 privilege,

@@ -24,6 +24,7 @@ ghost use Rattle.reg_pit.specs.Spans.{ends_after};
 ghost use Rattle.reg_priv.specs.Holders.{holders};
 ghost use Rattle.reg_priv.specs.May.{wheel};
 ghost use Rattle.reg_audit.specs.Lives.{gone_name};
+ghost use Rattle.reg_machine.specs.GrantDates.{AreOpened};
 ghost use Rattle.reg_machine.specs.History.{facts, now_facts};
 ghost use Rattle.reg_machine.specs.Invariant.{IsFrom};
 ghost use Rattle.reg_machine.specs.Standing.{lives_at, stands};
@@ -240,8 +241,8 @@ impl<K: Kept> Machine<K> {
         past.history_of(group)
     }
 
-    /// Whether a holder had a privilege on an object, by a grant or an inherit, at a moment up to
-    /// the clock. A step is one interval looked at. Takes no memory.
+    /// Whether a holder had a privilege on an object, by a grant that was on or an inherit, at a
+    /// moment up to the clock. A step is one interval looked at. Takes no memory.
     pub fn was_granted<L: Ledger>(
         &self,
         object: Object,
@@ -263,9 +264,9 @@ impl<K: Kept> Machine<K> {
         past.was_granted(object, privilege, holder, t, steps)
     }
 
-    /// The grants that stood on an object at a moment up to the clock, direct and inherited, each
-    /// pair once: by the privilege's code, then everyone, persons by id, groups by id. Costs what
-    /// was ever noted of the object. The only error is out of memory.
+    /// The grants on an object at a moment up to the clock, direct ones that were on and inherited
+    /// ones, each pair once: by the privilege's code, then everyone, persons by id, groups by id.
+    /// Costs what was ever noted of the object. The only error is out of memory.
     pub fn grants_at(
         &self,
         object: Object,
@@ -279,8 +280,9 @@ impl<K: Kept> Machine<K> {
         Ok(found)
     }
 
-    /// The intervals up to the clock in which a holder had a privilege on an object, by a grant or
-    /// an inherit: in order, none empty, no two touching. The only error is out of memory.
+    /// The intervals up to the clock in which a holder had a privilege on an object, by a grant
+    /// that was on or an inherit: in order, none empty, no two touching. The only error is out of
+    /// memory.
     pub fn granted_spans(
         &self,
         object: Object,
@@ -374,6 +376,14 @@ impl<K: Kept> Machine<K> {
         ensures stood { (o : Object) (t : ℕ) → t ≤ self.now.clock
             → stands o (facts self.now.history t)
             ≡ lives_at t (life self.now.history self.now.clock o) }
+    {
+        let _ = &self.recorded;
+    }
+
+    /// At each moment up to the clock a grant that stands and hasn't begun begins later, and each
+    /// ends later, if it ends: so one that is on then has begun and hasn't ended. It does nothing.
+    pub fn law_grants_open(&self)
+        ensures { AreOpened self.now.history self.now.clock }
     {
         let _ = &self.recorded;
     }

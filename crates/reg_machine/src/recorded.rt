@@ -1,6 +1,6 @@
 // What stands at a moment, and the record of the steps up to it. Both stand on the heap, since a
 // machine goes by value from function to function, and these are several hundred bytes.
-ghost use Rattle.std.specs.Prelude.{◌≡◌, ◌≤◌, ◌+◌, List, [], Some, None, IfOk, OnOk, map};
+ghost use Rattle.std.specs.Prelude.{◌≡◌, ◌≤◌, ◌+◌, List, [], Some, None, IfOk, OnOk};
 ghost use Rattle.std.specs.List.{AllByRecursion};
 ghost use Rattle.reg_terms.specs.declared.event.Event.{Event};
 ghost use Rattle.reg_facts.specs.Events.{all_happened};
@@ -17,8 +17,8 @@ ghost use Rattle.reg_audit.specs.Assigning.{assign_changes, MayNote};
 ghost use Rattle.reg_audit.specs.Audit.{IsAudit};
 ghost use Rattle.reg_audit.specs.Notes.{notes_of};
 ghost use Rattle.reg_priv.specs.Touched.{KnowsTouched};
-ghost use Rattle.reg_current.specs.Dates.{date_changes, date_passed, date_steps, due, ending};
-ghost use Rattle.reg_current.specs.Dates.{pair_gone, without_ended};
+ghost use Rattle.reg_current.specs.Dates.{at_date, date_changes, date_events, date_passed};
+ghost use Rattle.reg_current.specs.Dates.{date_steps, due};
 ghost use Rattle.reg_current.specs.Holding.{AllHold};
 ghost use Rattle.reg_current.specs.Live.{live};
 ghost use Rattle.reg_machine.specs.Recording.{carried_step, carried_steps, settled_after};
@@ -79,19 +79,19 @@ fn carried<K: Kept, L: Ledger>(
 }
 
 /// What stands at the next date, what it changes itself, the memberships that it turns, which are
-/// remembered, and the objects whose grants it may change. It takes at most the steps of the
-/// memberships that end and begin there.
+/// remembered, and the objects whose grants it may change: these are of grants that end or begin
+/// there. It takes at most the steps of the memberships that end and begin there.
 fn passed<K: Kept, L: Ledger>(
     alloc: Global,
     current: Current<K>,
     date: Moment,
     steps: &mut Steps<L>,
 ) -> Result<(Current<K>, Notes, Turned, Vec<Object>), AllocError>
-    requires { due current.clock date current.facts.rows ≡ Some date }
+    requires { due current.clock date current.facts ≡ Some date }
     ensures moved { IfOk result (λ r. r.0
-        ≡ record { clock = date; facts = without_ended date current.facts }) }
+        ≡ record { clock = date; facts = at_date date current.facts }) }
     ensures notes { IfOk result (λ r. r.1
-        ≡ notes_of date current.facts (map pair_gone (ending date current.facts.rows))) }
+        ≡ notes_of date current.facts (date_events date current.facts)) }
     ensures told { IfOk result
         (λ r. Remembers (live current.clock current.facts) (live r.0.clock r.0.facts) r.2) }
     ensures touches { IfOk result (λ r. KnowsTouched current.facts r.0.facts r.3.items) }
@@ -101,7 +101,7 @@ fn passed<K: Kept, L: Ledger>(
 {
     let mut turned = Turned::new(alloc);
     let mut touched = Vec::new(alloc);
-    let Ok(events) = current.ending(alloc, date) else {
+    let Ok(events) = current.date_events(alloc, date) else {
         drop(current);
         return Err(AllocError);
     };
@@ -238,9 +238,9 @@ impl<K: Kept> Recorded<K> {
         date: Moment,
         steps: &mut Steps<L>,
     ) -> Result<Recorded<K>, AllocError>
-        requires due { due self.current.clock date self.current.facts.rows ≡ Some date }
+        requires due { due self.current.clock date self.current.facts ≡ Some date }
         requires noted { MayNote date
-            (assign_changes (map pair_gone (ending date self.current.facts.rows))) self.audit.past }
+            (assign_changes (date_events date self.current.facts)) self.audit.past }
         ensures moved { IfOk result (λ r. r.current
             ≡ record {
               clock = date;
@@ -267,7 +267,7 @@ impl<K: Kept> Recorded<K> {
     /// Goes on to a moment up to which no date comes. Nothing else changes.
     pub fn wait(&mut self, to: Moment)
         requires later { self.old.current.clock ≤ to }
-        requires none { due self.old.current.clock to self.old.current.facts.rows ≡ None }
+        requires none { due self.old.current.clock to self.old.current.facts ≡ None }
         ensures now { self.new.current ≡ record { clock = to; facts = self.old.current.facts } }
         ensures audit { self.new.audit ≡ self.old.audit }
     {
@@ -311,10 +311,10 @@ pub fn passed_on<K: Kept, L: Ledger>(
     date: Moment,
     steps: &mut Steps<L>,
 ) -> Result<Box<Recorded<K>>, AllocError>
-    requires due { due recorded.value.current.clock date recorded.value.current.facts.rows
+    requires due { due recorded.value.current.clock date recorded.value.current.facts
         ≡ Some date }
     requires noted { MayNote date
-        (assign_changes (map pair_gone (ending date recorded.value.current.facts.rows)))
+        (assign_changes (date_events date recorded.value.current.facts))
         recorded.value.audit.past }
     ensures moved { IfOk result (λ b. b.value.current
         ≡ record {

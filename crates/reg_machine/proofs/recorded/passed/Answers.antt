@@ -5,8 +5,8 @@ use Rattle.reg_current.specs.Live.{live}
 use Rattle.reg_current.proofs.Due.{due_some}
 use Rattle.reg_machine.proofs.recorded.passed.Goals as goal
 
-pub ending-requires : goal.ending-requires
-ending-requires g c = (due_some c.args.current.clock c.args.date c.args.date c.args.current.facts.rows c.requires).later
+pub date_events-requires : goal.date_events-requires
+date_events-requires g c = (due_some c.args.current.clock c.args.date c.args.date c.args.current.facts c.requires).later
 
 pub returns-clause-notes : goal.returns-clause-notes
 returns-clause-notes g c = c.in-Ok-noted.ensures ∙ (ap (λ (f : Lists). notes_of c.args.date f c.deref.result.now) c.facts.ensures ∙ ap (notes_of c.args.date c.args.current.facts) (c.deref.ensures.value ∙ c.in-Ok.ensures))
