@@ -6,7 +6,7 @@ use Rattle.reg_base.specs.declared.entity.Entity.{Entity}
 use Rattle.reg_terms.specs.declared.command.Command.{Command}
 use Rattle.reg_terms.specs.declared.command.Stamped.{Stamped}
 use Rattle.reg_terms.specs.declared.event.Event.{Event}
-use Rattle.reg_terms.specs.declared.event.Event.TheVariants.{FolderMade, FolderRenamed, FolderMoved, FolderGone, SubjectMade, GroupMade, GroupRenamed, GroupMoved, GroupGone, RowAdded, RowRemoved, RowRedated, Composed, Decomposed, GrantAdded, GrantRemoved, InheritAdded, InheritRemoved, DefinitionMade, DefinitionGone, AttributeMade, AttributeGone, AssignMade, AssignGone, ValueAdded, ValueRemoved, RuleMade, RuleGone, JobMade, JobGone, ConsumerAdded, ConsumerAcked}
+use Rattle.reg_terms.specs.declared.event.Event.TheVariants.{FolderMade, FolderRenamed, FolderMoved, FolderGone, SubjectMade, GroupMade, GroupRenamed, GroupMoved, GroupGone, RowAdded, RowRemoved, RowRedated, Composed, Decomposed, GrantAdded, GrantBegan, GrantRemoved, InheritAdded, InheritRemoved, DefinitionMade, DefinitionGone, AttributeMade, AttributeGone, AssignMade, AssignGone, ValueAdded, ValueRemoved, RuleMade, RuleGone, JobMade, JobGone, ConsumerAdded, ConsumerAcked}
 use Rattle.reg_terms.specs.declared.rows.SubjectRow.{SubjectRow}
 use Rattle.reg_facts.specs.Events.{all_happened, edit, events_of, happened}
 use Rattle.reg_facts.specs.Lists as the_facts
@@ -16,7 +16,7 @@ use Rattle.reg_rules.specs.declared.actions.Action.{Action}
 use Rattle.reg_rules.specs.declared.actions.Action.TheVariants.{Removed, Ended}
 use Rattle.reg_rules.specs.Actions.{all_done}
 use Rattle.reg_rules.specs.Settling.{settle, settling}
-use Rattle.reg_current.specs.Dates.{date_passed, due, pass, pass_in, without_ended}
+use Rattle.reg_current.specs.Dates.{at_date, date_passed, due, pass, pass_in}
 use Rattle.reg_current.specs.Live.{live}
 use Rattle.reg_machine.specs.History.{acted, facts, facts_after, up_to}
 use Rattle.reg_asof.specs.Lawful.{Rises}
@@ -50,6 +50,7 @@ by_event (RowRedated g m from until) f = stay f.subjects f.subjects refl
 by_event (Composed row) f = stay f.subjects f.subjects refl
 by_event (Decomposed g) f = stay f.subjects f.subjects refl
 by_event (GrantAdded row) f = stay f.subjects f.subjects refl
+by_event (GrantBegan row) f = stay f.subjects f.subjects refl
 by_event (GrantRemoved row) f = stay f.subjects f.subjects refl
 by_event (InheritAdded row) f = stay f.subjects f.subjects refl
 by_event (InheritRemoved row) f = stay f.subjects f.subjects refl
@@ -83,7 +84,7 @@ settled : (pairs : List (ℕ × ℕ)) (at : ℕ) (f : Lists) → (settle pairs a
 settled pairs at f = by_actions (settling pairs at f) f
 
 by_date : (a d : ℕ) (f : Lists) → (date_passed a d f).subjects ≡ f.subjects
-by_date a d f = settled (ended (live a f) (live d (without_ended d f))) d (without_ended d f)
+by_date a d f = settled (ended (live a f) (live d (at_date d f))) d (at_date d f)
 
 abbrev on_from : ℕ → ℕ → ℕ → Lists → Option ℕ → Lists
 on_from n a b f None = f
@@ -92,7 +93,7 @@ on_from n a b f (Some d) = pass_in n d b (date_passed a d f)
 passed_in : (n a b : ℕ) (f : Lists) → (pass_in n a b f).subjects ≡ f.subjects
 passed_in zero a b f = refl
 passed_in (suc n) a b f =
-    elim (due a b f.rows) as (λ (next : Option ℕ). (on_from n a b f next).subjects ≡ f.subjects) [
+    elim (due a b f) as (λ (next : Option ℕ). (on_from n a b f next).subjects ≡ f.subjects) [
       | None ↦ refl
       | Some d ↦ passed_in n d b (date_passed a d f) ∙ by_date a d f
     ]

@@ -22,7 +22,6 @@ use Rattle.reg_facts.specs.Naming.{group_id}
 use Rattle.reg_facts.specs.Sound.{AscendFrom, has_subject}
 use Rattle.reg_effect.specs.declared.live.Live.{Live}
 use Rattle.reg_effect.specs.Member.{member}
-use Rattle.reg_priv.specs.declared.who.Who.{Who}
 use Rattle.reg_priv.specs.declared.who.Who.TheVariants.{System}
 use Rattle.reg_priv.specs.May.{visible, who_of}
 use Rattle.reg_current.specs.Live.{live}

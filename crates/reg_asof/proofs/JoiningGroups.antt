@@ -37,7 +37,7 @@ use Rattle.reg_view.specs.View.{is_readable}
 use Rattle.reg_asof.specs.Then.{state_at}
 use Rattle.reg_asof.specs.Lawful.{IsLawful}
 use Rattle.reg_asof.specs.Joined.{GroupsAgree, IsEarlier}
-use Rattle.reg_asof.proofs.Growing.{Grows, facts_then}
+use Rattle.reg_asof.proofs.Growing.{Grows}
 use Rattle.reg_asof.proofs.Joining.{all_go, in_time_so, member_then, now_is, persons, then_is}
 
 -- ---- what is placed

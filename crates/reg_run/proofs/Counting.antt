@@ -1,5 +1,5 @@
 -- How many assignments and rules were ever made: a command that isn't refused makes one where it says so, and nothing else makes any.
-use Rattle.std.proofs.Common.{◌≡◌, ℕ, ◌+◌, ◌≤◌, Bool, true, false, not, List, [], ◌∷◌, ◌++◌, map, zero, suc, ◌*◌, Option, Some, None, length, refl, sym, ◌∙◌}
+use Rattle.std.proofs.Common.{◌≡◌, ℕ, ◌+◌, ◌≤◌, Bool, true, false, not, List, [], ◌∷◌, ◌++◌, map, zero, suc, Option, Some, None, length, refl, sym, ◌∙◌}
 use Rattle.std.specs.Prelude.{is_some, if◌then◌else◌, option_map}
 use Rattle.std.specs.List.{AllByRecursion, list_all}
 use Rattle.std.proofs.lemmas.Bool.{and_from, and_parts, false≢true}
@@ -33,7 +33,7 @@ use Rattle.reg_facts.specs.Events.{all_happened, edit, events_of, factors_gone, 
 use Rattle.reg_facts.specs.RowOrder.{rows_of}
 use Rattle.reg_facts.specs.Attributes.{attribute_id, value_of}
 use Rattle.reg_facts.specs.Edits.{from_or, member_of, subject_id, the_id}
-use Rattle.reg_facts.specs.Grants.{grant_of, holder_of, inherit_of, makers_grant, object_of}
+use Rattle.reg_facts.specs.Grants.{grant_of, holder_of, inherit_of, makers_grant, object_of, to_come}
 use Rattle.reg_facts.specs.Jobs.{job_by}
 use Rattle.reg_facts.specs.Naming.{folder_id, group_id}
 use Rattle.reg_facts.specs.Lists.{Lists}
@@ -41,7 +41,7 @@ use Rattle.reg_facts.specs.Rules.{form_of, on_create_for}
 use Rattle.reg_rules.specs.declared.actions.Action.{Action}
 use Rattle.reg_rules.specs.declared.actions.Action.TheVariants.{Removed, Ended}
 use Rattle.reg_rules.specs.Actions.{all_done, done}
-use Rattle.reg_current.specs.Dates.{date_actions, date_passed, due, pass, pass_in, without_ended}
+use Rattle.reg_current.specs.Dates.{at_date, date_actions, date_passed, due, most_dates, pass, pass_in}
 use Rattle.reg_machine.specs.Assigning.{owner_of}
 use Rattle.reg_machine.specs.Checks.{checks, is_system, is_unknown}
 use Rattle.reg_machine.specs.History.{command_actions, facts}
@@ -223,8 +223,8 @@ edit_makes history last at by (MemberRemove group member) f h = edit_same at by 
 edit_makes history last at by (MemberWindow group member from until) f h = edit_same at by (MemberWindow group member from until) f (none_on_member (λ m. RowRedated (the_id (group_id group f)) m (from_or at from) until) (λ m. refl) (member_of member f))
 edit_makes history last at by (CompositeSet group kind left right) f h = (refl, refl)
 edit_makes history last at by (CompositeClear group) f h = (refl, refl)
-edit_makes history last at by (GrantAdd object privilege holder) f h = edit_same at by (GrantAdd object privilege holder) f (none_on_grant (λ row. GrantAdded row) (λ row. refl) (grant_of object privilege holder f))
-edit_makes history last at by (GrantRemove object privilege holder) f h = edit_same at by (GrantRemove object privilege holder) f (none_on_grant (λ row. GrantRemoved row) (λ row. refl) (grant_of object privilege holder f))
+edit_makes history last at by (GrantAdd object privilege holder from until) f h = edit_same at by (GrantAdd object privilege holder from until) f (none_on_grant (λ row. GrantAdded row) (λ row. refl) (grant_of object privilege holder (to_come at from) until f))
+edit_makes history last at by (GrantRemove object privilege holder) f h = edit_same at by (GrantRemove object privilege holder) f (none_on_grant (λ row. GrantRemoved row) (λ row. refl) (grant_of object privilege holder None None f))
 edit_makes history last at by (InheritAdd folder kind scope privilege holder) f h = edit_same at by (InheritAdd folder kind scope privilege holder) f (none_on_inherit (λ row. InheritAdded row) (λ row. refl) (inherit_of folder kind scope privilege holder f))
 edit_makes history last at by (InheritRemove folder kind scope privilege holder) f h = edit_same at by (InheritRemove folder kind scope privilege holder) f (none_on_inherit (λ row. InheritRemoved row) (λ row. refl) (inherit_of folder kind scope privilege holder f))
 edit_makes history last at by (AttrdefAdd definition owners several kind many) f h = edit_same at by (AttrdefAdd definition owners several kind many) f (none_granted (makers_grant by (Def (f.made.definitions + 1)) AttrAdmin f))
@@ -254,11 +254,11 @@ all_done_same (a ∷ actions) f = same_then f (done a f) (all_done actions (done
 
 -- a date makes nothing
 date_same : (a d : ℕ) (f : Lists) → SameMade f (date_passed a d f)
-date_same a d f = all_done_same (date_actions a d f) (without_ended d f)
+date_same a d f = all_done_same (date_actions a d f) (at_date d f)
 
 pass_in_same : (n a b : ℕ) (f : Lists) → SameMade f (pass_in n a b f)
 pass_in_same zero a b f = (refl, refl)
-pass_in_same (suc n) a b f = go (λ d. pass_in_same n d b (date_passed a d f)) (due a b f.rows)
+pass_in_same (suc n) a b f = go (λ d. pass_in_same n d b (date_passed a d f)) (due a b f)
   where
     go : ((d : ℕ) → SameMade (date_passed a d f) (pass_in n d b (date_passed a d f))) → (o : Option ℕ) → SameMade f (elim o [ None ↦ f | Some d ↦ pass_in n d b (date_passed a d f) ])
     go later None = (refl, refl)
@@ -266,7 +266,7 @@ pass_in_same (suc n) a b f = go (λ d. pass_in_same n d b (date_passed a d f)) (
 
 pass_same : (a b : ℕ) (f : Lists) → SameMade f (pass a b f)
 unfolding pass
-pass_same a b f = pass_in_same (2 * length f.rows) a b f
+pass_same a b f = pass_in_same (most_dates f) a b f
 
 -- time makes nothing
 pub later_same : (t u : ℕ) (history : List Stamped) → AllByRecursion (IsBy t) history → t ≤ u → SameMade (facts history t) (facts history u)

@@ -1,5 +1,5 @@
 -- The records of a table, one after another.
-use Rattle.std.proofs.Common.{◌≡◌, ◌≤◌, ◌+◌, ◌-◌, ◌++◌, ℕ, List, suc, refl, arith}
+use Rattle.std.proofs.Common.{◌≡◌, ◌≤◌, ◌+◌, ◌-◌, ◌++◌, ℕ, suc, refl, arith}
 use Rattle.reg_sample.specs.Lines.{record_text, records}
 
 -- one record more

@@ -13,9 +13,9 @@ use Rattle.reg_terms.specs.declared.reply.Reply.{Reply}
 use Rattle.reg_terms.specs.declared.reply.Reply.TheVariants as reply
 use Rattle.reg_session.specs.Answered.{Point, Gives}
 use Rattle.reg_session.specs.Replies.{IsShown}
-use Rattle.reg_calls.specs.Asked.{asked_of, closes}
+use Rattle.reg_calls.specs.Asked.{closes}
 use Rattle.reg_calls.specs.Faults.{refusal_of}
-use Rattle.reg_calls.specs.Responses.{response_to, fault_response}
+use Rattle.reg_calls.specs.Responses.{fault_response}
 use Rattle.reg_serve.specs.Answered.{Answer, Answered, Outcome, calls_of, goes, responses_of, stops, times_of}
 use Rattle.reg_serve.specs.Exact.{replies, replies_of}
 use Rattle.reg_serve.specs.Sessions.{EndsAtMessage, EndsBetween, IsQuiet}

@@ -41,7 +41,6 @@ use Rattle.reg_http.specs.Runs.{HasGiven}
 use Rattle.reg_http.specs.Turns.{Reading, GivesTurn, start, fed}
 use Rattle.reg_http.specs.declared.call.Call.{Call}
 use Rattle.reg_http.specs.declared.call.Turn.{Turn}
-use Rattle.reg_http.specs.declared.call.Turn.TheVariants as taken
 use Rattle.reg_calls.specs.Asked.{closes_by}
 use Rattle.reg_calls.specs.Responses.{response_to, fault_response}
 use Rattle.reg_calls.specs.declared.asked.Asked.{Asked}

@@ -1,6 +1,6 @@
 -- From connection to connection of a listener.
-use Rattle.std.proofs.Common.{◌≡◌, ◌≤◌, ◌<◌, ◌+◌, ◌++◌, ◌∷◌, [], List, ℕ, Option, Some, None, Bool, Result, Ok, Err, true, false, if◌then◌else◌, refl, ap, sym, ◌∙◌, append_assoc, append-nil, arith, inl, inr, ◌⊎◌, length, length-append, map, option_map}
-use Rattle.std.specs.Prelude.{IfSome, IfOk, IfErr}
+use Rattle.std.proofs.Common.{◌≡◌, ◌≤◌, ◌<◌, ◌+◌, ◌++◌, ◌∷◌, [], List, ℕ, Option, Some, None, Result, Ok, Err, refl, ap, sym, ◌∙◌, append_assoc, append-nil, arith, inl, inr, ◌⊎◌, length, length-append, map, option_map}
+use Rattle.std.specs.Prelude.{IfSome}
 use Rattle.std.proofs.lemmas.List.{map-append}
 use Rattle.reg_outside.specs.Connections.{Accepts, Connections, HasOpen, Seen, gives_back}
 use Rattle.reg_outside.specs.Faults.{Rose}
@@ -16,7 +16,7 @@ use Rattle.reg_service.specs.declared.service.Next.TheVariants as next
 use Rattle.reg_session.proofs.Halting.{halted_then}
 use Rattle.reg_serve.specs.Answered.{Outcome, goes, stops}
 use Rattle.reg_serve.specs.Keeping.{IsLeft}
-use Rattle.reg_serve.specs.Visits.{AllServed, BreaksAt, CeasesAt, CeasesNext, CeasesServing, GivesBack, IsVisit, ServedSo, ServesVisits, Sessions, StopsAtLast, Visit, Visited, Visits, ceased_of}
+use Rattle.reg_serve.specs.Visits.{BreaksAt, CeasesAt, CeasesNext, CeasesServing, GivesBack, IsVisit, ServedSo, ServesVisits, Sessions, StopsAtLast, Visit, Visits, ceased_of}
 use Rattle.reg_serve.specs.declared.ended.Ceased.{Ceased}
 use Rattle.reg_serve.specs.declared.ended.Ceased.TheVariants as ceased
 use Rattle.reg_serve.specs.declared.ended.Ended.{Ended}

@@ -25,11 +25,6 @@ pub next_judged : (all : Result State ℕ) (m next : State) (left rest : Records
     → or_place place (after_old_payload m bytes) ≡ Ok next → all ≡ judged_old next rest
 next_judged all m next left rest place bytes before so_far taken same is = first_judged all m left rest place bytes before (ok_state next) so_far taken same is
 
--- the place of the first that isn't taken is told
-pub damaged_there : (all : Result State ℕ) (m : State) (left rest : Records) (place : ℕ) (bytes before : List ℕ) (f : OpenFault) → all ≡ judged_old m left → left ≡ (place, before) ∷ rest → bytes ≡ before
-    → ((at : ℕ) → f ≡ open_fault.Damaged at → or_place place (after_old_payload m bytes) ≡ Err at) → (at : ℕ) → f ≡ open_fault.Damaged at → all ≡ Err at
-damaged_there all m left rest place bytes before f so_far taken same ill at is = first_judged all m left rest place bytes before (Err at) so_far taken same (ill at is)
-
 one_more : (made left : Records) (place : ℕ) (bytes : List ℕ) → made ++ recoded ((place, bytes) ∷ left) ≡ (made ++ (place, recoded_payload bytes) ∷ []) ++ recoded left
 one_more made left place bytes = sym (append_assoc made ((place, recoded_payload bytes) ∷ []) (recoded left))
 

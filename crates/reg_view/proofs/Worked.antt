@@ -55,7 +55,7 @@ pub not_seen : asks ann_and_g (codes "uni/ann") (query.Members (codes "g") None)
 unfolding ann_and_g events_of entity_of resolve placed lies_in path extensions name_of rows_of member extension_of folder_of
 not_seen = refl
 
-pub seen_but_not_read : asks (after (GrantAdd (codes "g") privilege.View (entity.Person (codes "uni/ann")) ∷ []) ann_and_g) (codes "uni/ann") (query.Members (codes "g") None) ≡ Err (Denied (codes "g") (codes "READ"))
+pub seen_but_not_read : asks (after (GrantAdd (codes "g") privilege.View (entity.Person (codes "uni/ann")) None None ∷ []) ann_and_g) (codes "uni/ann") (query.Members (codes "g") None) ≡ Err (Denied (codes "g") (codes "READ"))
 unfolding ann_and_g events_of entity_of object_of resolve placed lies_in path extensions name_of rows_of member extension_of folder_of
 seen_but_not_read = refl
 
@@ -67,7 +67,7 @@ readers = after (
     ∷ MemberAdd (codes "bad") (entity.Group (codes "worse")) None None
     ∷ CompositeSet (codes "readers") Complement (codes "base") (codes "bad")
     ∷ MemberAdd (codes "base") (entity.Person (codes "uni/bob")) None None
-    ∷ GrantAdd (codes "g") privilege.Read (entity.Group (codes "readers")) ∷ GrantAdd (codes "g") privilege.View entity.Everyone ∷ []
+    ∷ GrantAdd (codes "g") privilege.Read (entity.Group (codes "readers")) None None ∷ GrantAdd (codes "g") privilege.View entity.Everyone None None ∷ []
     ) start
 
 pub reads_by_complement : asks readers (codes "uni/bob") (query.Members (codes "g") None) ≡ Ok (answer.Members [])
@@ -176,11 +176,11 @@ admin_for_others = refl
 pub by_bob : Lists
 by_bob = after (
     SubjectAdd (entity.Person (codes "uni/ann")) [] ∷ SubjectAdd (entity.Person (codes "uni/bob")) [] ∷ GroupAdd (codes "g") []
-    ∷ GrantAdd (codes "g") privilege.View entity.Everyone ∷ GrantAdd (codes "g") privilege.Admin (entity.Person (codes "uni/bob")) ∷ []
+    ∷ GrantAdd (codes "g") privilege.View entity.Everyone None None ∷ GrantAdd (codes "g") privilege.Admin (entity.Person (codes "uni/bob")) None None ∷ []
     ) start
 
 pub by_ann : Lists
-by_ann = after (GrantRemove (codes "g") privilege.Admin (entity.Person (codes "uni/bob")) ∷ GrantAdd (codes "g") privilege.Admin (entity.Person (codes "uni/ann")) ∷ []) by_bob
+by_ann = after (GrantRemove (codes "g") privilege.Admin (entity.Person (codes "uni/bob")) ∷ GrantAdd (codes "g") privilege.Admin (entity.Person (codes "uni/ann")) None None ∷ []) by_bob
 
 abbrev grants_past : Past
 grants_past = record { facts = λ t. if nat_lt t 6 then by_bob else by_ann; was = λ t g s. false; spans = λ g s. []; lines = []; gone = []; gone_by_id = []; last_name = λ o. []; def_of = λ a. None }
@@ -215,12 +215,12 @@ at_risk = after (
     SubjectAdd (entity.Person (codes "uni/ann")) [] ∷ GroupAdd (codes "g") []
     ∷ AttrdefAdd (codes "level") (record { folder = false; group = true; subject = false }) false Text false
     ∷ AttrAdd (codes "risk") (codes "level") ∷ AssignAdd (codes "risk") (codes "g") ∷ ValueAdd (codes "risk") (codes "g") 1 (given.Text (codes "high"))
-    ∷ GrantAdd (codes "g") privilege.GroupAttrRead (entity.Person (codes "uni/ann")) ∷ []
+    ∷ GrantAdd (codes "g") privilege.GroupAttrRead (entity.Person (codes "uni/ann")) None None ∷ []
     ) start
 
 -- and what is assigned of level
 pub told_level : Lists
-told_level = after (GrantAdd (codes "level") privilege.AttrRead (entity.Person (codes "uni/ann")) ∷ []) at_risk
+told_level = after (GrantAdd (codes "level") privilege.AttrRead (entity.Person (codes "uni/ann")) None None ∷ []) at_risk
 
 -- at 6 the assignment went, and the attribute and the definition with it
 pub no_risk : Lists
@@ -276,9 +276,9 @@ with_hidden = after (
     SubjectAdd (entity.Person (codes "uni/ann")) []
     ∷ GroupAdd (codes "g") [] ∷ GroupAdd (codes "h") [] ∷ GroupAdd (codes "j") [] ∷ GroupAdd (codes "k") []
     ∷ MemberAdd (codes "g") (entity.Group (codes "h")) None None
-    ∷ GrantAdd (codes "g") privilege.Read (entity.Person (codes "uni/ann"))
-    ∷ GrantAdd (codes "k") privilege.Admin (entity.Person (codes "uni/ann"))
-    ∷ GrantAdd (codes "k") privilege.View (entity.Group (codes "j")) ∷ []
+    ∷ GrantAdd (codes "g") privilege.Read (entity.Person (codes "uni/ann")) None None
+    ∷ GrantAdd (codes "k") privilege.Admin (entity.Person (codes "uni/ann")) None None
+    ∷ GrantAdd (codes "k") privilege.View (entity.Group (codes "j")) None None ∷ []
     ) start
 
 pub hidden_not_listed : asks with_hidden (codes "uni/ann") (query.FolderList (codes ":")) ≡ Ok (answer.FolderList [] [] [] (codes "g" ∷ codes "k" ∷ []))

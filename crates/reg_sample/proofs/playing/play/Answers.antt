@@ -1,4 +1,4 @@
-use Rattle.std.proofs.Common.{refl, arith}
+use Rattle.std.proofs.Common.{arith}
 use Rattle.reg_sample.proofs.Asking.{played_more, played_none}
 use Rattle.reg_sample.proofs.playing.play.Goals as goal
 

@@ -1,4 +1,3 @@
-use Rattle.std.proofs.Common.{refl}
 use Rattle.reg_serve.proofs.connections.serve_accepted.Goals as goal
 
 -- it was a session, and was given back as it stood after it

@@ -2,7 +2,7 @@ use Rattle.std.proofs.Common.{◌∙◌, ap}
 use Rattle.reg_machine.specs.History.{start}
 use Rattle.reg_recode.specs.Recoded.{recoded, recoded_payload}
 use Rattle.reg_service.specs.Opening.{judged_old}
-use Rattle.reg_service.proofs.Judging.{all_after, damaged_there, next_judged, short_after}
+use Rattle.reg_service.proofs.Judging.{all_after, next_judged, short_after}
 use Rattle.reg_service.proofs.migrated.judge_old.Goals as goal
 
 pub records-preserved : goal.records-preserved
