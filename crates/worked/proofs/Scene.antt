@@ -1,5 +1,5 @@
 -- The membership of the scene suits what is live before it: nothing.
-use Rattle.std.proofs.Common.{◌≡◌, ℕ, true, false, refl}
+use Rattle.std.proofs.Common.{◌≡◌, true, false, refl}
 use Rattle.reg_terms.specs.declared.kinds.Member.TheVariants.{Person}
 use Rattle.reg_effect.specs.Changes.{Suits, nothing}
 use Rattle.reg_effect.specs.Edges.{edges}
