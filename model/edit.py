@@ -9,7 +9,7 @@ from typing import TYPE_CHECKING, Dict, List, Optional, Union
 
 import names
 import refusals
-from facts import Attribute, Definition, Folder, Gone, Grant, Group, Person
+from facts import Attribute, Definition, Folder, Gone, Grant, Group, Person, Window
 from kinds import SYSTEM, Kind, Thing
 from log import Entry
 from privileges import ADMIN_OF, Privilege
@@ -75,7 +75,9 @@ class Edit(Turn):
         """
         facts, last_name = self.facts, self.facts.name(thing)
         facts.gone[thing] = Gone(self.moment, last_name, facts.objects.pop(thing))
-        facts.grants = {grant for grant in facts.grants if grant.object != thing}
+        facts.grants = {
+            grant: window for grant, window in facts.grants.items() if grant.object != thing
+        }
         facts.inherits = {inherit for inherit in facts.inherits if inherit.folder != thing}
         facts.assignments = {
             number: assignment
@@ -84,10 +86,10 @@ class Edit(Turn):
         }
 
     def add_grant(self, thing: Thing, privilege: Privilege, holder: Thing) -> None:
-        """A grant, unless the same one stands already."""
+        """A grant from now on, unless the same one stands already, on or not."""
         grant = Grant(thing, privilege, holder)
         if grant not in self.facts.grants:
-            self.facts.grants.add(grant)
+            self.facts.grants[grant] = Window(self.moment, None)
             self.note("grant.add", thing, holder, privilege)
 
     def grant_creator(self, thing: Thing) -> None:

@@ -56,7 +56,8 @@ class Person:
 
 
 class Window(NamedTuple):
-    """From when a row is on, and the moment at which it is taken away, if there is one."""
+    """From when a row or a grant is on, and the moment at which it is taken away, if there is one.
+    """
 
     begins: int
     until: Optional[int]
@@ -73,7 +74,10 @@ class Composite:
 
 
 class Grant(NamedTuple):
-    """A privilege on one object, held by a person, a group's members, or everyone."""
+    """A privilege on one object, held by a person, a group's members, or everyone.
+
+    At most one stands of each, whatever its dates are.
+    """
 
     object: Thing
     privilege: Privilege
@@ -175,7 +179,7 @@ class Facts:
     persons: Dict[Thing, Person] = field(default_factory=dict)
     rows: Dict[Tuple[Thing, Thing], Window] = field(default_factory=dict)  # (group, member)
     composites: Dict[Thing, Composite] = field(default_factory=dict)
-    grants: Set[Grant] = field(default_factory=set)
+    grants: Dict[Grant, Window] = field(default_factory=dict)
     inherits: Set[Inherit] = field(default_factory=set)
     assignments: Dict[int, Assignment] = field(default_factory=dict)
     rules: Dict[int, Rule] = field(default_factory=dict)

@@ -1,5 +1,8 @@
 """Commands on grants, on one object, and on inherits, on all objects of a kind in a folder."""
 
+from typing import Optional
+
+import dates
 import fields
 import refusals
 from edit import Edit
@@ -25,44 +28,53 @@ INHERIT = (
 )
 
 
-def judge_grant(edit: Edit, text: str, word: str, holder_text: str, stands: bool) -> Grant:
-    """The grant that is meant. Where it has to stand, its holder may be hidden.
-
-    Grants are on folders, groups (by name or as entities) and definitions, of a privilege of the
-    object's kind. GrouperSystem needs none.
-    """
+def find_grant(edit: Edit, text: str, word: str, holder_text: str, stands: bool) -> Grant:
+    """The grant that is meant, by the object's admin. Where it has to stand, on or not, its holder
+    may be hidden."""
     thing, privilege = edit.find_object(text), Privilege[word]
     holder = edit.find_entity(
         holder_text,
         lambda group: stands and Grant(thing, privilege, group) in edit.facts.grants,
     )
     edit.demand_admin(thing)
-    if thing.kind not in OF_KIND:
-        raise refusals.wrong_kind("object")
-    if privilege not in OF_KIND[thing.kind]:
-        raise refusals.wrong_kind("privilege")
-    if holder == SYSTEM:
-        raise refusals.wrong_kind("holder")
     return Grant(thing, privilege, holder)
 
 
-@command("grant.add", *GRANT)
-def add_grant(edit: Edit, text: str, word: str, holder_text: str) -> None:
-    """A grant, by the object's admin."""
-    grant = judge_grant(edit, text, word, holder_text, stands=False)
+def demand_kinds(grant: Grant) -> None:
+    """Grants are on folders, groups (by name or as entities) and definitions, of a privilege of
+    the object's kind. GrouperSystem needs none."""
+    if grant.object.kind not in OF_KIND:
+        raise refusals.wrong_kind("object")
+    if grant.privilege not in OF_KIND[grant.object.kind]:
+        raise refusals.wrong_kind("privilege")
+    if grant.holder == SYSTEM:
+        raise refusals.wrong_kind("holder")
+
+
+@command("grant.add", *GRANT, fields.moment("from"), fields.moment("until"))
+def add_grant(
+    edit: Edit, text: str, word: str, holder_text: str, begins: Optional[int],
+    until: Optional[int],
+) -> None:
+    """A grant, which is entered at once, also where it begins later. Its dates don't make it
+    another one."""
+    grant = find_grant(edit, text, word, holder_text, stands=False)
+    window = dates.window(edit.moment, begins, until)
+    demand_kinds(grant)
     if grant in edit.facts.grants:
         raise refusals.already()
-    edit.facts.grants.add(grant)
+    edit.facts.grants[grant] = window
     edit.note("grant.add", grant.object, grant.holder, grant.privilege)
 
 
 @command("grant.remove", *GRANT)
 def remove_grant(edit: Edit, text: str, word: str, holder_text: str) -> None:
-    """The grant goes."""
-    grant = judge_grant(edit, text, word, holder_text, stands=True)
+    """The grant goes, on or not."""
+    grant = find_grant(edit, text, word, holder_text, stands=True)
+    demand_kinds(grant)
     if grant not in edit.facts.grants:
         raise refusals.no_such()
-    edit.facts.grants.remove(grant)
+    del edit.facts.grants[grant]
     edit.note("grant.remove", grant.object, grant.holder, grant.privilege)
 
 

@@ -11,7 +11,7 @@ from registry import Accepted
 
 HEADER, OLD_HEADER = b"GRPREG2\n", b"GRPREG1\n"
 CLOSED, OPEN = b"\0", b"\1"
-# Behind the caller a key, or that there is none; behind the fields of `grant.add` nothing yet.
+# Behind the caller a key, or that there is none; behind the holder of `grant.add` two moments.
 NO_KEY, A_KEY, NO_DATES = b"\0", b"\1", b"\0\0"
 
 # A command's code is its place here, from 1 on.
@@ -69,11 +69,11 @@ def load_bytes(did: Dict[str, list]) -> bytes:
 
 def command_bytes(command: Accepted) -> bytes:
     """A command's code, and its fields in order."""
-    request, op = command.request, command.request.operation
+    op, values = command.request.operation, command.request.values
     code = number(1 + CODES.index(op.name), 1)
     if op.name == "load":
-        return code + text(request.values[0]) + load_bytes(command.did)
-    return code + b"".join(map(field_bytes, op.fields, request.values))
+        return code + text(values[0]) + load_bytes(command.did)
+    return code + b"".join(map(field_bytes, op.fields, values))
 
 
 def stamp(command: Accepted) -> bytes:
@@ -88,25 +88,23 @@ def key_bytes(key: Optional[str]) -> bytes:
 
 def payload(command: Accepted) -> bytes:
     """What is kept of a command."""
-    stamped = stamp(command) + key_bytes(command.request.key)
-    return completed(stamped, command_bytes(command))
-
-
-def completed(stamped: bytes, kept: bytes) -> bytes:
-    """A payload of a stamp with its key and of a command's bytes as the first format has them."""
-    is_grant = kept[0] == 1 + CODES.index("grant.add")
-    return stamped + kept + (NO_DATES if is_grant else b"")
+    return stamp(command) + key_bytes(command.request.key) + command_bytes(command)
 
 
 def old_payload(command: Accepted) -> bytes:
-    """What the first format keeps of a command: it has no key."""
-    return stamp(command) + command_bytes(command)
+    """What the first format keeps of a command that it has: no key, and a grant's three fields."""
+    kept = command_bytes(command)
+    if command.request.operation.name == "grant.add":
+        kept = kept[:-len(NO_DATES)]
+    return stamp(command) + kept
 
 
 def is_old(command: Accepted) -> bool:
-    """Whether the first format has a command. It has no unions."""
-    request = command.request
-    return request.operation.name != "composite.set" or request.values[1] != "union"
+    """Whether the first format has a command. It has no unions, and no dates of grants."""
+    name, values = command.request.operation.name, command.request.values
+    if name == "grant.add":
+        return values[3:] == [None, None]
+    return name != "composite.set" or values[1] != "union"
 
 
 def old_front(accepted: List[Accepted]) -> List[Accepted]:
@@ -161,7 +159,9 @@ def migrated(old: bytes) -> bytes:
     found = HEADER
     for kept in payloads(old):
         behind = 10 + int.from_bytes(kept[8:10], "little")  # the caller's text
-        found += framed(completed(kept[:behind] + NO_KEY, kept[behind:]))
+        is_grant = kept[behind] == 1 + CODES.index("grant.add")
+        dates = NO_DATES if is_grant else b""
+        found += framed(kept[:behind] + NO_KEY + kept[behind:] + dates)
     return found + CLOSED
 
 

@@ -2,30 +2,18 @@
 
 from typing import Callable, Optional
 
+import dates
 import fields
 import members
 import refusals
 from edit import Edit
-from facts import Composite, Veto, Window
+from facts import Composite, Veto
 from kinds import EVERYONE, SYSTEM, Kind, Thing
 from operations import command
 from privileges import Privilege
 from state import State
-from turn import Turn
 
 ROW = (fields.name("group"), fields.entity("member"))
-
-
-def window(turn: Turn, begins: Optional[int], until: Optional[int]) -> Window:
-    """Left out, a row begins now and has no end. An end must be after now and after the begin.
-
-    A begin in the past is accepted, and changes nothing of the past.
-    """
-    if begins is None:
-        begins = turn.moment
-    if until is not None and until <= max(turn.moment, begins):
-        raise refusals.bad_window()
-    return Window(begins, until)
 
 
 def demand_member(member: Thing) -> None:
@@ -63,7 +51,7 @@ def add_member(
     edit.demand(group, Privilege.OPTIN if member == edit.caller != SYSTEM else Privilege.UPDATE)
     if member.kind == Kind.GROUP:
         edit.demand(member, Privilege.READ)
-    row = window(edit, begins, until)
+    row = dates.window(edit.moment, begins, until)
     demand_member(member)
     if (group, member) in edit.facts.rows:
         raise refusals.already()
@@ -99,7 +87,7 @@ def set_window(
     group = edit.find_group(name)
     member = edit.find_entity(text, has_row(edit, group))
     edit.demand(group, Privilege.UPDATE)
-    row = window(edit, begins, until)
+    row = dates.window(edit.moment, begins, until)
     demand_member(member)
     demand_row(edit, group, member)
     edit.facts.rows[(group, member)] = row

@@ -22,7 +22,7 @@ def wanted(state: State, person: Thing) -> Set[Pair]:
     """The memberships of the groups on which the person itself has a grant of READ."""
     return {
         pair for pair in state.pairs
-        if (Privilege.READ, person) in grants_on(state.facts, pair[0])
+        if (Privilege.READ, person) in grants_on(state, pair[0])
     }
 
 

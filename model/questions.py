@@ -119,8 +119,8 @@ def list_groups(turn: Turn, text: str, at: Optional[int]) -> Dict[str, object]:
 
 @question("grants", fields.object_("object"), fields.moment("at"))
 def list_grants(turn: Turn, text: str, at: Optional[int]) -> Dict[str, object]:
-    """The grants on an object then, direct and inherited, each once: by privilege, then
-    EveryEntity, persons and groups."""
+    """The grants on an object that were on then, direct and inherited, each once: by privilege,
+    then EveryEntity, persons and groups."""
     thing = turn.find_object(text)
     if thing not in INTERNAL:
         turn.demand_admin(thing)
@@ -128,7 +128,7 @@ def list_grants(turn: Turn, text: str, at: Optional[int]) -> Dict[str, object]:
     if thing.kind not in OF_KIND:
         raise refusals.wrong_kind("object")
     stood = thing in state.facts.objects
-    grants = sorted(rights.grants_on(state.facts, thing)) if stood else []
+    grants = sorted(rights.grants_on(state, thing)) if stood else []
     return {
         "grants": [
             {"holder": turn.state.facts.entity_text(holder), "privilege": privilege.name}

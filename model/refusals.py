@@ -60,7 +60,7 @@ def future(asked: int, clock: int) -> Refusal:
 
 
 def bad_window() -> Refusal:
-    """A row would end before it begins, or has ended already."""
+    """A row or a grant would end before it begins, or has ended already."""
     return Refusal(9, "BadWindow")
 
 

@@ -96,7 +96,7 @@ class Registry:
             if date is None:
                 break
             facts = self.state.facts.copy()
-            entries = dates.end_rows(facts, date)
+            entries = dates.end_all(facts, date)
             self.step(date, facts, entries)
             self.clock = date
         self.clock = moment

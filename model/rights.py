@@ -2,7 +2,7 @@
 
 from typing import Set, Tuple
 
-from facts import Facts
+from facts import Window
 from kinds import EVERYONE, SYSTEM, Kind, Thing
 from privileges import GIVES, OF_KIND, TO_SEE, Privilege
 from state import State
@@ -10,13 +10,22 @@ from state import State
 WHEEL = "etc:sysadmingroup"
 
 
-def grants_on(facts: Facts, thing: Thing) -> Set[Tuple[Privilege, Thing]]:
-    """Privilege and holder of each grant on an object, direct or inherited from a folder.
+def has_begun(window: Window, moment: int) -> bool:
+    """A grant is on from its `from`. At its `until` it is taken away, so no end is asked here."""
+    return window.begins <= moment
+
+
+def grants_on(state: State, thing: Thing) -> Set[Tuple[Privilege, Thing]]:
+    """Privilege and holder of each grant on an object that is on, direct or inherited from a
+    folder.
 
     An inherit counts as long as the object stands in its scope.
     """
+    facts = state.facts
     direct = {
-        (grant.privilege, grant.holder) for grant in facts.grants if grant.object == thing
+        (grant.privilege, grant.holder)
+        for grant, window in facts.grants.items()
+        if grant.object == thing and has_begun(window, state.moment)
     }
     inherited = {
         (inherit.privilege, inherit.holder)
@@ -48,7 +57,7 @@ def held(state: State, caller: Thing, thing: Thing) -> Set[Privilege]:
     if is_root(state, caller):
         return OF_KIND[thing.kind]
     found: Set[Privilege] = set()
-    for privilege, holder in grants_on(state.facts, thing):
+    for privilege, holder in grants_on(state, thing):
         if holds(state, caller, holder):
             found |= {privilege} | GIVES.get(privilege, set())
     return found

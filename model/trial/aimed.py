@@ -17,6 +17,7 @@ from random import Random
 from typing import Iterator, List
 
 import aimed_dates
+import aimed_grants
 import aimed_keys
 import aimed_names
 import aimed_rules
@@ -126,7 +127,8 @@ class Reader:
 
 def histories() -> Iterator[History]:
     """All aimed histories."""
-    for part in (aimed_dates, aimed_rules, aimed_names, aimed_views, aimed_keys):
+    parts = (aimed_dates, aimed_grants, aimed_rules, aimed_names, aimed_views, aimed_keys)
+    for part in parts:
         for title, text in part.CASES:
             yield Reader(title).play(text)
     yield long_lines()

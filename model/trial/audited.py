@@ -8,7 +8,7 @@ journal's bytes are compared, then the list of its commands and parts of it, and
 asked in two ways, as of it and now with its `at`: the answers have to say the same of what stood
 then and stands now. Then a command is put behind the journal under a key that its caller has, which
 has to be damage. At last the history's journal of the first format is migrated, without the keys,
-and up to the first union. The status is 1 where there is a difference.
+and up to the first union or dated grant. The status is 1 where there is a difference.
 """
 
 import json

@@ -206,7 +206,7 @@ class Choices:
         fitting = {
             "member.remove": self.fit_row, "member.window": self.fit_row,
             "composite.clear": self.fit_composite,
-            "grant.add": self.fit_privilege, "grant.remove": self.fit_grant,
+            "grant.add": self.fit_new_grant, "grant.remove": self.fit_grant,
             "inherit.add": self.fit_privilege, "inherit.remove": self.fit_inherit,
             "rule.on_create": self.fit_privilege, "assign.add": self.fit_owner,
             "assign.remove": self.fit_assignment, "value.add": self.fit_assignment,
@@ -227,8 +227,15 @@ class Choices:
         if self.facts.composites:
             request["group"] = self.facts.name(self.one_of(self.facts.composites))
 
+    def fit_new_grant(self, request: Request) -> None:
+        """A privilege of the object's kind; at times the same grant as one that stands."""
+        if self.chance(0.12):
+            self.fit_grant(request)
+        else:
+            self.fit_privilege(request)
+
     def fit_grant(self, request: Request) -> None:
-        """A grant that stands."""
+        """A grant that stands, on or not."""
         if self.facts.grants:
             grant = self.one_of(sorted(self.facts.grants))
             request["object"] = self.facts.name(grant.object)

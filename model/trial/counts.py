@@ -24,7 +24,7 @@ REFUSALS: Dict[str, str] = {
     "member.window": "NotFound Denied BadWindow WrongKind NoSuch",
     "composite.set": "NotFound Denied IsComposite HasMembers Circular",
     "composite.clear": "NotFound Denied NoSuch",
-    "grant.add": "NotFound Denied WrongKind Already",
+    "grant.add": "NotFound Denied BadWindow WrongKind Already",
     "grant.remove": "NotFound Denied WrongKind NoSuch",
     "inherit.add": "NotFound Denied WrongKind Already",
     "inherit.remove": "NotFound Denied WrongKind NoSuch",

@@ -90,12 +90,20 @@ class History:
         self.send(op="composite.set", group=self.one_of(self.layers[upper]), left=left,
                   right=right, kind=self.one_of(["intersection", "complement", "union"]))
 
+    def grant(self, group: str, holder: str) -> None:
+        """A grant that begins and ends soon: its dates are no reason for a membership."""
+        begins = self.recorder.clock + self.random.randint(-1, 3)
+        dates = {"from": moments.text(begins), "until": moments.text(begins + 2)}
+        self.send(op="grant.add", object=group, privilege="READ", holder=holder, **dates)
+
     def step(self) -> None:
         """Something happens, at once or later."""
         if self.random.random() < 0.5:
             self.recorder.clock += 1
         what, group = self.random.random(), self.one_of(self.groups)
         member = self.one_of(PERSONS + [names.GROUP_PREFIX + each for each in self.groups])
+        if self.random.random() < 0.15:
+            self.grant(group, member)
         if what < 0.35:
             self.add(group, member)
         elif what < 0.5:

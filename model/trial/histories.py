@@ -48,6 +48,8 @@ THEMES: Dict[str, Dict[str, float]] = {
     "attributes": {"attrdef": 4, "attr": 5, "assign": 6, "value": 6, "attributes": 6},
     "loads": {"job": 4, "load": 9, "rule.on_create": 2, "rule.veto": 2.5},
     "dates": {"member": 1.6, "member.window": 2},
+    "dated grants": {"grant": 7, "grants": 4, "may": 4, "group.delete": 2, "folder.delete": 2,
+                     "rule.on_create": 2, "attrdef": 2},
     "keys": {"rule": 1.5, "assign": 2, "subject": 2},
     "dense": {"member": 2.5, "member.window": 2, "load": 4, "composite.clear": 2, "folder": 0.2,
               "attrdef": 0.1, "attr": 0.1, "grant": 0.2, "inherit": 0.2, "rule.veto": 0.4},
@@ -91,6 +93,8 @@ class Play:
         start = START
         if self.random.random() > 0.92:
             start = self.random.choice([0, 1, 5, moments.GREATEST - 3 * moments.DAY])
+        # in some histories no grant has dates: the journal's first format knows of none
+        self.dates_grants = self.theme == "dated grants" or self.chance(0.6)
         self.recorder = Recorder(f"seed {seed}, {self.theme}", start)
         self.choices = Choices(self.random, self.recorder, self.theme == "dense")
 
@@ -140,12 +144,10 @@ class Play:
             suiting = self.random.choice(sorted(OF_KIND[thing.kind])).name
             if self.chance(0.5):
                 holder = self.random.choice([names.EVERYONE, person])
-                self.by_system(
-                    "grant.add", object=name, privilege=to_see[thing.kind], holder=holder
-                )
+                self.grant(name, to_see[thing.kind], holder)
             if self.chance(0.5):
                 holder = self.random.choice([self.choices.entity(), person])
-                self.by_system("grant.add", object=name, privilege=suiting, holder=holder)
+                self.grant(name, suiting, holder)
         if self.chance(0.5):
             self.by_system(
                 "inherit.add", folder=names.ROOT, kind="group", scope="SUB",
@@ -153,8 +155,19 @@ class Play:
                 holder=self.choices.person(),
             )
 
+    def grant(self, name: str, privilege: str, holder: str) -> None:
+        """A grant, which may begin and end soon."""
+        dates = {}
+        if self.dates_grants and self.chance(0.5):
+            for field, least, greatest in (("from", -1, 3), ("until", 0, 6)):
+                if self.chance(0.6):
+                    date = self.recorder.clock + self.random.randint(least, greatest)
+                    dates[field] = moments.text(max(0, date))
+        self.by_system("grant.add", object=name, privilege=privilege, holder=holder, **dates)
+
     def open_dense_world(self) -> None:
-        """Few groups, one in another, many rules between them, and rows that end very soon."""
+        """Few groups, one in another, many rules between them, and rows and grants that end very
+        soon."""
         persons = PERSONS[:self.random.randint(2, 4)]
         groups = ["g", "h", "k", "a:x", "a:y", "q"][:self.random.randint(4, 6)]
         for person in persons:
@@ -174,6 +187,9 @@ class Play:
             for person in persons:
                 if self.chance(0.75):
                     self.by_system("member.add", group=group, member=person, **self.soon())
+            if self.chance(0.6):
+                suiting = self.random.choice(sorted(OF_KIND[Kind.GROUP])).name
+                self.grant(group, suiting, self.random.choice(persons + [names.EVERYONE]))
         self.by_system("consumer.add", consumer="c1")
 
     def soon(self) -> Request:
@@ -187,14 +203,16 @@ class Play:
         """A request whose fields are mostly right and mostly fit what stands."""
         request: Request = {"op": op, "by": self.caller()}
         for field in OPERATIONS[op].fields:
-            if not field.optional or self.chance(self.share_given(field)):
+            if not field.optional or self.chance(self.share_given(op, field)):
                 request[field.name] = self.choices.field(op, field)
         self.choices.fit(request)
         return request
 
-    def share_given(self, field: fields.Field) -> float:
+    def share_given(self, op: str, field: fields.Field) -> float:
         """How often an optional field is given."""
-        often = self.theme in ("dates", "rules")
+        if op == "grant.add" and not self.dates_grants:
+            return 0
+        often = self.theme in ("dates", "dated grants", "rules")
         return {"from": 0.4 if often else 0.25, "until": 0.7 if often else 0.4}.get(
             field.name, 0.6
         )
@@ -271,7 +289,11 @@ class Play:
         if not lines:
             return
         request: Request = json.loads(self.random.choice(lines).text)
-        fields_of = {field.name: field for field in OPERATIONS[str(request["op"])].fields}
+        op = str(request["op"])
+        fields_of = {
+            field.name: field for field in OPERATIONS[op].fields
+            if self.share_given(op, field) > 0
+        }
         drawn = self.random.random()
         if drawn < 0.2:
             request = self.written_otherwise(request)
@@ -279,7 +301,7 @@ class Play:
             request["by"] = self.caller()
         elif drawn < 0.55 and fields_of:
             name = self.random.choice(list(fields_of))
-            request[name] = self.choices.field(str(request["op"]), fields_of[name])
+            request[name] = self.choices.field(op, fields_of[name])
         elif drawn < 0.65:
             op = self.random.choice([op for op, each in OPERATIONS.items() if each.takes_key])
             request = {**self.request(op), "by": request.get("by"), "key": request.get("key")}

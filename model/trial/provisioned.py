@@ -2,11 +2,11 @@
 
     python3 provisioned.py PROGRAM [FIRST_SEED] [HISTORIES]
 
-Random histories (50 by itself, from seed 1 on) of groups that are made, moved and deleted, dated
-memberships, nesting, grants and inherits of several persons, and consumers. Between their steps the
-word `provision` is run at some moments, also earlier ones, and with all kinds of words. After each
-history an outside list that did all operations, and some runs of them twice, has to have what the
-model wants at the last place. The status is 1 where there is a difference.
+Random histories (50 by itself, from seed 1 on) of groups that are made, moved and deleted, nesting,
+memberships and grants with dates, inherits of several persons, and consumers. Between their steps
+the word `provision` is run at some moments, also earlier ones, and with all kinds of words. After
+each history an outside list that did all operations, and some runs of them twice, has to have what
+the model wants at the last place. The status is 1 where there is a difference.
 """
 
 import json
@@ -90,13 +90,22 @@ class Trial:
             request["until"] = moments.text(self.recorder.clock + self.random.randrange(3, 6))
         self.send(op="member.add", **request)
 
+    def later(self, least: int, greatest: int) -> str:
+        """A moment near the clock."""
+        return moments.text(self.recorder.clock + self.random.randint(least, greatest))
+
     def grant(self) -> None:
-        """A grant or an inherit comes or goes."""
+        """A grant or an inherit comes or goes; a grant may begin or end later."""
         holder = self.one_of(PERSONS[:2] * 3 + ["g:isa/GrouperAll", "g:gsa/g0"])
         written = {"privilege": self.one_of(["READ"] * 4 + ["ADMIN"]), "holder": holder}
         end = self.one_of(["add", "add", "remove"])
         if self.random.random() < 0.7:
-            self.send(op="grant." + end, object="g:gsa/" + self.one_of(GROUPS), **written)
+            written["object"] = "g:gsa/" + self.one_of(GROUPS)
+            if end == "add" and self.random.random() < 0.4:
+                written["from"] = self.later(-1, 3)
+            if end == "add" and self.random.random() < 0.4:
+                written["until"] = self.later(0, 6)
+            self.send(op="grant." + end, **written)
         else:
             scope = self.one_of(["ONE", "SUB"])
             self.send(op="inherit." + end, folder=self.one_of(["app", ":"]), kind="group",

@@ -91,8 +91,10 @@ class History:
             self.assign()
         elif what < 0.9:
             self.value()
-        elif what < 0.95:
+        elif what < 0.93:
             self.send(op="group.delete", group=self.one_of(GROUPS))
+        elif what < 0.97:
+            self.grant()
         else:
             self.rename()
 
@@ -114,6 +116,12 @@ class History:
         if self.random.random() < 0.3:
             request["until"] = self.later(30)
         self.send(op="member.add", **request)
+
+    def grant(self) -> None:
+        """A grant that begins and ends later: its dates change no report."""
+        dates = {"from": self.later(0), "until": self.later(30)}
+        self.send(op="grant.add", object=self.one_of(GROUPS), privilege="READ",
+                  holder=self.one_of(PERSONS), **dates)
 
     def assign(self) -> None:
         """An assignment comes or goes."""

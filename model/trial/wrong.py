@@ -14,6 +14,7 @@ import tempfile
 from typing import List, Optional
 
 import compare  # which makes the model's modules found
+import wrong_grants
 import wrong_keys
 import wrong_steps
 import wrong_views
@@ -22,7 +23,8 @@ from record import History
 from registry import Registry
 from wrong_rules import ALL, WrongRule
 
-FAMILIES = (wrong_steps, wrong_views, wrong_keys)  # importing them enters their wrong models in ALL
+# importing them enters their wrong models in ALL
+FAMILIES = (wrong_steps, wrong_views, wrong_keys, wrong_grants)
 
 
 def shows(history: History, replies: List[List[str]]) -> bool:

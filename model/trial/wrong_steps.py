@@ -45,10 +45,10 @@ def end_groups_first(all_facts, date):
     return [log.Entry(date, "row.remove", *key) for key in ending]
 
 
-@wrong("an end at the clock's moment is accepted", memberships, "window")
-def late_window(at_turn, begins, until):
-    begins = at_turn.moment if begins is None else begins
-    if until is not None and (until < at_turn.moment or until <= begins):
+@wrong("an end at the clock's moment is accepted", dates, "window")
+def late_window(moment, begins, until):
+    begins = moment if begins is None else begins
+    if until is not None and (until < moment or until <= begins):
         raise refusals.bad_window()
     return facts.Window(begins, until)
 
@@ -132,7 +132,7 @@ def last_veto(state, group, person):
 
 @wrong("grants that stand are made again", edit.Edit, "add_grant")
 def grant_again(self, thing, privilege, holder):
-    self.facts.grants.add(facts.Grant(thing, privilege, holder))
+    self.facts.grants[facts.Grant(thing, privilege, holder)] = facts.Window(self.moment, None)
     self.note("grant.add", thing, holder, privilege)
 
 
