@@ -177,7 +177,7 @@ FIELDS = {
     "group.add": [("group", text), ("display", text)],
     "member.add": [("group", text), ("member", text), ("from", date), ("until", date)],
     "member.remove": [("group", text), ("member", text)],
-    "grant.add": [("object", text), ("privilege", word), ("holder", text)],
+    "grant.add": [("object", text), ("privilege", word), ("holder", text), ("from", date), ("until", date)],
     "inherit.add": [("folder", text), ("kind", word), ("scope", word), ("privilege", word), ("holder", text)],
     "job.list": [("job", text), ("folder", text), ("source", text), ("min_size", number), ("max_percent", number)],
     "consumer.add": [("consumer", text)],
@@ -185,7 +185,7 @@ FIELDS = {
 
 
 HEADER, OLD_HEADER = b"GRPREG2\n", b"GRPREG1\n"
-# what stands behind the caller, and behind the fields of a grant
+# what stands behind the caller, and that a grant has no dates
 NO_KEY, A_KEY, NO_DATES = b"\0", b"\1", b"\0\0"
 
 
@@ -199,13 +199,15 @@ def command_bytes(command):
 def payload(at, command, by=SYSTEM):
     """The payload of a command at a moment's text, under its key if it has one."""
     key = A_KEY + text(command["key"]) if "key" in command else NO_KEY
-    behind = NO_DATES if command["op"] == "grant.add" else b""
-    return struct.pack("<Q", micros(at)) + text(by) + key + command_bytes(command) + behind
+    return struct.pack("<Q", micros(at)) + text(by) + key + command_bytes(command)
 
 
 def old_payload(at, command, by=SYSTEM):
-    """The same in format 1, which has no keys."""
-    return struct.pack("<Q", micros(at)) + text(by) + command_bytes(command)
+    """The same in format 1, which has no keys, and of a grant no dates."""
+    kept = command_bytes(command)
+    if command["op"] == "grant.add":
+        kept = kept.removesuffix(NO_DATES)
+    return struct.pack("<Q", micros(at)) + text(by) + kept
 
 
 def framed(payload):
