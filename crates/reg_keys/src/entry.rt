@@ -1,10 +1,9 @@
-// A caller's keys.
+// The entries that are found by the texts of caller and key.
 ghost use Rattle.std.specs.Prelude.{◌≡◌, ◌&&◌, ℕ, List, None, Some, OnOk, OnErr};
 ghost use Rattle.std.specs.Prelude.{if◌then◌else◌};
 ghost use Rattle.std.specs.Str.{bytes_eq};
-ghost use Rattle.reg_keys.specs.Keys.{at_key, entry_in};
+ghost use Rattle.reg_keys.specs.Keys.{at_key, other_in};
 
-use crate::caller::Caller;
 use std::alloc::{AllocError, Global};
 use std::collections::BTreeMap;
 
@@ -35,20 +34,21 @@ pub fn entry_of(start: u64, len: u64, number: u64, id: Option<u64>) -> Entry
 /// Puts an entry under a caller and a key. Out of memory each caller has the keys that it had.
 pub fn add_entry(
     alloc: Global,
-    callers: &mut BTreeMap<Vec<u8>, Caller>,
+    callers: &mut BTreeMap<Vec<u8>, BTreeMap<Vec<u8>, Entry>>,
     by: &[u8],
     key: &[u8],
     entry: Entry,
 ) -> Result<(), AllocError>
-    ensures added { OnOk result ((b k : List ℕ) → entry_in callers.new b k
+    ensures added { OnOk result ((b k : List ℕ) → other_in callers.new b k
         ≡ (if bytes_eq by.now b && bytes_eq key.now k then Some entry
-        else entry_in callers.old b k)) }
-    ensures err { OnErr result ((b k : List ℕ) → entry_in callers.new b k
-        ≡ entry_in callers.old b k) }
+        else other_in callers.old b k)) }
+    ensures err { OnErr result ((b k : List ℕ) → other_in callers.new b k
+        ≡ other_in callers.old b k) }
 {
     let key = Vec::from_slice(alloc, key)?;
     if let Some(keys) = callers.get_mut(by) {
-        return keys.put(key, entry);
+        keys.insert(key, entry)?;
+        return Ok(());
     }
     add_caller(alloc, callers, by, key, entry)
 }
@@ -56,21 +56,21 @@ pub fn add_entry(
 /// A caller's first key. Out of memory each caller has the keys that it had.
 fn add_caller(
     alloc: Global,
-    callers: &mut BTreeMap<Vec<u8>, Caller>,
+    callers: &mut BTreeMap<Vec<u8>, BTreeMap<Vec<u8>, Entry>>,
     by: &[u8],
     key: Vec<u8>,
     entry: Entry,
 ) -> Result<(), AllocError>
     requires { at_key callers.old by.now ≡ None }
-    ensures added { OnOk result ((b k : List ℕ) → entry_in callers.new b k
+    ensures added { OnOk result ((b k : List ℕ) → other_in callers.new b k
         ≡ (if bytes_eq by.now b && bytes_eq key.items k then Some entry
-        else entry_in callers.old b k)) }
-    ensures err { OnErr result ((b k : List ℕ) → entry_in callers.new b k
-        ≡ entry_in callers.old b k) }
+        else other_in callers.old b k)) }
+    ensures err { OnErr result ((b k : List ℕ) → other_in callers.new b k
+        ≡ other_in callers.old b k) }
 {
     let by = Vec::from_slice(alloc, by)?;
-    let mut keys = Caller::new(alloc);
-    keys.put(key, entry)?;
+    let mut keys = BTreeMap::new(alloc);
+    keys.insert(key, entry)?;
     callers.insert(by, keys)?;
     Ok(())
 }

@@ -5,10 +5,9 @@ ghost use Rattle.std.specs.Str.{bytes_eq};
 ghost use Rattle.reg_keys.specs.declared.entry.Entry.{Entry};
 ghost use Rattle.reg_keys.specs.Keys.{entry_in};
 
-use crate::caller::Caller;
-use crate::entry::{add_entry, entry_of};
+use crate::caller::Entries;
+use crate::entry::entry_of;
 use std::alloc::{AllocError, Global};
-use std::collections::BTreeMap;
 
 /// What a key stands for: the number of the command that was kept, the id of what it made, and the
 /// command's bytes.
@@ -23,7 +22,7 @@ pub struct Found<'a> {
 #[derive(Drop)]
 pub struct Keys {
     alloc: Global,
-    callers: BTreeMap<Vec<u8>, Caller>,
+    callers: Entries,
     // The commands, one behind the other.
     bytes: Vec<u8>,
     ghost inside: { (b k : List ℕ) (e : Entry) → entry_in callers b k ≡ Some e
@@ -39,7 +38,7 @@ impl Keys {
     {
         Keys {
             alloc,
-            callers: BTreeMap::new(alloc),
+            callers: Entries::new(alloc),
             bytes: Vec::new(alloc),
         }
     }
@@ -49,8 +48,7 @@ impl Keys {
         ensures { MatchOption result (found_in self.now by.now key.now ≡ None)
             (λ r. found_in self.now by.now key.now ≡ Some (r.number, r.id, r.bytes.now)) }
     {
-        let keys = self.callers.get(by)?;
-        let entry = keys.get(key)?;
+        let entry = self.callers.get(by, key)?;
         let (_, behind) = self.bytes.as_slice().split_at(entry.start as usize);
         let (bytes, _) = behind.split_at(entry.len as usize);
         Some(Found {
@@ -79,7 +77,7 @@ impl Keys {
         let start = self.bytes.len();
         self.bytes.extend_from_slice(bytes)?;
         let entry = entry_of(start as u64, bytes.len() as u64, number, id);
-        match add_entry(self.alloc, &mut self.callers, by, key, entry) {
+        match self.callers.put(self.alloc, by, key, entry) {
             Ok(()) => Ok(()),
             Err(AllocError) => {
                 self.bytes.truncate(start);

@@ -4,6 +4,7 @@
 
 mod caller;
 mod entry;
+mod first;
 mod keys;
 
 pub use keys::{Found, Keys};
