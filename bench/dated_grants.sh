@@ -6,6 +6,8 @@
 # is measured apart and taken off. Prints commands and questions a second, of which 60,000 and 100,000 are wanted.
 # Then two journals are opened in turn: GRANTS grants that begin and end at dates of their own, all of which have passed,
 # and as many without dates, each removed by a command. Opening the first is to take at most twice the time of the second.
+# Last, grants are added on one object, one for each person, who joins a group beside it. Each grant ends while those
+# behind it are added: together with its person's membership, or, to compare, a microsecond behind it.
 # Figures are medians of TURNS turns, of a processor's time; every reply is checked.
 #
 #     GRANTS=100000 GROUPS_MADE=20000 ASKED=200000 TURNS=3 bench/dated_grants.sh
@@ -34,6 +36,7 @@ program, grants, groups, asked, turns = sys.argv[1], *map(int, sys.argv[2:])
 if not 1000 <= grants <= 500000 or not 100 <= groups <= min(grants, 100000):
     sys.exit("dated_grants.sh: GRANTS is from 1,000 to 500,000, GROUPS_MADE from 100 to 100,000 and to GRANTS")
 PERSONS, SECOND = 20000, 1_000_000
+beside_count = min(grants, PERSONS)
 START = 1_756_684_800 * SECOND  # 2025-09-01T00:00:00Z
 ADDING = START + SECOND  # the moment of the first grant; the one behind it comes a microsecond later
 ASKING = ADDING + grants
@@ -112,6 +115,14 @@ def removed():
     yield {"op": "group.add", "group": "last"}
 
 
+def beside(apart):
+    """Memberships and grants in turn. Each two end at one date, or the grant so much later."""
+    for n in range(beside_count):
+        end = ADDING + 2 * n + beside_count // 5
+        yield {"op": "member.add", "group": group(0), "member": person(n), "until": text(end)}
+        yield {"op": "grant.add", "object": group(1), "privilege": "READ", "holder": person(n), "until": text(end + apart)}
+
+
 class Bench:
     """The program in a folder, with the clock that it is handed."""
 
@@ -179,6 +190,8 @@ with tempfile.TemporaryDirectory(dir="/dev/shm") as folder:
     first, standing = bench.lines("ready", ready())
     adding, asking = bench.lines("dated", dated()), bench.lines("questions", questions())
     histories = {"dates": bench.lines("passed", passed()), "commands": bench.lines("removed", removed())}
+    ends = {apart: bench.lines("beside%d" % apart, beside(apart)) for apart in (0, 1)}
+    ending = {apart: [] for apart in ends}
     commands, mays, opening, peak, right, held = [], [], {"dates": [], "commands": []}, 0, True, 0
     journals = {}
     for name, (source, count) in histories.items():
@@ -195,6 +208,9 @@ with tempfile.TemporaryDirectory(dir="/dev/shm") as folder:
         mays.append(seconds)
         same, held = bench.are_told()
         right = right and same
+        for apart, requests in ends.items():
+            ending[apart].append(bench.apply(bench.fresh("journal", first), ADDING, requests)[1])
+            right = right and bench.are_numbers(standing)
         for name, journal in journals.items():
             opening[name].append(bench.run([journal, "check"]).processor)
     during = sum(ADDING < end(n) < ASKING for n in range(grants))
@@ -206,6 +222,9 @@ with tempfile.TemporaryDirectory(dir="/dev/shm") as folder:
     dates, plain = (statistics.median(opening[name]) for name in ("dates", "commands"))
     print("opening  %.2f s of a processor with %d dates that have passed, %.2f with as many commands: %.2f times"
           % (dates, 2 * grants, plain, dates / plain))
+    together, apart = (statistics.median(ending[apart]) for apart in (0, 1))
+    print("ending   %.2f s of a processor for %d grants of one object that end with a membership, %.2f apart from it"
+          % (together, beside_count, apart))
     if not right:
         print("WRONG: a reply isn't the one that it has to be")
 sys.exit(0 if right else 1)

@@ -1,5 +1,6 @@
 -- What a step adds to the record: all of it, by what was noted.
 use Rattle.std.proofs.Common.{◌≡◌, ◌&&◌, ◌++◌, ℕ, List, [], ◌∷◌, Bool, None, map, nat_le, if◌then◌else◌, sym, ap, ◌∙◌}
+use Rattle.std.specs.List.{list_any}
 use Rattle.reg_base.specs.declared.privilege.Privilege.{Privilege}
 use Rattle.reg_terms.specs.declared.kinds.Holder.{Holder}
 use Rattle.reg_terms.specs.declared.kinds.Object.{Object}
@@ -13,10 +14,10 @@ use Rattle.reg_pit.specs.Grants.{has_grant}
 use Rattle.reg_pit.specs.Past.{assigns_at, last_assign, was_member, was_granted, wheel_at, NotedBy}
 use Rattle.reg_priv.specs.Grants.{grants}
 use Rattle.reg_priv.specs.May.{wheel}
-use Rattle.reg_priv.specs.Touched.{is_listed, KnowsTouched}
+use Rattle.reg_priv.specs.Touched.{KnowsTouched}
 use Rattle.reg_audit.specs.Assigning.{all_changed, last_after_all}
 use Rattle.reg_audit.specs.Audit.{IsAudit}
-use Rattle.reg_audit.specs.Changed.{changed_by, may_change}
+use Rattle.reg_audit.specs.Changed.{changed_grants, changes_others, is_noted}
 use Rattle.reg_audit.specs.Consumers.{places_after}
 use Rattle.reg_audit.specs.Definitions.{all_attributes, attributes_made, definition_in, last_definition}
 use Rattle.reg_audit.specs.Kept.{defined_in, life_in, name_in, named_in}
@@ -50,7 +51,7 @@ pub record Noted (notes : StepNotes) (turned : List (ℕ × ℕ × Bool)) (after
   pub defined : (a : ℕ) → defined_in new.records.definitions a ≡ last_definition a (defined_in old.records.definitions a) notes.attributes
   pub places : (name : List ℕ) → place_of new.records.places name ≡ places_after name (place_of old.records.places name) notes.consumers
   pub members : (g s t : ℕ) → was_member new.past g s t ≡ (if nat_le notes.at t then after_turns turned g s (was_member old.past g s t) else was_member old.past g s t)
-  pub granted : (o : Object) (p : Privilege) (h : Holder) (t : ℕ) → was_granted new.past o p h t ≡ (if (is_listed o touched && may_change notes.changed (p, h)) && nat_le notes.at t then has_grant (grants o after) p h else was_granted old.past o p h t)
+  pub granted : (o : Object) (p : Privilege) (h : Holder) (t : ℕ) → was_granted new.past o p h t ≡ (if is_noted touched notes.changes_others notes.changed o (p, h) && nat_le notes.at t then has_grant (grants o after) p h else was_granted old.past o p h t)
   pub noted_wheel : (t : ℕ) → wheel_at new.past t ≡ (if nat_le notes.at t then wheel after else wheel_at old.past t)
   pub assigns : (t : ℕ) → assigns_at new.past t ≡ (if nat_le notes.at t then all_changed notes.assigns (assigns_at old.past t) else assigns_at old.past t)
   pub greatest : last_assign new.past ≡ last_after_all notes.assigns (last_assign old.past)
@@ -68,7 +69,7 @@ audit_more old new turned touched steps step law h f e knows n = record {
   defined = λ a. n.defined a ∙ rw (h.defined a) (sym (ap (λ xs. last_definition a None xs) (attributes_more steps step) ∙ definition_more a (all_attributes steps) (attributes_made step.events) None));
   places = λ name. n.places name ∙ rw (h.places name) (places_more steps step name f);
   members = λ t g s. member_more steps step old new turned t g s h f e law (n.members g s t);
-  granted = λ t o p j. granted_more steps step old new h f touched (changed_by step.events) t o p j knows (step_leaves steps step f o p j) (n.granted o p j t);
+  granted = λ t o p j. granted_more steps step old new h f (is_noted touched (list_any changes_others step.events) (changed_grants step.events) o (p, j)) t o p j (step_leaves steps step touched f knows o p j) (n.granted o p j t);
   noted_wheel = λ t. wheel_more steps step old new h f t (n.noted_wheel t);
   assigns = λ t. assigns_more steps step old new h f t (n.assigns t);
   last_assigned = last_more_assigned steps step old new h f n.greatest;

@@ -1,6 +1,7 @@
 -- Grants, the wheel group and assignments, as a step leaves them.
 use Rattle.std.proofs.Common.{◌≡◌, ◌≤◌, ◌<◌, ◌+◌, ◌++◌, ◌||◌, ◌&&◌, ℕ, List, [], ◌∷◌, Bool, true, false, Option, None, Some, length, drop, get_or, nat_le, if◌then◌else◌, arith, refl, sym, ap, subst, ◌∙◌, inl, inr}
-use Rattle.std.proofs.lemmas.Bool.{cases_Bool}
+use Rattle.std.specs.List.{cons_option, list_any}
+use Rattle.std.proofs.lemmas.Bool.{cases_Bool, or_parts}
 use Rattle.std.proofs.lemmas.Bool.Decides.{nat_tests}
 use Rattle.std.proofs.lemmas.List.{drop_more}
 use Rattle.reg_base.specs.declared.privilege.Privilege.{Privilege}
@@ -20,12 +21,13 @@ use Rattle.reg_priv.specs.May.{wheel}
 use Rattle.reg_priv.specs.Touched.{is_listed, KnowsTouched}
 use Rattle.reg_audit.specs.Assigning.{AreNew, all_changed, assign_changes, last_after_all}
 use Rattle.reg_audit.specs.Audit.{IsAudit}
-use Rattle.reg_audit.specs.Changed.{changed_by, changed_grant, may_change}
+use Rattle.reg_audit.specs.Changed.{changed_grant, changed_grants, changes_others, is_changed, is_noted}
 use Rattle.reg_audit.specs.Steps.{Step, FollowsOn, last_by, last_facts, facts_of, facts_by}
 use Rattle.reg_audit.specs.declared.audit.Audit.{Audit}
+use Rattle.reg_audit.specs.declared.grant_change.GrantChange.{GrantChange}
 use Rattle.reg_audit.proofs.Changing.{events_changed, events_last, events_new}
 use Rattle.reg_audit.proofs.OrderedGrants.{has_among}
-use Rattle.reg_audit.proofs.RowChanging.{changed}
+use Rattle.reg_audit.proofs.RowChanging.{changed, if_any}
 use Rattle.reg_audit.proofs.Stepping.{all_seen, last_by_more, last_more}
 
 -- ---- one object more
@@ -59,9 +61,12 @@ one_held true true false is has old h = refl
 one_held true false le is has old h = refl
 one_held false same le is has old h = refl
 
--- where none is known, all may change
-pub all_may : (s le has old new : Bool) → new ≡ (if s && le then has else old) → new ≡ (if (s && true) && le then has else old)
-all_may s le has old new e = rw (all_of s) e
+-- one change more of a list of them
+pub change_noted : (named : GrantChange → Bool) (cs : List GrantChange) (i : ℕ) (c : GrantChange) (le has new old : Bool) → i < length cs → c ≡ get_or cs i c → new ≡ (if named c && le then has else old)
+    → (if list_any named (drop (i + 1) cs) && le then has else new) ≡ (if list_any named (drop i cs) && le then has else old)
+change_noted named cs i c le has new old w is e =
+    let left : drop i cs ≡ c ∷ drop (i + 1) cs = drop_more cs i c w ∙ ap (λ d. d ∷ drop (i + 1) cs) (sym is) in
+    rw left (one_more (named c) (list_any named (drop (i + 1) cs)) le has new old e)
 
 turned_object : (a b : Object) → same_object a b ≡ same_object b a
 turned_object a b = elim (cases_Bool (same_object a b)) [
@@ -97,21 +102,33 @@ wheel_stays past group at t stays noted e = elim (cases_Bool (nat_le at t)) [
 
 -- ---- what the events of a step may change
 
-event_leaves : (e : Event) (f : Lists) (o : Object) (x : Grant) (one : Option Grant) → changed_grant e ≡ one → may_change one x ≡ false → is_among x (grants o (happened e f)) ≡ is_among x (grants o f)
-event_leaves e f o x None is m = cc
-event_leaves e f o x (Some g) is m = changed e f o g x is m
+first_off : (t : GrantChange → Bool) (c : Option GrantChange) (cs : List GrantChange) → list_any t (cons_option c cs) ≡ false → (if_any t c ≡ false) × (list_any t cs ≡ false)
+first_off t None cs m = (refl, m)
+first_off t (Some c) cs m = or_parts (t c) (list_any t cs) m
 
-events_leave : (es : List Event) (f : Lists) (o : Object) (x : Grant) → may_change (changed_by es) x ≡ false → is_among x (grants o (all_happened es f)) ≡ is_among x (grants o f)
-events_leave [] f o x m = refl
-events_leave (e ∷ []) f o x m = event_leaves e f o x (changed_grant e) refl m
-events_leave (e ∷ d ∷ es) f o x m = cc
+-- events of which none changes others leave what is none of their changes
+events_leave : (touched : List Object) (es : List Event) (f : Lists) (o : Object) (x : Grant) → is_listed o touched ≡ true → list_any changes_others es ≡ false → list_any (is_changed touched o x) (changed_grants es) ≡ false → is_among x (grants o (all_happened es f)) ≡ is_among x (grants o f)
+events_leave touched [] f o x l k m = refl
+events_leave touched (e ∷ es) f o x l k m =
+    let known = or_parts (changes_others e) (list_any changes_others es) k in
+    let parts = first_off (is_changed touched o x) (changed_grant e) (changed_grants es) m in
+    events_leave touched es (happened e f) o x l known.1 parts.1 ∙ changed touched e f o x l known.0 parts.0
 
-pub step_leaves : (steps : List Step) (step : Step) → FollowsOn steps step → (o : Object) (p : Privilege) (j : Holder) → may_change (changed_by step.events) (p, j) ≡ false → has_grant (grants o step.after) p j ≡ has_grant (grants o step.before) p j
-step_leaves steps step f o p j m =
-    ap (λ (gs : List Grant). has_grant gs p j) (f.grants_after o)
-    ∙ (has_among p j (grants o (all_happened step.events step.before))
-    ∙ (events_leave step.events step.before o (p, j) m
-    ∙ sym (has_among p j (grants o step.before))))
+not_noted : (others listed named : Bool) → listed ≡ true → (if others then listed else named) ≡ false → (others ≡ false) × (named ≡ false)
+not_noted true listed named l m = cc
+not_noted false listed named l m = (refl, m)
+
+-- what isn't noted stays as it was
+pub step_leaves : (steps : List Step) (step : Step) (touched : List Object) → FollowsOn steps step → KnowsTouched step.before step.after touched → (o : Object) (p : Privilege) (j : Holder) → is_noted touched (list_any changes_others step.events) (changed_grants step.events) o (p, j) ≡ false → has_grant (grants o step.after) p j ≡ has_grant (grants o step.before) p j
+step_leaves steps step touched f knows o p j m = elim (cases_Bool (is_listed o touched)) [
+  | inl l ↦
+      let off = not_noted (list_any changes_others step.events) (is_listed o touched) (list_any (is_changed touched o (p, j)) (changed_grants step.events)) l m in
+      ap (λ (gs : List Grant). has_grant gs p j) (f.grants_after o)
+      ∙ (has_among p j (grants o (all_happened step.events step.before))
+      ∙ (events_leave touched step.events step.before o (p, j) l off.0 off.1
+      ∙ sym (has_among p j (grants o step.before))))
+  | inr l ↦ ap (λ (gs : List Grant). has_grant gs p j) (knows o l)
+]
 
 -- ---- a step more
 
@@ -131,22 +148,18 @@ facts_before t steps step f w = ap facts_of (all_seen t steps (omega (arith, f.l
 
 module _ (steps : List Step) (step : Step) (audit new : Audit) (h : IsAudit steps audit) (f : FollowsOn steps step) where
   -- what no event changes stays as the past has it
-  pub granted_more : (touched : List Object) (changed : Option Grant) (t : ℕ) (o : Object) (p : Privilege) (j : Holder) → KnowsTouched step.before step.after touched
-      → (may_change changed (p, j) ≡ false → has_grant (grants o step.after) p j ≡ has_grant (grants o step.before) p j)
-      → was_granted new.past o p j t ≡ (if (is_listed o touched && may_change changed (p, j)) && nat_le step.at t then has_grant (grants o step.after) p j else was_granted audit.past o p j t)
+  pub granted_more : (noted : Bool) (t : ℕ) (o : Object) (p : Privilege) (j : Holder) → (noted ≡ false → has_grant (grants o step.after) p j ≡ has_grant (grants o step.before) p j)
+      → was_granted new.past o p j t ≡ (if noted && nat_le step.at t then has_grant (grants o step.after) p j else was_granted audit.past o p j t)
       → was_granted new.past o p j t ≡ has_grant (grants o (facts_by t (steps ++ step ∷ []))) p j
-  granted_more touched changed t o p j knows stays noted = elim (cases_Bool (nat_le step.at t)) [
+  granted_more noted t o p j stays is = elim (cases_Bool (nat_le step.at t)) [
     | inl y ↦
         let w : step.at ≤ t = grind (arith, nat_tests, y) in
         let before : was_granted audit.past o p j t ≡ has_grant (grants o step.before) p j = h.granted t o p j ∙ ap (λ (g : Lists). has_grant (grants o g) p j) (facts_before t steps step f w) in
-        noted ∙ (elim (cases_Bool (is_listed o touched)) [
-          | inl l ↦ elim (cases_Bool (may_change changed (p, j))) [
-            | inl m ↦ rw (l, m, y, facts_then t steps step y) refl
-            | inr m ↦ rw (l, m, facts_then t steps step y) (before ∙ sym (stays m))
-          ]
-          | inr l ↦ rw (l, facts_then t steps step y, knows o l) before
+        is ∙ (elim (cases_Bool noted) [
+          | inl m ↦ rw (m, y, facts_then t steps step y) refl
+          | inr m ↦ rw (m, facts_then t steps step y) (before ∙ sym (stays m))
         ])
-    | inr n ↦ noted ∙ rw (n, none_of (is_listed o touched && may_change changed (p, j)), facts_still t steps step n) (h.granted t o p j)
+    | inr n ↦ is ∙ rw (n, none_of noted, facts_still t steps step n) (h.granted t o p j)
   ]
 
   pub wheel_more : (t : ℕ) → wheel_at new.past t ≡ (if nat_le step.at t then wheel step.after else wheel_at audit.past t) → wheel_at new.past t ≡ wheel (facts_by t (steps ++ step ∷ []))

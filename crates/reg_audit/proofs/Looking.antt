@@ -66,7 +66,7 @@ one_grant g x h = one_place g x (is_equal (grant_cmp g x) h)
 
 -- ---- look-ups
 
-one_object : (a b : Object) → same_object a b ≡ true → a ≡ b
+pub one_object : (a b : Object) → same_object a b ≡ true → a ≡ b
 one_object (object.Folder a) (object.Folder b) h = ap object.Folder (eqb-true a b h)
 one_object (object.Group a) (object.Group b) h = ap object.Group (eqb-true a b h)
 one_object (object.Def a) (object.Def b) h = ap object.Def (eqb-true a b h)

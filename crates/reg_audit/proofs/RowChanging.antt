@@ -1,10 +1,12 @@
--- An event that adds, begins or takes away one row leaves all privileges of all holders but that of the row as they were.
-use Rattle.std.proofs.Common.{◌≡◌, ◌==◌, ◌&&◌, ◌||◌, ◌++◌, List, [], ◌∷◌, Bool, true, false, not, map, filter, if◌then◌else◌, Some, refl, sym, ap, subst, ◌∙◌, inl, inr}
+-- An event that adds, begins or takes away one row leaves all privileges of all holders but that of the row as they were, a
+-- grant's on each other object too; and one that is of neither grants nor objects leaves all.
+use Rattle.std.proofs.Common.{◌≡◌, ◌==◌, ◌&&◌, ◌||◌, ◌++◌, List, [], ◌∷◌, Bool, true, false, not, map, filter, if◌then◌else◌, Option, None, Some, refl, sym, ap, subst, ◌∙◌, inl, inr}
 use Rattle.std.specs.List.{list_any}
 use Rattle.std.proofs.lemmas.Bool.{cases_Bool, and_parts}
 use Rattle.reg_terms.specs.Kinds.{same_object, same_kind, same_scope, is_of_kind}
 use Rattle.reg_terms.specs.declared.event.Event.{Event}
 use Rattle.reg_terms.specs.declared.event.Event.TheVariants.{GrantAdded, GrantBegan, GrantRemoved, InheritAdded, InheritRemoved}
+use Rattle.reg_terms.specs.declared.event.Event.TheVariants.{SubjectMade, RowAdded, RowRemoved, RowRedated, Composed, Decomposed, AssignMade, AssignGone, ValueAdded, ValueRemoved, RuleMade, RuleGone, JobMade, JobGone, ConsumerAdded, ConsumerAcked}
 use Rattle.reg_terms.specs.declared.kinds.Object.{Object}
 use Rattle.reg_terms.specs.declared.rows.GrantRow.{GrantRow}
 use Rattle.reg_terms.specs.declared.rows.InheritRow.{InheritRow}
@@ -12,14 +14,16 @@ use Rattle.reg_facts.specs.Events.{happened}
 use Rattle.reg_facts.specs.Grants as tables
 use Rattle.reg_facts.specs.Lists.{Lists}
 use Rattle.reg_facts.specs.Naming.{placed, placed_folders, placed_group}
-use Rattle.reg_audit.specs.Changed.{changed_grant}
+use Rattle.reg_audit.specs.Changed.{changed_grant, changes_others, is_changed}
+use Rattle.reg_audit.specs.declared.grant_change.GrantChange.{GrantChange}
 use Rattle.reg_priv.specs.Filling.{same_grant, is_among}
 use Rattle.reg_priv.specs.Grants.{Grant, written, gives_one, given, reaches, grants}
 use Rattle.reg_priv.proofs.Anys.{any_filter, any_same}
-use Rattle.reg_audit.proofs.Looking.{one_grant, same_pair}
+use Rattle.reg_audit.proofs.Looking.{one_grant, one_object, same_pair}
 use Rattle.reg_priv.proofs.Scoped.{any_grant}
 use Rattle.reg_priv.proofs.Homes.{home_in, same_home}
 use Rattle.reg_priv.proofs.Untouched.{home_in_scope, by_home}
+use Rattle.reg_priv.specs.Touched.{is_listed}
 
 -- ---- lists
 
@@ -91,24 +95,35 @@ not_not false h = cc
 
 -- ---- events
 
--- a grant of another holder, or of another privilege
-written_off : (x : Grant) (o : Object) (row : GrantRow) → same_grant x (written row) ≡ false → writes x o row ≡ false
-written_off x o row h = and_off (same_object row.object o) (gives_one (same_grant x) row) (and_off (tables.has_begun row) (same_grant x (written row)) h)
+off_between : (a b c : Bool) → (a && c) ≡ false → (a && (b && c)) ≡ false
+off_between true true c h = h
+off_between true false c h = refl
+off_between false b c h = refl
+
+-- whether a grant is of this privilege and holder on this object
+abbrev is_of : Grant → Object → GrantRow → Bool
+is_of x o row = same_object row.object o && same_grant x (written row)
+
+-- a grant of another holder, of another privilege, or on another object
+written_off : (x : Grant) (o : Object) (row : GrantRow) → is_of x o row ≡ false → writes x o row ≡ false
+written_off x o row h = off_between (same_object row.object o) (tables.has_begun row) (same_grant x (written row)) h
 
 -- and one that is the same
-same_off : (x : Grant) (o : Object) (row other : GrantRow) → same_grant x (written row) ≡ false → tables.same_grant row other ≡ true → writes x o other ≡ false
+same_off : (x : Grant) (o : Object) (row other : GrantRow) → is_of x o row ≡ false → tables.same_grant row other ≡ true → writes x o other ≡ false
 same_off x o row other h e =
     let both = and_parts (same_object other.object row.object) _ e in
+    let place : row.object ≡ other.object = sym (one_object other.object row.object both.0) in
     let is : written row ≡ written other = one_grant (written row) (written other) (same_pair row.privilege other.privilege row.holder other.holder ∙ both.1) in
-    written_off x o other (subst (λ (g : Grant). same_grant x g ≡ false) is h)
+    let there : (same_object other.object o && same_grant x (written row)) ≡ false = subst (λ (a : Object). (same_object a o && same_grant x (written row)) ≡ false) place h in
+    written_off x o other (subst (λ (g : Grant). (same_object other.object o && same_grant x g) ≡ false) is there)
 
-grant_added : (row : GrantRow) (f : Lists) (o : Object) (x : Grant) → same_grant x (written row) ≡ false → is_among x (grants o (happened (GrantAdded row) f)) ≡ is_among x (grants o f)
+grant_added : (row : GrantRow) (f : Lists) (o : Object) (x : Grant) → is_of x o row ≡ false → is_among x (grants o (happened (GrantAdded row) f)) ≡ is_among x (grants o f)
 grant_added row f o x h = alike o f (happened (GrantAdded row) f) x (record { folders = refl; groups = refl; definitions = refl; attributes = refl }) (any_more (writes x o) f.grants row (written_off x o row h)) refl
 
-grant_began : (row : GrantRow) (f : Lists) (o : Object) (x : Grant) → same_grant x (written row) ≡ false → is_among x (grants o (happened (GrantBegan row) f)) ≡ is_among x (grants o f)
+grant_began : (row : GrantRow) (f : Lists) (o : Object) (x : Grant) → is_of x o row ≡ false → is_among x (grants o (happened (GrantBegan row) f)) ≡ is_among x (grants o f)
 grant_began row f o x h = alike o f (happened (GrantBegan row) f) x (record { folders = refl; groups = refl; definitions = refl; attributes = refl }) (any_put (writes x o) (tables.same_grant row) row f.grants (written_off x o row h) (λ r e. same_off x o row r h e)) refl
 
-grant_removed : (row : GrantRow) (f : Lists) (o : Object) (x : Grant) → same_grant x (written row) ≡ false → is_among x (grants o (happened (GrantRemoved row) f)) ≡ is_among x (grants o f)
+grant_removed : (row : GrantRow) (f : Lists) (o : Object) (x : Grant) → is_of x o row ≡ false → is_among x (grants o (happened (GrantRemoved row) f)) ≡ is_among x (grants o f)
 grant_removed row f o x h = alike o f (happened (GrantRemoved row) f) x (record { folders = refl; groups = refl; definitions = refl; attributes = refl }) (any_fewer (writes x o) (λ (r : GrantRow). not (tables.same_grant row r)) f.grants (λ r e. same_off x o row r h (not_not (tables.same_grant row r) e))) refl
 
 inherit_added : (row : InheritRow) (f : Lists) (o : Object) (x : Grant) → same_grant x (given row) ≡ false → is_among x (grants o (happened (InheritAdded row) f)) ≡ is_among x (grants o f)
@@ -125,10 +140,35 @@ inherit_removed row f o x h = alike o f (happened (InheritRemoved row) f) x (rec
         let is : given row ≡ given r = one_grant (given row) (given r) (same_pair row.privilege r.privilege row.holder r.holder ∙ third.1) in
         and_off (reaches o f r) (same_grant x (given r)) (subst (λ (g : Grant). same_grant x g ≡ false) is h)
 
-pub changed : (e : Event) (f : Lists) (o : Object) (g x : Grant) → changed_grant e ≡ Some g → same_grant x g ≡ false → is_among x (grants o (happened e f)) ≡ is_among x (grants o f)
-changed (GrantAdded row) f o g x e h = let is : g ≡ written row = cc in grant_added row f o x (subst (λ (y : Grant). same_grant x y ≡ false) is h)
-changed (GrantBegan row) f o g x e h = let is : g ≡ written row = cc in grant_began row f o x (subst (λ (y : Grant). same_grant x y ≡ false) is h)
-changed (GrantRemoved row) f o g x e h = let is : g ≡ written row = cc in grant_removed row f o x (subst (λ (y : Grant). same_grant x y ≡ false) is h)
-changed (InheritAdded row) f o g x e h = let is : g ≡ given row = cc in inherit_added row f o x (subst (λ (y : Grant). same_grant x y ≡ false) is h)
-changed (InheritRemoved row) f o g x e h = let is : g ≡ given row = cc in inherit_removed row f o x (subst (λ (y : Grant). same_grant x y ≡ false) is h)
-changed _ f o g x e h = cc
+-- where neither grants nor inherits change, nor what these reach
+kept : (o : Object) (f g : Lists) (x : Grant) → g.folders ≡ f.folders → g.groups ≡ f.groups → g.definitions ≡ f.definitions → g.attributes ≡ f.attributes → g.grants ≡ f.grants → g.inherits ≡ f.inherits → is_among x (grants o g) ≡ is_among x (grants o f)
+kept o f g x folders groups definitions attributes direct inherited = alike o f g x (record { folders = folders; groups = groups; definitions = definitions; attributes = attributes }) (ap (list_any (writes x o)) direct) (ap (list_any (gives x o f)) inherited)
+
+abbrev pub if_any : (GrantChange → Bool) → Option GrantChange → Bool
+if_any t None = false
+if_any t (Some c) = t c
+
+-- an event that doesn't change others changes what its row tells of alone
+pub changed : (touched : List Object) (e : Event) (f : Lists) (o : Object) (x : Grant) → is_listed o touched ≡ true → changes_others e ≡ false → if_any (is_changed touched o x) (changed_grant e) ≡ false → is_among x (grants o (happened e f)) ≡ is_among x (grants o f)
+changed touched (GrantAdded row) f o x l k h = grant_added row f o x h
+changed touched (GrantBegan row) f o x l k h = grant_began row f o x h
+changed touched (GrantRemoved row) f o x l k h = grant_removed row f o x h
+changed touched (InheritAdded row) f o x l k h = inherit_added row f o x (rw l at h)
+changed touched (InheritRemoved row) f o x l k h = inherit_removed row f o x (rw l at h)
+changed touched (SubjectMade row) f o x l k h = kept o f (happened (SubjectMade row) f) x refl refl refl refl refl refl
+changed touched (RowAdded row) f o x l k h = kept o f (happened (RowAdded row) f) x refl refl refl refl refl refl
+changed touched (RowRemoved g m) f o x l k h = kept o f (happened (RowRemoved g m) f) x refl refl refl refl refl refl
+changed touched (RowRedated g m from until) f o x l k h = kept o f (happened (RowRedated g m from until) f) x refl refl refl refl refl refl
+changed touched (Composed row) f o x l k h = kept o f (happened (Composed row) f) x refl refl refl refl refl refl
+changed touched (Decomposed g) f o x l k h = kept o f (happened (Decomposed g) f) x refl refl refl refl refl refl
+changed touched (AssignMade row) f o x l k h = kept o f (happened (AssignMade row) f) x refl refl refl refl refl refl
+changed touched (AssignGone id) f o x l k h = kept o f (happened (AssignGone id) f) x refl refl refl refl refl refl
+changed touched (ValueAdded id v) f o x l k h = kept o f (happened (ValueAdded id v) f) x refl refl refl refl refl refl
+changed touched (ValueRemoved id v) f o x l k h = kept o f (happened (ValueRemoved id v) f) x refl refl refl refl refl refl
+changed touched (RuleMade row) f o x l k h = kept o f (happened (RuleMade row) f) x refl refl refl refl refl refl
+changed touched (RuleGone id) f o x l k h = kept o f (happened (RuleGone id) f) x refl refl refl refl refl refl
+changed touched (JobMade row) f o x l k h = kept o f (happened (JobMade row) f) x refl refl refl refl refl refl
+changed touched (JobGone id) f o x l k h = kept o f (happened (JobGone id) f) x refl refl refl refl refl refl
+changed touched (ConsumerAdded row) f o x l k h = kept o f (happened (ConsumerAdded row) f) x refl refl refl refl refl refl
+changed touched (ConsumerAcked name seq) f o x l k h = kept o f (happened (ConsumerAcked name seq) f) x refl refl refl refl refl refl
+changed touched _ f o x l k h = cc

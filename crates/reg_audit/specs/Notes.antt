@@ -1,14 +1,14 @@
 -- What a step changes itself, taken from the facts before it.
-use Rattle.std.specs.Prelude.{ℕ, List, Option, ◌++◌, filter_map}
+use Rattle.std.specs.Prelude.{ℕ, List, Bool, ◌++◌, filter_map}
+use Rattle.std.specs.List.{list_any}
 use Rattle.reg_terms.specs.declared.event.Event.{Event}
 use Rattle.reg_terms.specs.declared.kinds.Object.{Object}
 use Rattle.reg_facts.specs.Lists.{Lists}
-use Rattle.reg_priv.specs.Grants.{Grant}
 use Rattle.reg_rules.specs.declared.actions.Action.{Action}
 use Rattle.reg_log.specs.declared.entries.Line.{Line}
 use Rattle.reg_pit.specs.declared.assign_change.AssignChange.{AssignChange}
 use Rattle.reg_audit.specs.Assigning.{assign_changes}
-use Rattle.reg_audit.specs.Changed.{changed_by}
+use Rattle.reg_audit.specs.Changed.{changed_grants, changes_others}
 use Rattle.reg_audit.specs.Consumers.{consumer_note}
 use Rattle.reg_audit.specs.Definitions.{attributes_made}
 use Rattle.reg_audit.specs.Lines.{action_lines, direct_lines}
@@ -16,11 +16,12 @@ use Rattle.reg_audit.specs.Lives.{leaving}
 use Rattle.reg_audit.specs.Objects.{made_by}
 use Rattle.reg_audit.specs.declared.consumers.ConsumerNote.{ConsumerNote}
 use Rattle.reg_audit.specs.declared.gone.Gone.{Gone}
+use Rattle.reg_audit.specs.declared.grant_change.GrantChange.{GrantChange}
 
 -- the moment, the entries of what is changed directly, the objects that are made, those that go
 -- with their names, the attributes that are made with their definitions, what happens to
--- assignments and to consumers, and the one privilege and holder whose grants are changed, where it
--- is known; once rules acted, the entries have what they did too
+-- assignments and to consumers, the privileges and holders whose grants may change, and whether
+-- others may; once rules acted, the entries have what they did too
 pub record StepNotes : Type 0 where
   pub at : ℕ
   pub lines : List Line
@@ -29,7 +30,8 @@ pub record StepNotes : Type 0 where
   pub attributes : List (ℕ × ℕ)
   pub assigns : List AssignChange
   pub consumers : List ConsumerNote
-  pub changed : Option Grant
+  pub changed : List GrantChange
+  pub changes_others : Bool
 
 -- what events at a moment change, by the facts before them
 abbrev pub notes_of : ℕ → Lists → List Event → StepNotes
@@ -41,7 +43,8 @@ notes_of at before events = record {
   attributes = attributes_made events;
   assigns = assign_changes events;
   consumers = filter_map consumer_note events;
-  changed = changed_by events;
+  changed = changed_grants events;
+  changes_others = list_any changes_others events;
 }
 
 -- and with what rules do after them, of which entries tell behind the rest

@@ -54,9 +54,11 @@ impl Audit {
     }
 
     /// One step more, by what it changes itself and what rules do after that, the memberships that
-    /// it turns, the facts after it, and the objects whose grants it may change. Where it adds or
-    /// takes away one grant or one inherit alone, each of these costs a look at each folder above
-    /// it; else what was ever noted of it and what holds on it. Out of memory all is given up.
+    /// it turns, the facts after it, and the objects whose grants it may change. Each grant that it
+    /// adds, begins or takes away costs a look at each folder above its object, and an inherit a
+    /// look at each above each of these. Where it makes, renames or moves an object, or one goes,
+    /// each of these costs what was ever noted of it and what holds on it. Out of memory all is
+    /// given up.
     pub fn note(
         self,
         alloc: Global,
@@ -77,9 +79,11 @@ impl Audit {
         let Audit { mut records, past } = self;
         records.note(alloc, &notes, turned)?;
         let at = notes.at;
-        let changed = notes.changed;
-        let changes = notes.into_assigns();
-        let past = note_past(alloc, past, turned, facts, touched, &changed, changes, at)?;
+        let others = notes.changes_others;
+        let (assigns, changed) = notes.into_changes();
+        let past = note_past(
+            alloc, past, turned, facts, touched, &changed, others, assigns, at,
+        )?;
         Ok(Audit { records, past })
     }
 

@@ -11,10 +11,10 @@ ghost use Rattle.reg_audit.specs.Objects.{object_made, object_gone, is_deletion,
 use crate::assigning::assign_changes;
 use crate::consumers::consumer_notes;
 use crate::definitions::attributes_made;
-use crate::grant_change::changed_by;
+use crate::grant_change::{GrantChange, any_changes_others, changed_grants};
 use crate::lines::{action_line, line_of};
 use crate::{ConsumerNote, Gone};
-use reg_base::{AttrDefId, AttrId, Moment, Privilege, Text};
+use reg_base::{AttrDefId, AttrId, Moment, Text};
 use reg_facts::Facts;
 use reg_log::{EntryKind, Line};
 use reg_names::name_of;
@@ -26,9 +26,9 @@ use std::marker::Model;
 
 /// What a step changes itself, taken before it is carried out: its moment, the entries of what it
 /// changes directly, what it makes, what goes with its names, the attributes that it makes with
-/// their definitions, what it does to assignments and to consumers, and the one privilege and
-/// holder whose grants it changes, where it is known. What rules do after it is put to the entries
-/// once they acted.
+/// their definitions, what it does to assignments and to consumers, the privileges and holders
+/// whose grants it may change, and whether it may change others. What rules do after it is put to
+/// the entries once they acted.
 #[derive(Drop)]
 pub struct Notes {
     pub(crate) at: Moment,
@@ -38,7 +38,8 @@ pub struct Notes {
     pub(crate) attributes: Vec<(AttrId, AttrDefId)>,
     pub(crate) assigns: Vec<AssignChange>,
     pub(crate) consumers: Vec<ConsumerNote>,
-    pub(crate) changed: Option<(Privilege, Holder)>,
+    pub(crate) changed: Vec<GrantChange>,
+    pub(crate) changes_others: bool,
 }
 
 impl Model for Notes {
@@ -54,7 +55,8 @@ impl Model for Notes {
       attributes = n.attributes.items;
       assigns = n.assigns.items;
       consumers = n.consumers.items;
-      changed = n.changed;
+      changed = n.changed.items;
+      changes_others = n.changes_others;
     } };
 }
 
@@ -71,11 +73,13 @@ impl Notes {
         Ok(notes)
     }
 
-    /// What the step does to assignments.
-    pub(crate) fn into_assigns(self) -> Vec<AssignChange>
-        ensures { result.items ≡ self.assigns }
+    /// What the step does to assignments, and the privileges and holders whose grants it may
+    /// change.
+    pub(crate) fn into_changes(self) -> (Vec<AssignChange>, Vec<GrantChange>)
+        ensures assigns { result.0.items ≡ self.assigns }
+        ensures grants { result.1.items ≡ self.changed }
     {
-        self.assigns
+        (self.assigns, self.changed)
     }
 }
 
@@ -259,6 +263,7 @@ pub fn notes_of(
         attributes: attributes_made(alloc, events)?,
         assigns: assign_changes(alloc, events)?,
         consumers: consumer_notes(alloc, events)?,
-        changed: changed_by(events),
+        changed: changed_grants(alloc, events)?,
+        changes_others: any_changes_others(events),
     })
 }

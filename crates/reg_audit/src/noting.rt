@@ -11,20 +11,20 @@ ghost use Rattle.reg_pit.specs.Past.{assigns_at, last_assign, was_member, was_gr
 ghost use Rattle.reg_pit.specs.Past.{NotedBy, KeepsMembers, KeepsGrants, KeepsWheel, KeepsAssigns};
 ghost use Rattle.reg_priv.specs.Grants.{grants};
 ghost use Rattle.reg_priv.specs.May.{wheel};
-ghost use Rattle.reg_priv.specs.Touched.{is_listed};
 ghost use Rattle.reg_audit.specs.Assigning.{all_changed, last_after_all, MayNote};
-ghost use Rattle.reg_audit.specs.Changed.{may_change};
+ghost use Rattle.reg_audit.specs.Changed.{is_noted};
 ghost use Rattle.reg_audit.specs.Lines.{turn_line};
 
-use crate::grants::note_touched;
+use crate::grant_change::GrantChange;
+use crate::grants::note_changed;
 use crate::lines::turn_line;
 use crate::wheel::note_wheel;
-use reg_base::{GroupId, Moment, Privilege, SubjectId};
+use reg_base::{GroupId, Moment, SubjectId};
 use reg_facts::Facts;
 use reg_log::{ChangeLog, Line};
 use reg_pit::{AssignChange, Past};
 use reg_priv::wheel;
-use reg_terms::{Holder, Object};
+use reg_terms::Object;
 use std::alloc::{AllocError, Global};
 
 /// Adds a line at the end of the log.
@@ -104,15 +104,16 @@ fn note_turns(
 }
 
 /// Notes what a step leaves at its moment, by the facts after it: what it does to assignments, the
-/// memberships that it begins and ends, who holds what on the objects that it touches, where it may
-/// have changed, and the wheel group; nothing was noted later. Out of memory the past is given up.
+/// memberships that it begins and ends, who holds what where it may have changed, and the wheel
+/// group; nothing was noted later. Out of memory the past is given up.
 pub(crate) fn note_past(
     alloc: Global,
     past: Past,
     turned: &[(GroupId, SubjectId, bool)],
     facts: &Facts,
     touched: &[Object],
-    changed: &Option<(Privilege, Holder)>,
+    changed: &[GrantChange],
+    others: bool,
     changes: Vec<AssignChange>,
     at: Moment,
 ) -> Result<Past, AllocError>
@@ -122,7 +123,7 @@ pub(crate) fn note_past(
         then after_turns turned.now g s (was_member past g s t) else was_member past g s t)) }
     ensures grants { IfOk result (λ new. (o : Object) (p : Privilege) (h : Holder) (t : ℕ)
         → was_granted new o p h t
-        ≡ (if (is_listed o touched.now && may_change changed.now (p, h)) && nat_le at t
+        ≡ (if is_noted touched.now others changed.now o (p, h) && nat_le at t
         then has_grant (grants o facts.now) p h else was_granted past o p h t)) }
     ensures wheel { IfOk result (λ new. (t : ℕ)
         → wheel_at new t ≡ (if nat_le at t then wheel facts.now else wheel_at past t)) }
@@ -135,7 +136,7 @@ pub(crate) fn note_past(
 {
     let with_assigns = note_assigns(past, changes, at)?;
     let with_turns = note_turns(with_assigns, turned, at)?;
-    let with_grants = note_touched(alloc, with_turns, facts, touched, changed, at)?;
+    let with_grants = note_changed(alloc, with_turns, facts, touched, changed, others, at)?;
     let with_wheel = note_wheel(with_grants, wheel(facts), at)?;
     Ok(with_wheel)
 }

@@ -2,8 +2,7 @@ use Rattle.std.proofs.Common.{◌&&◌, ◌∙◌, Bool, ap, refl, nat_le, if◌
 use Rattle.reg_effect.specs.Turned.{after_turns}
 use Rattle.reg_pit.specs.Grants.{has_grant}
 use Rattle.reg_priv.specs.Grants.{grants}
-use Rattle.reg_priv.specs.Touched.{is_listed}
-use Rattle.reg_audit.specs.Changed.{may_change}
+use Rattle.reg_audit.specs.Changed.{is_noted}
 use Rattle.reg_audit.proofs.noting.note_past.Goals as goal
 
 pub returns-clause-members : goal.returns-clause-members
@@ -17,7 +16,7 @@ pub returns-clause-grants : goal.returns-clause-grants
 returns-clause-grants c o p h t =
     c.in_ok-with_wheel.ensures.grants o p h t
     ∙ (c.in_ok-with_grants.ensures.noted o p h t
-    ∙ ap (λ (b : Bool). if (is_listed o c.args.touched.now && may_change c.args.changed.now (p, h)) && nat_le c.args.at t then has_grant (grants o c.args.facts.now) p h else b) (c.in_ok-with_turns.ensures.grants o p h t ∙ c.in_ok-with_assigns.ensures.grants o p h t))
+    ∙ ap (λ (b : Bool). if is_noted c.args.touched.now c.args.others c.args.changed.now o (p, h) && nat_le c.args.at t then has_grant (grants o c.args.facts.now) p h else b) (c.in_ok-with_turns.ensures.grants o p h t ∙ c.in_ok-with_assigns.ensures.grants o p h t))
 
 pub returns-clause-wheel : goal.returns-clause-wheel
 returns-clause-wheel c t = c.in_ok-with_wheel.ensures.noted t ∙ rw (c.wheel.ensures, c.in_ok-with_grants.ensures.wheel t, c.in_ok-with_turns.ensures.wheel t, c.in_ok-with_assigns.ensures.wheel t) refl

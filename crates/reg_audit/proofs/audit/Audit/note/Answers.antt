@@ -19,10 +19,10 @@ returns c steps step h f e t after knows =
       defined = c.in_ok-note.ensures.defined;
       places = c.in_ok-note.ensures.places;
       members = rw same at c.in_ok-past.ensures.members;
-      granted = rw (same, ap (λ (n : StepNotes). n.changed) c.notes.view_is) at c.in_ok-past.ensures.grants;
+      granted = rw (same, ap (λ (n : StepNotes). n.changes_others) c.notes.view_is, c.deref.ensures.value, c.into_changes-assigns.ensures.grants) at c.in_ok-past.ensures.grants;
       noted_wheel = rw same at c.in_ok-past.ensures.wheel;
-      assigns = rw (same, c.into_assigns-changes.ensures) at c.in_ok-past.ensures.assigns;
-      greatest = rw c.into_assigns-changes.ensures at c.in_ok-past.ensures.greatest;
+      assigns = rw (same, c.into_changes-assigns.ensures.assigns) at c.in_ok-past.ensures.assigns;
+      greatest = rw c.into_changes-assigns.ensures.assigns at c.in_ok-past.ensures.greatest;
       last = rw same at c.in_ok-past.ensures.last;
     } in
     audit_more c.args.self new c.args.turned.now c.args.touched.now steps step c.law_turns.ensures h f t knows
