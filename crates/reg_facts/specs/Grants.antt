@@ -29,6 +29,10 @@ same_grant row other =
     same_object other.object row.object
     && (same_privilege other.privilege row.privilege && same_holder other.holder row.holder)
 
+-- a grant without dates
+abbrev pub undated : Object → Privilege → Holder → GrantRow
+undated o p h = record { object = o; privilege = p; holder = h; from = None; until = None }
+
 -- whether this grant stands, on or not
 abbrev pub has_grant : GrantRow → List GrantRow → Bool
 has_grant row rows = list_any (same_grant row) rows

@@ -1,6 +1,7 @@
 // Events, taken into the facts.
-ghost use Rattle.std.specs.Prelude.{◌≡◌, IfOk, Some, true, false};
+ghost use Rattle.std.specs.Prelude.{◌≡◌, IfOk, Some, Ok, true, false};
 ghost use Rattle.reg_facts.specs.Events.{happened};
+ghost use Rattle.reg_facts.specs.Grants.{undated};
 ghost use Rattle.reg_facts.specs.Suiting.{Suits};
 ghost use Rattle.reg_terms.specs.declared.event.Event.TheVariants.{FolderMade, FolderRenamed};
 ghost use Rattle.reg_terms.specs.declared.event.Event.TheVariants.{FolderMoved, FolderGone};
@@ -17,10 +18,10 @@ ghost use Rattle.reg_terms.specs.declared.event.Event.TheVariants.{ConsumerAcked
 
 use crate::facts::{both, finished};
 use crate::{
-    CompositeRow, ConsumerRow, Event, Facts, FolderRow, GrantRow, GroupRow, InheritRow, Member,
-    MemberRow, Object, RuleRow, SubjectRow,
+    CompositeRow, ConsumerRow, Event, Facts, FolderRow, GrantRow, GroupRow, Holder, InheritRow,
+    Member, MemberRow, Object, RuleRow, SubjectRow,
 };
-use reg_base::{FolderId, GroupId, Moment, RuleId, Text};
+use reg_base::{FolderId, GroupId, Moment, Privilege, RuleId, Text};
 use std::alloc::{AllocError, Global};
 
 impl Facts {
@@ -107,6 +108,26 @@ impl Facts {
                 until,
             },
         )
+    }
+
+    /// The facts without a grant that stands, whether it is on or to come. It takes no memory, and
+    /// is never an error.
+    pub fn drop_grant(
+        self,
+        object: Object,
+        privilege: Privilege,
+        holder: Holder,
+    ) -> Result<Facts, AllocError>
+        requires { Suits (GrantRemoved (undated object privilege holder)) self }
+        ensures { result ≡ Ok (happened (GrantRemoved (undated object privilege holder)) self) }
+    {
+        Ok(self.grant_removed(&GrantRow {
+            object,
+            privilege,
+            holder,
+            from: None,
+            until: None,
+        }))
     }
 
     fn folder_made(self, alloc: Global, row: FolderRow) -> Result<Facts, AllocError>
