@@ -1,4 +1,4 @@
--- The entries after a place, one by one.
+-- The entries after a place.
 use Rattle.std.proofs.Common.{◌≡◌, ◌<◌, ◌+◌, ◌-◌, ℕ, List, [], ◌∷◌, ◌++◌, length, take, drop, min, refl, arith, get_or, nat_le, append_assoc, drop-cons, add-one, inl, inr}
 use Rattle.std.proofs.lemmas.Bool.{cases_Bool}
 use Rattle.std.proofs.lemmas.Bool.Decides.{nat_tests}
@@ -9,11 +9,6 @@ use Rattle.std.proofs.Math.ListN.{drop_of_length-le}
 use Rattle.reg_log.specs.Numbering.{entry_of, numbered, entries_after}
 use Rattle.reg_log.specs.declared.entries.Entry.{Entry}
 use Rattle.reg_log.specs.declared.entries.Line.{Line}
-
--- one line more
-pub one_more : (done whole : List Entry) (seq i : ℕ) (lines : List Line) (line : Line) → i < length lines → line ≡ get_or lines i line
-    → done ++ numbered seq (drop i lines) ≡ whole → (done ++ entry_of (seq + 1) line ∷ []) ++ numbered (seq + 1) (drop (i + 1) lines) ≡ whole
-one_more done whole seq i lines line h e k = rw (append_assoc, add-one, add-one) (rw (drop-cons lines i line, ← e) at k)
 
 -- the lines after a place, where a place after the last line is the last line's
 pub lines_after : (place max n : ℕ) (lines : List Line) → n ≡ length lines → numbered (min place n) (take (min max (n - min place n)) (drop (min place n) lines)) ≡ entries_after place max lines

@@ -1,2 +1,3 @@
 pub mod ByName
 pub mod Following
+pub mod Runs

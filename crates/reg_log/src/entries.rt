@@ -27,6 +27,3 @@ pub struct Line {
     pub entity: Option<Holder>,
     pub number: u32,
 }
-
-// A long log stays in memory.
-const _: () = prove!(size_of::<Line>() <= 40);

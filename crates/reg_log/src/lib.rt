@@ -5,6 +5,8 @@
 mod consumers;
 mod entries;
 mod log;
+mod stored;
+mod stretches;
 
 pub use consumers::{Place, Places};
 pub use entries::{Entry, Line};
