@@ -5,12 +5,16 @@ use Rattle.clap.specs.declared.parser.matches.Found.{Found}
 use Rattle.clap.specs.declared.error.Error.{Error}
 use Rattle.clap.specs.declared.error.kind.ErrorKind.TheVariants as kind
 use Rattle.clap.proofs.OnLiterals.{clap_on_literals}
-use Rattle.reg_words.specs.Words.{bare, members, history, serve, load, sample, permit, permitted, attested, attestation, provision, commands, as_of, why, is_none, read_by}
+use Rattle.reg_words.specs.Words.{bare, apply, members, history, serve, load, sample, permit, permitted, attested, attestation, provision, commands, as_of, why, is_none, read_by}
 use Rattle.reg_words.specs.declared.task.Task.{Task}
 
 pub bare_is_simple : (name : Text) → is_simple_and_free (bare name) ≡ true
 unfolding clap_on_literals
 bare_is_simple name = refl
+
+pub apply_is_simple : is_simple_and_free apply ≡ true
+unfolding clap_on_literals
+apply_is_simple = refl
 
 pub members_is_simple : is_simple_and_free members ≡ true
 unfolding clap_on_literals

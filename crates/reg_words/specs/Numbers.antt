@@ -32,6 +32,14 @@ sized number = if nat_le 2 number && nat_le number 500 then Some number else Non
 abbrev pub size_in : List ℕ → Option ℕ
 size_in word = option_and_then sized (number_in 0 18446744073709551615 word)
 
+-- how many lines are answered together: from 1 to 10,000
+abbrev pub batched : ℕ → Option ℕ
+batched number = if nat_le 1 number && nat_le number 10000 then Some number else None
+
+-- so many, as a word names them
+abbrev pub batch_in : List ℕ → Option ℕ
+batch_in word = option_and_then batched (number_in 0 18446744073709551615 word)
+
 -- the port that a word names
 abbrev pub port_in : List ℕ → Option ℕ
 port_in word = number_in 0 65535 word

@@ -9,7 +9,7 @@ use Rattle.clap.specs.Words.{App, Kinds, Row, Rule, Text, fault_of, first_of, ma
 use Rattle.clap.specs.Words.{new_rule, with_rule}
 use Rattle.clap.specs.Simple.{on_top}
 use Rattle.clap.specs.declared.builder.action.ArgAction.TheVariants.{Set}
-use Rattle.reg_words.specs.Numbers.{connections_in, entries_in, place_in, port_in}
+use Rattle.reg_words.specs.Numbers.{batch_in, connections_in, entries_in, place_in, port_in}
 use Rattle.reg_words.specs.Numbers.{seed_in, size_in}
 use Rattle.reg_words.specs.declared.task.Question.TheVariants as question
 use Rattle.reg_words.specs.declared.task.Report.TheVariants as report
@@ -35,6 +35,10 @@ with_word id app = with_rule app (word_rule id)
 -- the command with an option more
 abbrev pub with_option : Text → App → App
 with_option id app = with_rule app (option_rule id)
+
+-- `apply [--together N]`
+abbrev pub apply : App
+apply = with_option (codes "together") (bare (codes "apply"))
 
 -- `members NAME [--at T]`
 abbrev pub members : App
@@ -94,6 +98,15 @@ abbrev pub why : App
 why =
     with_option (codes "at") (with_word (codes "group")
     (with_word (codes "subject") (bare (codes "why"))))
+
+-- what `apply` asks, by its word: to answer one line at a time, or so many together
+abbrev pub apply_of : Option Text → Option Task
+apply_of None = Some task.Apply
+apply_of (Some together) = option_map (λ most. task.Together most) (batch_in together)
+
+-- the same by what it found
+abbrev pub apply_in : List Row → Option Task
+apply_in rows = apply_of (first_of (codes "together") rows)
 
 -- what `members` asks, by what it found
 abbrev pub members_in : List Row → Option Task
@@ -221,7 +234,7 @@ read_bare name task = read_by (bare name) (λ rows. Some task)
 abbrev pub task_by : Text → List Text → Option Task
 task_by word words =
     if bytes_eq word (codes "init") then read_bare (codes "init") task.Init words
-    else (if bytes_eq word (codes "apply") then read_bare (codes "apply") task.Apply words
+    else (if bytes_eq word (codes "apply") then read_by apply apply_in words
     else (if bytes_eq word (codes "serve") then read_by serve serve_in words
     else (if bytes_eq word (codes "check") then read_bare (codes "check") task.Check words
     else (if bytes_eq word (codes "members") then read_by members members_in words

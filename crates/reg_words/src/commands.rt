@@ -2,9 +2,9 @@
 ghost use Rattle.std.specs.Prelude.{◌≡◌, ◌≢◌, [], true, IfOk, MatchOption, map, string_bytes};
 ghost use Rattle.clap.specs.Words.{app_of, fault_of, first_of, found_of, is_simple_and_free};
 ghost use Rattle.clap.specs.Words.{matches_of, rows_of};
-ghost use Rattle.reg_words.specs.Words.{bare, with_word, with_option, members, history, serve};
+ghost use Rattle.reg_words.specs.Words.{apply, bare, with_word, with_option, members, history};
 ghost use Rattle.reg_words.specs.Words.{load, sample, permit, permitted, attested, attestation};
-ghost use Rattle.reg_words.specs.Words.{as_of, commands, provision, why};
+ghost use Rattle.reg_words.specs.Words.{as_of, commands, provision, serve, why};
 
 use clap::error::ErrorKind;
 use clap::{Arg, ArgAction, ArgMatches, Command};
@@ -40,6 +40,14 @@ fn with_option<'a>(
 {
     let option = Arg::new(alloc, id).long(id).action(ArgAction::Set);
     command.arg(option)
+}
+
+/// `apply [--together N]`
+pub fn apply<'a>(alloc: Global) -> Result<Command<'a>, AllocError>
+    ensures { IfOk result (λ c. app_of c ≡ apply) }
+{
+    let command = bare(alloc, "apply");
+    with_option(alloc, command, "together")
 }
 
 /// `members NAME [--at T]`

@@ -6,5 +6,5 @@ mod numbers;
 mod task;
 mod words;
 
-pub use task::{Places, Provision, Question, Report, Size, Task};
+pub use task::{BatchSize, Places, Provision, Question, Report, Size, Task};
 pub use words::task_of;

@@ -1,9 +1,9 @@
 // Numbers in words.
 ghost use Rattle.std.specs.Prelude.{◌≡◌};
-ghost use Rattle.reg_words.specs.Numbers.{connections_in, entries_in, number_in, port_in, seed_in};
-ghost use Rattle.reg_words.specs.Numbers.{place_in, size_in};
+ghost use Rattle.reg_words.specs.Numbers.{batch_in, connections_in, entries_in, number_in};
+ghost use Rattle.reg_words.specs.Numbers.{place_in, port_in, seed_in, size_in};
 
-use crate::task::Size;
+use crate::task::{BatchSize, Size};
 use reg_base::Text;
 
 /// How many connections are served at most.
@@ -50,6 +50,16 @@ pub fn size_in(word: &Text) -> Option<Size>
 {
     match number_in(word.bytes(), 0, u64::MAX) {
         Some(number) => Size::new(number),
+        None => None,
+    }
+}
+
+/// How many lines a word asks to answer together: a number from 1 to 10,000.
+pub fn batch_in(word: &Text) -> Option<BatchSize>
+    ensures { result ≡ batch_in word.now }
+{
+    match number_in(word.bytes(), 0, u64::MAX) {
+        Some(number) => BatchSize::new(number),
         None => None,
     }
 }

@@ -1,6 +1,6 @@
 // What the words ask for.
 ghost use Rattle.std.specs.Prelude.{◌≡◌, ◌≤◌};
-ghost use Rattle.reg_words.specs.Numbers.{sized};
+ghost use Rattle.reg_words.specs.Numbers.{batched, sized};
 
 use reg_base::Text;
 use std::marker::Model;
@@ -40,6 +40,46 @@ impl Size {
         ensures number { result ≡ self }
         ensures least { 2 ≤ result }
         ensures most { result ≤ 500 }
+    {
+        self.number
+    }
+}
+
+/// How many lines are answered together at the most: from 1 to 10,000. Contracts see the number.
+#[derive(Clone, Copy)]
+pub struct BatchSize {
+    number: u64,
+}
+
+impl Model for BatchSize {
+    ghost use Rattle.std.specs.Prelude.{ℕ, ◌≤◌};
+
+    ghost Value = { ℕ };
+
+    ghost view = { λ s. s.number };
+
+    ghost invariant = { λ s. (1 ≤ s.number) × (s.number ≤ 10000) };
+
+    ghost inverse = { λ n. record { number = n } };
+}
+
+impl BatchSize {
+    /// The size of this number. None where it is 0 or greater than 10,000.
+    pub fn new(number: u64) -> Option<BatchSize>
+        ensures { result ≡ batched number }
+    {
+        if number >= 1 && number <= 10_000 {
+            Some(BatchSize { number })
+        } else {
+            None
+        }
+    }
+
+    /// The number.
+    pub fn number(self) -> u64
+        ensures number { result ≡ self }
+        ensures least { 1 ≤ result }
+        ensures most { result ≤ 10000 }
     {
         self.number
     }
@@ -113,8 +153,10 @@ pub struct Places {
 pub enum Task {
     /// Begin a journal.
     Init,
-    /// Answer the lines of the input.
+    /// Answer the lines of the input, one after another.
     Apply,
+    /// Answer the lines of the input, at most so many together.
+    Together { most: BatchSize },
     /// Serve so many connections of a port.
     Serve { port: u16, connections: u64 },
     /// Open the journal.

@@ -1,7 +1,7 @@
 // From the words to what they ask for.
 ghost use Rattle.std.specs.Prelude.{◌≡◌, false, Ok, None, IfOk, map, string_bytes};
 ghost use Rattle.clap.specs.Words.{found_of, rows_of};
-ghost use Rattle.reg_words.specs.Words.{as_of, as_of_in};
+ghost use Rattle.reg_words.specs.Words.{apply, apply_in, apply_of, as_of, as_of_in};
 ghost use Rattle.reg_words.specs.Words.{attestation, attestation_in, attested, attested_in};
 ghost use Rattle.reg_words.specs.Words.{history, history_in, load, load_in, members, members_in};
 ghost use Rattle.reg_words.specs.Words.{permit, permit_in, permitted, permitted_in};
@@ -12,10 +12,10 @@ ghost use Rattle.reg_words.specs.Words.{serve_in, serve_of, task_by, task_of};
 ghost use Rattle.reg_words.specs.Words.{why, why_in, why_of};
 
 use crate::commands::{
-    as_of, attestation, attested, bare, commands, found, history, load, members, permit, permitted,
-    provision, sample, serve, value, why,
+    apply, as_of, attestation, attested, bare, commands, found, history, load, members, permit,
+    permitted, provision, sample, serve, value, why,
 };
-use crate::numbers::{connections_in, entries_in, place_in, port_in, seed_in, size_in};
+use crate::numbers::{batch_in, connections_in, entries_in, place_in, port_in, seed_in, size_in};
 use crate::task::{Places, Provision, Question, Report, Task};
 use clap::ArgMatches;
 use reg_base::Text;
@@ -35,6 +35,27 @@ fn read_bare(
         Some(_) => Ok(Some(task)),
         None => Ok(None),
     }
+}
+
+/// What `apply` asks, by its word.
+fn apply_of(together: &Option<Text>) -> Option<Task>
+    ensures { result ≡ apply_of together.now }
+{
+    match together {
+        Some(together) => match batch_in(together) {
+            Some(most) => Some(Task::Together { most }),
+            None => None,
+        },
+        None => Some(Task::Apply),
+    }
+}
+
+/// What `apply` asks, by what it found.
+fn apply_in(alloc: Global, matches: &ArgMatches) -> Result<Option<Task>, AllocError>
+    ensures { IfOk result (λ asked. asked ≡ apply_in (rows_of (found_of matches.now))) }
+{
+    let together = value(alloc, matches, "together")?;
+    Ok(apply_of(&together))
 }
 
 /// What `members` asks, by what it found.
@@ -194,6 +215,17 @@ fn provision_in(alloc: Global, matches: &ArgMatches) -> Result<Option<Task>, All
         return Ok(None);
     };
     Ok(provision_of(consumer, person, &max))
+}
+
+/// Reads the words of `apply [--together N]`.
+fn read_apply(alloc: Global, words: &[String]) -> Result<Option<Task>, AllocError>
+    ensures { IfOk result (λ asked. asked ≡ read_by apply apply_in (map string_bytes words.now)) }
+{
+    let command = apply(alloc)?;
+    match found(command, words)? {
+        Some(matches) => apply_in(alloc, &matches),
+        None => Ok(None),
+    }
 }
 
 /// Reads the words of `members NAME [--at T]`.
@@ -409,7 +441,7 @@ fn task_by(alloc: Global, word: &str, words: &[String]) -> Result<Option<Task>, 
 {
     match word {
         "init" => read_bare(alloc, "init", Task::Init, words),
-        "apply" => read_bare(alloc, "apply", Task::Apply, words),
+        "apply" => read_apply(alloc, words),
         "serve" => read_serve(alloc, words),
         "check" => read_bare(alloc, "check", Task::Check, words),
         "members" => read_members(alloc, words),
