@@ -1,5 +1,6 @@
 pub mod Keyed
 pub mod Forms
+pub mod Held
 pub mod Judging
 pub mod Keeping
 pub mod LoadKeys
@@ -10,3 +11,4 @@ pub mod Loads
 pub mod Migrating
 pub mod Once
 pub mod Opens
+pub mod Settling

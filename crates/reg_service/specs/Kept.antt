@@ -70,6 +70,21 @@ pub record Halted {K : Type 0} (g : Ghosts K) (before : List Stamped)
   pub kept : KeptOn g before old after keeper
   pub stopped : IfSome (g.payloads old) (λ ps. Stopped g answered after keeper)
 
+-- the history with at most so many commands more
+abbrev pub IsFewMore : ℕ → List Stamped → List Stamped → Type 0
+IsFewMore most answered after =
+    (more : List Stamped) × (length more ≤ most) × (after ≡ answered ++ more)
+
+-- The same as `Halted`, with at most so many commands more that may be kept and weren't answered.
+pub record HaltedBy {K : Type 0} (most : ℕ) (g : Ghosts K) (before : List Stamped)
+    (old keeper : K) : Type 0 where
+  pub answered : List Stamped
+  pub after : List Stamped
+  pub first : length before ≤ length answered
+  pub last : IsFewMore most answered after
+  pub kept : KeptOn g before old after keeper
+  pub stopped : IfSome (g.payloads old) (λ ps. Stopped g answered after keeper)
+
 -- the keeper after a request, whether the service goes on or not
 abbrev pub keeper_of : {K : Type 0} → Next K → K
 keeper_of (next.Go s) = s.keeper

@@ -1,4 +1,5 @@
 pub mod Again
+pub mod Holding
 pub mod KeptAt
 pub mod Kept
 pub mod Loads
@@ -7,3 +8,4 @@ pub mod Marks
 pub mod Migrating
 pub mod Opening
 pub mod Turn
+pub mod Waiting

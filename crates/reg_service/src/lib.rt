@@ -4,13 +4,16 @@
 #![tactic(auto)]
 
 mod again;
+mod holding;
 mod migrated;
 mod migration;
 mod opening;
 mod service;
 mod uncounted;
+mod waiting;
 
 pub use migration::{MigrateFault, migrate};
 pub use opening::replay;
 pub use service::{Cause, Next, Service};
 pub use uncounted::advance;
+pub use waiting::Waiting;

@@ -51,8 +51,8 @@ pub enum Cause {
 /// clock, and the keeper.
 #[derive(Drop)]
 pub struct Service<K: Keeper> {
-    machine: Machine<Incremental>,
-    keeper: K,
+    pub(crate) machine: Machine<Incremental>,
+    pub(crate) keeper: K,
 }
 
 impl<K: Keeper> Model for Service<K> {
