@@ -1,4 +1,7 @@
 pub mod Answering
+pub mod BatchMarks
+pub mod BatchStops
+pub mod Batching
 pub mod Cutting
 pub mod Feeding
 pub mod Formed

@@ -4,3 +4,4 @@ pub mod Lines
 pub mod Pending
 pub mod Replies
 pub mod Stops
+pub mod Together

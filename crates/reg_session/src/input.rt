@@ -42,7 +42,7 @@ pub fn read_some<S: Source>(input: &mut S, buf: &mut [u8], taken: u64) -> Result
         × Rose (S.read_faults input.old) (S.read_faults input.new)) }
     ensures same { IfErr result (λ e. S.left input.new ≡ S.left input.old) }
 {
-    let room = (LIMIT - taken).min(PIECE as u64) as usize;
+    let room = (LIMIT - taken).min(buf.len() as u64) as usize;
     match input.read(&mut buf[..room]) {
         Ok(count) => Ok(count),
         Err(Failed) => Err(Stop::Input),
@@ -83,7 +83,11 @@ pub fn stop_flushed<K: Sink>(out: &mut K, why: Stop) -> Stop
 
 /// Ends a session that its input stops, and no line: it flushes, and gives the keeper back, of
 /// which each stop leaves the history that was answered.
-fn stop_at_input<J: Keeper, K: Sink>(service: Service<J>, out: &mut K, why: Stop) -> (Stop, J)
+pub(crate) fn stop_at_input<J: Keeper, K: Sink>(
+    service: Service<J>,
+    out: &mut K,
+    why: Stop,
+) -> (Stop, J)
     ensures same { K.written out.new ≡ K.written out.old }
     ensures why { FlushesFor why result.0 (K.written out.new) (K.flushed out.new)
         (K.write_faults out.old) (K.write_faults out.new) }
@@ -98,7 +102,7 @@ fn stop_at_input<J: Keeper, K: Sink>(service: Service<J>, out: &mut K, why: Stop
 }
 
 /// Answers the last line, which no LF ends, and flushes.
-fn finish<J: Keeper, K: Sink, C: Clock>(
+pub(crate) fn finish<J: Keeper, K: Sink, C: Clock>(
     alloc: Global,
     service: Service<J>,
     line: &PendingLine,

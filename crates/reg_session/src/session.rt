@@ -38,7 +38,7 @@ pub fn reply_line(alloc: Global, reply: &Reply) -> Result<Vec<u8>, AllocError>
     append_line(Vec::with_capacity(alloc, USUAL_ROOM)?, reply)
 }
 
-fn write_bytes<K: Sink>(out: &mut K, bytes: &[u8]) -> Result<(), Stop>
+pub(crate) fn write_bytes<K: Sink>(out: &mut K, bytes: &[u8]) -> Result<(), Stop>
     ensures written { OnOk result (K.written out.new ≡ append_known (K.written out.old) bytes.now) }
     ensures count { K.write_faults out.old ≤ K.write_faults out.new }
     ensures still { OnOk result (K.write_faults out.new ≡ K.write_faults out.old) }
