@@ -1,7 +1,7 @@
 -- What a run leaves for a crash, from what its parts leave.
-use Rattle.std.proofs.Common.{◌≡◌, ◌≤◌, ◌+◌, ◌-◌, ◌++◌, ◌∷◌, List, ℕ, zero, suc, Option, Some, None, Result, Ok, Err, [], refl, ap, sym, ◌∙◌, subst, arith, option_map, ◌⊎◌, inl, inr, length, length-append, take, append_assoc}
+use Rattle.std.proofs.Common.{◌≡◌, ◌≤◌, ◌+◌, ◌-◌, ◌++◌, ◌∷◌, List, ℕ, zero, suc, Option, Some, None, Result, Ok, Err, [], refl, ap, sym, ◌∙◌, subst, arith, option_map, ◌⊎◌, inl, inr, length, length-append, take, append-nil, append_assoc}
 use Rattle.std.specs.Prelude.{IfSome, Bool, true, false, ◌||◌, is_ok, nat_lt}
-use Rattle.std.proofs.lemmas.List.{take_all, take_at}
+use Rattle.std.proofs.lemmas.List.{length-take-le, take_all, take_at}
 use Rattle.std.proofs.Math.Seq.{take-append-add}
 use Rattle.reg_outside.specs.Disk.{Changes, Same, After, Leaves, Only}
 use Rattle.reg_terms.specs.declared.command.Stamped.{Stamped}
@@ -14,7 +14,7 @@ use Rattle.reg_keep.specs.JournalWords.{disk_of}
 use Rattle.reg_keep.specs.declared.journal.Journal.{Journal}
 use Rattle.reg_keep.specs.Stops.{Stop}
 use Rattle.reg_service.specs.Opening.{opens, at_last, FrontsReopen, judged_all}
-use Rattle.reg_service.specs.Kept.{IsBetween, IsOneMore}
+use Rattle.reg_service.specs.Kept.{IsBetween, IsFewMore, IsOneMore}
 use Rattle.reg_run.specs.Crash.{AsBefore, OpensWith, IsNear, IsSound, IsWhole, Survives, StaysAt, Begins, IsUntouched, DiskSurvives, seen}
 use Rattle.reg_run.proofs.Opened.{opens_by}
 
@@ -94,97 +94,96 @@ either_way (suc n) (suc m) = higher n m (either_way n m)
     higher n m (inl h) = inl (omega arith)
     higher n m (inr h) = inr (omega arith)
 
--- one command more at the most
-one_further : (more : List Stamped) (n m : ℕ) → n ≤ m → m ≤ n + 1 → m ≤ length more → (take m more ≡ take n more) ⊎ ((x : Stamped) × (take m more ≡ take n more ++ x ∷ []))
-one_further more zero zero le few in_it = inl refl
-one_further [] zero (suc m) le few in_it = absurd (omega arith)
-one_further (x ∷ more) zero (suc zero) le few in_it = inr (x, refl)
-one_further (x ∷ more) zero (suc (suc m)) le few in_it = absurd (omega arith)
-one_further more (suc n) zero le few in_it = absurd (omega arith)
-one_further [] (suc n) (suc m) le few in_it = absurd (omega arith)
-one_further (x ∷ more) (suc n) (suc m) le few in_it = behind (one_further more n m (omega arith) (omega arith) (omega arith))
+-- so many commands more at the most
+few_further : (most : ℕ) (more : List Stamped) (n m : ℕ) → n ≤ m → m ≤ n + most → m ≤ length more → (x : List Stamped) × (length x ≤ most) × (take m more ≡ take n more ++ x)
+few_further most more zero m le few in_it = (take m more, omega (arith, few, length-take-le m more in_it), refl)
+few_further most more (suc n) zero le few in_it = absurd (omega (arith, le))
+few_further most [] (suc n) (suc m) le few in_it = absurd (omega (arith, in_it))
+few_further most (x ∷ more) (suc n) (suc m) le few in_it =
+    let s = few_further most more n m (omega (arith, le)) (omega (arith, few)) (omega (arith, in_it)) in
+    (s.0, s.1, ap (λ (l : List Stamped). x ∷ l) s.2)
+
+near_of : (most : ℕ) (before more : List Stamped) (k n m : ℕ) → k ≤ n → n ≤ length more → k ≤ m → m ≤ length more → length more ≤ k + most → IsNear most (before ++ take n more) (before ++ take m more)
+near_of most before more k n m a b c d few = cases (either_way n m)
   where
-    behind : (take m more ≡ take n more) ⊎ ((y : Stamped) × (take m more ≡ take n more ++ y ∷ [])) → (x ∷ take m more ≡ x ∷ take n more) ⊎ ((y : Stamped) × (x ∷ take m more ≡ (x ∷ take n more) ++ y ∷ []))
-    behind (inl e) = inl (ap (λ (l : List Stamped). x ∷ l) e)
-    behind (inr p) = inr (p.0, ap (λ (l : List Stamped). x ∷ l) p.1)
+    cases : (n ≤ m) ⊎ (m ≤ n) → IsNear most (before ++ take n more) (before ++ take m more)
+    cases (inl le) =
+        let x = few_further most more n m le (omega (arith, a, d, few)) d in
+        (x.0, x.1, inr (ap (λ (l : List Stamped). before ++ l) x.2 ∙ sym (append_assoc before (take n more) x.0)))
+    cases (inr le) =
+        let x = few_further most more m n le (omega (arith, b, c, few)) b in
+        (x.0, x.1, inl (ap (λ (l : List Stamped). before ++ l) x.2 ∙ sym (append_assoc before (take m more) x.0)))
 
-near_of : (before more : List Stamped) (k n m : ℕ) → k ≤ n → n ≤ length more → k ≤ m → m ≤ length more → length more ≤ k + 1 → IsNear (before ++ take n more) (before ++ take m more)
-near_of before more k n m a b c d few = cases (either_way n m)
-  where
-    ahead : (take m more ≡ take n more) ⊎ ((x : Stamped) × (take m more ≡ take n more ++ x ∷ [])) → IsNear (before ++ take n more) (before ++ take m more)
-    ahead (inl e) = inl (ap (λ (l : List Stamped). before ++ l) e)
-    ahead (inr p) = inr (inr (p.0, ap (λ (l : List Stamped). before ++ l) p.1 ∙ sym (append_assoc before (take n more) (p.0 ∷ []))))
-
-    back : (take n more ≡ take m more) ⊎ ((x : Stamped) × (take n more ≡ take m more ++ x ∷ [])) → IsNear (before ++ take n more) (before ++ take m more)
-    back (inl e) = inl (ap (λ (l : List Stamped). before ++ l) (sym e))
-    back (inr p) = inr (inl (p.0, ap (λ (l : List Stamped). before ++ l) p.1 ∙ sym (append_assoc before (take m more) (p.0 ∷ []))))
-
-    cases : (n ≤ m) ⊎ (m ≤ n) → IsNear (before ++ take n more) (before ++ take m more)
-    cases (inl le) = ahead (one_further more n m le (omega arith) d)
-    cases (inr le) = back (one_further more m n le (omega arith) b)
-
--- a disk of which each image opens to one of two histories is sound for one of them
-sound_of : (before more : List Stamped) (k : ℕ) (held : Option (List ℕ)) (now : List ℕ → Type 0) → k ≤ length more → length more ≤ k + 1 → IfSome held now
-    → ((c : List ℕ) → now c → OpensWith before more k c) → (n : ℕ) × (k ≤ n) × (n ≤ length more) × IsSound held now (before ++ take n more)
-sound_of before more k None now least few read opens =
-    (k, omega arith, least, record { bytes = tt; near = λ c here. let o = opens c here in (before ++ take o.0 more, near_of before more k k o.0 (omega arith) least o.1 o.2 few, o.3) })
-sound_of before more k (Some file) now least few read opens =
+-- a disk of which each image opens to one of these histories is sound for one of them
+sound_of : (most : ℕ) (before more : List Stamped) (k : ℕ) (held : Option (List ℕ)) (now : List ℕ → Type 0) → k ≤ length more → length more ≤ k + most → IfSome held now
+    → ((c : List ℕ) → now c → OpensWith before more k c) → (n : ℕ) × (k ≤ n) × (n ≤ length more) × IsSound most held now (before ++ take n more)
+sound_of most before more k None now least few read opens =
+    (k, omega arith, least, record { bytes = tt; near = λ c here. let o = opens c here in (before ++ take o.0 more, near_of most before more k k o.0 (omega arith) least o.1 o.2 few, o.3) })
+sound_of most before more k (Some file) now least few read opens =
     let f = opens file read in
-    (f.0, f.1, f.2, record { bytes = f.3; near = λ c here. let o = opens c here in (before ++ take o.0 more, near_of before more k f.0 o.0 f.1 f.2 o.1 o.2 few, o.3) })
+    (f.0, f.1, f.2, record { bytes = f.3; near = λ c here. let o = opens c here in (before ++ take o.0 more, near_of most before more k f.0 o.0 f.1 f.2 o.1 o.2 few, o.3) })
 
-one_at_most : (answered after : List Stamped) → IsOneMore answered after → (length answered ≤ length after) × (length after ≤ length answered + 1)
-one_at_most answered after (inl e) = let same = ap (λ (l : List Stamped). length l) e in (omega (arith, same), omega (arith, same))
-one_at_most answered after (inr p) = let same = ap (λ (l : List Stamped). length l) p.1 ∙ length-append answered (p.0 ∷ []) in (omega (arith, same), omega (arith, same))
+few_at_most : (most : ℕ) (answered after : List Stamped) → IsFewMore most answered after → (length answered ≤ length after) × (length after ≤ length answered + most)
+few_at_most most answered after p = let same = ap (λ (l : List Stamped). length l) p.2 ∙ length-append answered p.0 in (omega (arith, same), omega (arith, same, p.1))
+
+-- nothing more, and one command more
+pub none_more : (most : ℕ) (history : List Stamped) → IsFewMore most history history
+none_more most history = ([], omega arith, sym (append-nil history))
+
+pub one_few : (answered after : List Stamped) → IsOneMore answered after → IsFewMore 1 answered after
+one_few answered after (inl e) = ([], omega arith, e ∙ sym (append-nil answered))
+one_few answered after (inr p) = (p.0 ∷ [], omega arith, p.1)
 
 pub no_shorter : (before after more : List Stamped) → after ≡ before ++ more → length before ≤ length after
 no_shorter before after more grown = let count = ap (λ (l : List Stamped). length l) grown ∙ length-append before more in omega (arith, count)
 
 -- what was answered, counted from the starting history
+pub front_of_few : (most : ℕ) (before answered after more : List Stamped) → after ≡ before ++ more → length before ≤ length answered → IsFewMore most answered after
+    → before ++ take (length answered - length before) more ≡ answered
+front_of_few most before answered after more grown first last =
+    sym (ap (λ (l : List Stamped). take (length answered) l) grown ∙ past_front before more (length answered) first)
+    ∙ (ap (λ (l : List Stamped). take (length answered) l) last.2 ∙ take_at answered last.0 (length answered) refl)
+
 pub answered_front : (before answered after more : List Stamped) → after ≡ before ++ more → length before ≤ length answered → IsOneMore answered after
     → before ++ take (length answered - length before) more ≡ answered
-answered_front before answered after more grown first last =
-    sym (ap (λ (l : List Stamped). take (length answered) l) grown ∙ past_front before more (length answered) first) ∙ front last
-  where
-    front : IsOneMore answered after → take (length answered) after ≡ answered
-    front (inl e) = ap (λ (l : List Stamped). take (length answered) l) e ∙ take_all (length answered) answered (omega arith)
-    front (inr p) = ap (λ (l : List Stamped). take (length answered) l) p.1 ∙ take_at answered (p.0 ∷ []) (length answered) refl
+answered_front before answered after more grown first last = front_of_few 1 before answered after more grown first (one_few answered after last)
 
 -- what is true of each image is true of the bytes
 each_some : {P Q : List ℕ → Type 0} (o : Option (List ℕ)) → IfSome o P → ((c : List ℕ) → P c → Q c) → IfSome o Q
 each_some None p each = tt
 each_some (Some c) p each = each c p
 
--- a disk that was opened, and then written by a service
-pub survives_kept : {D : Type 0} (g : Ghosts D) (before answered after more : List Stamped) (status : ℕ) (old mid new : D) → Changes g.moment g.may_leave g.left_since Same old mid
+-- a disk that was opened, and then written by a service, which answered all but so many commands at most
+pub survives_few : {D : Type 0} (g : Ghosts D) (most : ℕ) (before answered after more : List Stamped) (status : ℕ) (old mid new : D) → Changes g.moment g.may_leave g.left_since Same old mid
     → ((c : List ℕ) → g.left_since old (g.moment old) c → g.may_leave old c) → g.contents mid ≡ g.contents old → IfSome (g.contents new) (g.may_leave new)
-    → after ≡ before ++ more → length before ≤ length answered → IsOneMore answered after → (IsWhole status → answered ≡ after) → IfSome (g.contents mid) (λ file. StopsRun g before answered after mid new)
-    → IfSome (g.contents old) (λ file. Survives before more (length answered - length before) status (g.contents old) (g.may_leave old) (g.contents new) (g.may_leave new) (g.left_since new (g.moment old)))
-survives_kept {D = D} g before answered after more status old mid new same only held read grown first last whole stops =
+    → after ≡ before ++ more → length before ≤ length answered → IsFewMore most answered after → (IsWhole status → answered ≡ after) → IfSome (g.contents mid) (λ file. StopsRun g before answered after mid new)
+    → IfSome (g.contents old) (λ file. Survives most before more (length answered - length before) status (g.contents old) (g.may_leave old) (g.contents new) (g.may_leave new) (g.left_since new (g.moment old)))
+survives_few {D = D} g most before answered after more status old mid new same only held read grown first last whole stops =
     survives (g.contents old) (subst (λ (o : Option (List ℕ)). IfSome o (λ file. StopsRun g before answered after mid new)) held stops)
   where
     count : length after ≡ length before + length more
     count = ap (λ (l : List Stamped). length l) grown ∙ length-append before more
 
     run : StopsRun g before answered after mid new
-        → Survives before more (length answered - length before) status (g.contents old) (g.may_leave old) (g.contents new) (g.may_leave new) (g.left_since new (g.moment old))
+        → Survives most before more (length answered - length before) status (g.contents old) (g.may_leave old) (g.contents new) (g.may_leave new) (g.left_since new (g.moment old))
     run s = record {
-      few = (least, most);
+      few = (least, no_more);
       always = λ c left. either c (s.since (g.moment old) (payloads_in c) same.later (c, left, refl));
       now = now;
       bytes = each_some (g.contents new) read now;
       done = all;
       whole = λ is. each_some (g.contents new) read (all is);
-      sound = λ was. sound_of before more (length answered - length before) (g.contents new) (g.may_leave new) least most read now;
+      sound = λ m enough was. sound_of m before more (length answered - length before) (g.contents new) (g.may_leave new) least (omega (arith, no_more, enough)) read now;
     }
       where
-        few : (length answered ≤ length after) × (length after ≤ length answered + 1)
-        few = one_at_most answered after last
+        few : (length answered ≤ length after) × (length after ≤ length answered + most)
+        few = few_at_most most answered after last
 
         least : length answered - length before ≤ length more
         least = omega (arith, few.0, count)
 
-        most : length more ≤ length answered - length before + 1
-        most = omega (arith, few.1, count, first)
+        no_more : length more ≤ length answered - length before + most
+        no_more = omega (arith, few.1, count, first)
 
         since : (c : List ℕ) → OpensWith before more (length before - length before) c → OpensWith before more 0 c
         since c o = (o.0, omega arith, o.2, o.3)
@@ -204,21 +203,29 @@ survives_kept {D = D} g before answered after more status old mid new same only 
             o.3 ∙ ap (λ (l : List Stamped). Ok (at_last (before ++ l))) (take_all o.0 more (omega (arith, o.1, o.2, count, same_count)))
 
     survives : (o : Option (List ℕ)) → IfSome o (λ file. StopsRun g before answered after mid new)
-        → IfSome o (λ file. Survives before more (length answered - length before) status (g.contents old) (g.may_leave old) (g.contents new) (g.may_leave new) (g.left_since new (g.moment old)))
+        → IfSome o (λ file. Survives most before more (length answered - length before) status (g.contents old) (g.may_leave old) (g.contents new) (g.may_leave new) (g.left_since new (g.moment old)))
     survives None s = tt
     survives (Some file) s = run s
 
-none_few : {before : List Stamped} {k status : ℕ} {held left : Option (List ℕ)} {was images since : List ℕ → Type 0} → Survives before [] k status held was left images since → k ≡ 0
+-- the same where it answered all but one
+pub survives_kept : {D : Type 0} (g : Ghosts D) (before answered after more : List Stamped) (status : ℕ) (old mid new : D) → Changes g.moment g.may_leave g.left_since Same old mid
+    → ((c : List ℕ) → g.left_since old (g.moment old) c → g.may_leave old c) → g.contents mid ≡ g.contents old → IfSome (g.contents new) (g.may_leave new)
+    → after ≡ before ++ more → length before ≤ length answered → IsOneMore answered after → (IsWhole status → answered ≡ after) → IfSome (g.contents mid) (λ file. StopsRun g before answered after mid new)
+    → IfSome (g.contents old) (λ file. Survives 1 before more (length answered - length before) status (g.contents old) (g.may_leave old) (g.contents new) (g.may_leave new) (g.left_since new (g.moment old)))
+survives_kept g before answered after more status old mid new same only held read grown first last whole stops =
+    survives_few g 1 before answered after more status old mid new same only held read grown first (one_few answered after last) whole stops
+
+none_few : {before : List Stamped} {k status : ℕ} {held left : Option (List ℕ)} {was images since : List ℕ → Type 0} → Survives 1 before [] k status held was left images since → k ≡ 0
 none_few s = omega (arith, s.few.0)
 
 -- where nothing was accepted, nothing was answered
-pub survives_none : {D : Type 0} (g : Ghosts D) (before : List Stamped) (k status : ℕ) (old new : D) → DiskSurvives (seen g old new) before [] k status → DiskSurvives (seen g old new) before [] 0 status
+pub survives_none : {D : Type 0} (g : Ghosts D) (before : List Stamped) (k status : ℕ) (old new : D) → DiskSurvives 1 (seen g old new) before [] k status → DiskSurvives 1 (seen g old new) before [] 0 status
 survives_none {D = D} g before k status old new = none (g.contents old)
   where
-    none : (o : Option (List ℕ)) → IfSome o (λ file. Survives before [] k status (g.contents old) (g.may_leave old) (g.contents new) (g.may_leave new) (g.left_since new (g.moment old)))
-        → IfSome o (λ file. Survives before [] 0 status (g.contents old) (g.may_leave old) (g.contents new) (g.may_leave new) (g.left_since new (g.moment old)))
+    none : (o : Option (List ℕ)) → IfSome o (λ file. Survives 1 before [] k status (g.contents old) (g.may_leave old) (g.contents new) (g.may_leave new) (g.left_since new (g.moment old)))
+        → IfSome o (λ file. Survives 1 before [] 0 status (g.contents old) (g.may_leave old) (g.contents new) (g.may_leave new) (g.left_since new (g.moment old)))
     none None s = tt
-    none (Some file) s = subst (λ (n : ℕ). Survives before [] n status (g.contents old) (g.may_leave old) (g.contents new) (g.may_leave new) (g.left_since new (g.moment old))) (none_few s) s
+    none (Some file) s = subst (λ (n : ℕ). Survives 1 before [] n status (g.contents old) (g.may_leave old) (g.contents new) (g.may_leave new) (g.left_since new (g.moment old))) (none_few s) s
 
 -- a journal that was begun
 begun_image : (was : List ℕ → Type 0) (d c : List ℕ) → was d → Begun d c → was c ⊎ ((opens c ≡ Ok start) ⊎ ((at : ℕ) × (opens c ≡ Err at)))
@@ -258,7 +265,7 @@ stays : {D : Type 0} (g : Ghosts D) (history : List Stamped) (old new : D) → (
     → StaysAt history (g.contents old) (g.may_leave old) (g.contents new) (g.may_leave new) (g.left_since new (g.moment old))
 stays g history old new only same = record {
   always = λ c left. since_image (g.may_leave old) c (g.left_since old (g.moment old) c) (only c) (same.0.since (g.moment old) c (omega arith) left);
-  sound = λ s. record { bytes = rw same.1 s.bytes; near = λ c here. s.near c (same_image (g.may_leave old) (g.may_leave new) same.0.leaves c here) };
+  sound = λ m s. record { bytes = rw same.1 s.bytes; near = λ c here. s.near c (same_image (g.may_leave old) (g.may_leave new) same.0.leaves c here) };
 }
 
 pub begins : {D : Type 0} (g : Ghosts D) (status : ℕ) (old new : D) → Changes g.moment g.may_leave g.left_since Begun old new

@@ -20,12 +20,13 @@ use Rattle.reg_session.specs.Answered.{Point}
 use Rattle.reg_session.specs.Lines.{lines, IsCutAtLineFeeds}
 use Rattle.reg_session.specs.Replies.{IsLine, line_of}
 use Rattle.reg_session.specs.Input.{EndsInput, StopsInput, Takes}
+use Rattle.reg_session.specs.Together.{EndsBatch, EndsTogether, StopsTogether}
 use Rattle.reg_session.specs.declared.stop.Stop.{Stop}
 use Rattle.reg_session.specs.declared.stop.Stop.TheVariants as stop
 use Rattle.reg_run.specs.Status.{status_of}
 use Rattle.reg_run.specs.Crash.{Seen, DiskSurvives, IsWhole}
 use Rattle.reg_run.specs.Due.{Due, Told, ToldOnce, AnswersTo, due_of, end_of_due}
-use Rattle.reg_run.specs.Ends.{ApplyEnds, DidApply, AskEnds, TooMuchExactly, begins_at, end_of_stop}
+use Rattle.reg_run.specs.Ends.{ApplyEnds, DidAnswer, HowStopped, StoppedSo, AskEnds, TooMuchExactly, begins_at, end_of_stop}
 use Rattle.reg_run.specs.Once.{Printed, end_of_reply}
 use Rattle.reg_run.specs.KeepsUp.{DiskKeepsUp}
 use Rattle.reg_run.specs.World.{World, Out, IsFlushed, SameFaults, SameNet, marked_output, output}
@@ -33,16 +34,16 @@ use Rattle.reg_run.specs.declared.status.End.{End}
 use Rattle.reg_run.specs.declared.status.End.TheVariants as the_end
 
 -- answering the lines stopped
-pub apply_stopped : (s : Stop) (from : State) (taken : List ℕ) (before after : World) (more : List Stamped) (n : ℕ) (answered kept : List Stamped) → (s ≡ stop.Input → Rose before.reads after.reads)
+pub apply_stopped : (Stops : HowStopped) (s : Stop) (from : State) (taken : List ℕ) (before after : World) (more : List Stamped) (n : ℕ) (answered kept : List Stamped) → (s ≡ stop.Input → Rose before.reads after.reads)
     → (s ≡ stop.Output → Rose before.writes after.writes) → (s ≡ stop.Disk → Rose before.faults after.faults) → from.history ++ take n more ≡ answered → kept ≡ from.history ++ more
-    → EndsInput (begins_at before from) taken after.left after.written after.flushed (Rose before.writes after.writes) answered kept s → ApplyEnds (end_of_stop s) from taken before after more (from.history ++ take n more)
-apply_stopped s from taken before after more n answered kept input output disk front grown ends =
+    → Stops (begins_at before from) taken after.left after.written after.flushed (Rose before.writes after.writes) answered kept s → ApplyEnds Stops (end_of_stop s) from taken before after more (from.history ++ take n more)
+apply_stopped Stops s from taken before after more n answered kept input output disk front grown ends =
     cases s input output disk
-    (subst (λ (l : List Stamped). EndsInput (begins_at before from) taken after.left after.written after.flushed (Rose before.writes after.writes) (from.history ++ take n more) l s) grown
-    (subst (λ (l : List Stamped). EndsInput (begins_at before from) taken after.left after.written after.flushed (Rose before.writes after.writes) l kept s) (sym front) ends))
+    (subst (λ (l : List Stamped). Stops (begins_at before from) taken after.left after.written after.flushed (Rose before.writes after.writes) (from.history ++ take n more) l s) grown
+    (subst (λ (l : List Stamped). Stops (begins_at before from) taken after.left after.written after.flushed (Rose before.writes after.writes) l kept s) (sym front) ends))
   where
     cases : (s : Stop) → (s ≡ stop.Input → Rose before.reads after.reads) → (s ≡ stop.Output → Rose before.writes after.writes) → (s ≡ stop.Disk → Rose before.faults after.faults)
-        → EndsInput (begins_at before from) taken after.left after.written after.flushed (Rose before.writes after.writes) (from.history ++ take n more) (from.history ++ more) s → ApplyEnds (end_of_stop s) from taken before after more (from.history ++ take n more)
+        → StoppedSo Stops from taken before after more (from.history ++ take n more) s → ApplyEnds Stops (end_of_stop s) from taken before after more (from.history ++ take n more)
     cases stop.Memory input output disk e = e
     cases stop.Disk input output disk e = (disk refl, e)
     cases stop.Input input output disk e = (input refl, e)
@@ -138,6 +139,36 @@ pub whole_stop : {K : Type 0} (g : Ghosts K) (p : Point) (old : K) (left now w :
     → IsWhole (status_of (end_of_stop why)) → s.halted.answered ≡ s.halted.after
 whole_stop g p old left now w f failed why keeper s = stop_whole why p s.taken now w f failed s.halted.answered s.halted.after s.ends
 
+-- the same of lines that were answered together
+batch_whole : (s : Stop) (mid : Point) (batch : List (List ℕ)) (w : Option (List ℕ)) (failed : Type 0) (answered after : List Stamped) → EndsBatch mid batch w failed answered after s → IsWhole (status_of (end_of_stop s))
+    → answered ≡ after
+batch_whole stop.Memory mid batch w failed answered after e is = absurd (three is)
+batch_whole stop.Disk mid batch w failed answered after e is = absurd (four is)
+batch_whole stop.Input mid batch w failed answered after e is = elim e [ ]
+batch_whole stop.Output mid batch w failed answered after e is = absurd (six is)
+batch_whole stop.TooMuch mid batch w failed answered after e is = elim e [ ]
+
+together_whole : (most : ℕ) (s : Stop) (p : Point) (taken : List ℕ) (left w : Option (List ℕ)) (f : Option ℕ) (failed : Type 0) (answered after : List Stamped) → EndsTogether most p taken left w f failed answered after s
+    → IsWhole (status_of (end_of_stop s)) → answered ≡ after
+together_whole most s p taken left w f failed answered after (inl e) is = stop_whole s p taken left w f failed answered after e is
+together_whole most s p taken left w f failed answered after (inr b) is = batch_whole s b.mid b.batch w failed answered after b.ends is
+
+pub whole_together : {K : Type 0} (most : ℕ) (g : Ghosts K) (p : Point) (old : K) (left now w : Option (List ℕ)) (f : Option ℕ) (failed : Type 0) (why : Stop) (keeper : K)
+    → (s : StopsTogether most g p old left now w f failed why keeper) → IsWhole (status_of (end_of_stop why)) → s.halted.answered ≡ s.halted.after
+whole_together most g p old left now w f failed why keeper s = together_whole most why p s.taken now w f failed s.halted.answered s.halted.after s.ends
+
+-- where there was too much input, as much was taken
+abbrev pub TakesMost : HowStopped → Type 1
+TakesMost Stops =
+    (p : Point) (taken : List ℕ) (left w : Option (List ℕ)) (f : Option ℕ) (failed : Type 0) (answered after : List Stamped) → Stops p taken left w f failed answered after stop.TooMuch → length taken ≡ 2 ^ 32
+
+pub input_takes : TakesMost EndsInput
+input_takes p taken left w f failed answered after e = e.2
+
+pub together_takes : (most : ℕ) → TakesMost (EndsTogether most)
+together_takes most p taken left w f failed answered after (inl e) = e.2
+together_takes most p taken left w f failed answered after (inr b) = elim b.ends [ ]
+
 -- an input that ended with fewer bytes had no more
 all_given : (Q : Type 0) (left now : Option (List ℕ)) (taken : List ℕ) → left ≡ prepend_known taken now → IsAtEnd now → length taken < 2 ^ 32 → IfSome left (λ bytes. 2 ^ 32 ≤ length bytes → Q)
 all_given Q left None taken is ended few = rw is tt
@@ -156,50 +187,51 @@ stop_too_much stop.Output is = absurd (cc)
 stop_too_much stop.TooMuch is = refl
 
 -- where too much was taken
-too_much_of : (end : End) (from : State) (taken : List ℕ) (before after : World) (accepted answered : List Stamped) → Takes before.left taken after.left → (end ≡ the_end.TooMuch → SameFaults before after)
-    → ApplyEnds end from taken before after accepted answered → TooMuchExactly end taken before after
-too_much_of the_end.Done from taken before after accepted answered input same e = record {
+too_much_of : (Stops : HowStopped) → TakesMost Stops → (end : End) (from : State) (taken : List ℕ) (before after : World) (accepted answered : List Stamped) → Takes before.left taken after.left → (end ≡ the_end.TooMuch → SameFaults before after)
+    → ApplyEnds Stops end from taken before after accepted answered → TooMuchExactly end taken before after
+too_much_of Stops takes the_end.Done from taken before after accepted answered input same e = record {
   only = λ is. absurd (cc);
   where_taken = λ none is. absurd (omega (arith, e.few, is));
   where_given = λ none. all_given _ before.left after.left taken input e.ended e.few;
 }
-too_much_of the_end.Usage from taken before after accepted answered input same e = elim e [ ]
-too_much_of the_end.Memory from taken before after accepted answered input same e = record {
+too_much_of Stops takes the_end.Usage from taken before after accepted answered input same e = elim e [ ]
+too_much_of Stops takes the_end.Memory from taken before after accepted answered input same e = record {
   only = λ is. absurd (cc);
   where_taken = λ none is. inr refl;
   where_given = λ none. any_given before.left (λ bytes many. inr refl);
 }
-too_much_of the_end.Disk from taken before after accepted answered input same e = record {
+too_much_of Stops takes the_end.Disk from taken before after accepted answered input same e = record {
   only = λ is. absurd (cc);
   where_taken = λ none is. absurd (none.disk e.0);
   where_given = λ none. absurd (none.disk e.0);
 }
-too_much_of the_end.Input from taken before after accepted answered input same e = record {
+too_much_of Stops takes the_end.Input from taken before after accepted answered input same e = record {
   only = λ is. absurd (cc);
   where_taken = λ none is. absurd (none.input e.0);
   where_given = λ none. absurd (none.input e.0);
 }
-too_much_of the_end.Output from taken before after accepted answered input same e = record {
+too_much_of Stops takes the_end.Output from taken before after accepted answered input same e = record {
   only = λ is. absurd (cc);
   where_taken = λ none is. absurd (none.output e.0);
   where_given = λ none. absurd (none.output e.0);
 }
-too_much_of (the_end.Damaged at) from taken before after accepted answered input same e = elim e [ ]
-too_much_of the_end.Listener from taken before after accepted answered input same e = elim e [ ]
-too_much_of the_end.TooMuch from taken before after accepted answered input same e = record {
-  only = λ is. (e.2, same is);
+too_much_of Stops takes (the_end.Damaged at) from taken before after accepted answered input same e = elim e [ ]
+too_much_of Stops takes the_end.Listener from taken before after accepted answered input same e = elim e [ ]
+too_much_of Stops takes the_end.TooMuch from taken before after accepted answered input same e = record {
+  only = λ is. (takes _ taken _ _ _ _ _ _ e, same is);
   where_taken = λ none is. inl refl;
   where_given = λ none. any_given before.left (λ bytes many. inl refl);
 }
-too_much_of the_end.Exists from taken before after accepted answered input same e = elim e [ ]
-too_much_of the_end.Refused from taken before after accepted answered input same e = elim e [ ]
-too_much_of the_end.OtherFormat from taken before after accepted answered input same e = elim e [ ]
+too_much_of Stops takes the_end.Exists from taken before after accepted answered input same e = elim e [ ]
+too_much_of Stops takes the_end.Refused from taken before after accepted answered input same e = elim e [ ]
+too_much_of Stops takes the_end.OtherFormat from taken before after accepted answered input same e = elim e [ ]
 
--- what `apply` did, from how it ended and what it left
-pub did_apply : (d : Seen) (end : End) (before after : World) (from : State) (taken : List ℕ) → Takes before.left taken after.left → length taken ≤ 2 ^ 32 → IsCutAtLineFeeds (lines taken) taken
-    → (accepted : List Stamped) (answered : ℕ) → SameNet before after → (end ≡ the_end.TooMuch → SameFaults before after) → ApplyEnds end from taken before after accepted (from.history ++ take answered accepted) → DiskSurvives d from.history accepted answered (status_of end)
-    → DiskKeepsUp d (from.history ++ accepted) IsLine (marked_output before) (marked_output after) → DidApply d end before after from
-did_apply d end before after from taken input few cut accepted answered net same ends disk keeps_up = record {
+-- what answering lines did, from how it ended and what it left
+pub did_answer : (most : ℕ) (Stops : HowStopped) → TakesMost Stops → (d : Seen) (end : End) (before after : World) (from : State) (taken : List ℕ) → Takes before.left taken after.left → length taken ≤ 2 ^ 32
+    → IsCutAtLineFeeds (lines taken) taken → (accepted : List Stamped) (answered : ℕ) → SameNet before after → (end ≡ the_end.TooMuch → SameFaults before after)
+    → ApplyEnds Stops end from taken before after accepted (from.history ++ take answered accepted) → DiskSurvives most d from.history accepted answered (status_of end)
+    → DiskKeepsUp d (from.history ++ accepted) IsLine (marked_output before) (marked_output after) → DidAnswer most Stops d end before after from
+did_answer most Stops takes d end before after from taken input few cut accepted answered net same ends disk keeps_up = record {
   taken = taken;
   input = input;
   few = few;
@@ -207,7 +239,7 @@ did_apply d end before after from taken input few cut accepted answered net same
   accepted = accepted;
   answered = answered;
   ends = ends;
-  too_much = too_much_of end from taken before after accepted (from.history ++ take answered accepted) input same ends;
+  too_much = too_much_of Stops takes end from taken before after accepted (from.history ++ take answered accepted) input same ends;
   net = net;
   disk = disk;
   keeps_up = keeps_up;

@@ -11,7 +11,7 @@ use Rattle.reg_keep.specs.Frames.{opened, payloads_in}
 use Rattle.reg_keep.specs.Keeping.{kept_in}
 use Rattle.reg_keep.specs.Stops.{Stop}
 use Rattle.reg_keep.specs.declared.keeper.Keeper as keeper
-use Rattle.reg_service.specs.Kept.{Halted, Stopped}
+use Rattle.reg_service.specs.Kept.{Halted, HaltedBy, Stopped}
 use Rattle.reg_service.specs.Marks.{AreMarked, AtEach, IsMarked, KeepsUpInPart, LeavesAtLeast, Output, Writing}
 use Rattle.reg_service.specs.Opening.{FrontsReopen}
 use Rattle.reg_run.specs.Crash.{seen}
@@ -86,12 +86,15 @@ sure_fronts None history again = tt
 sure_fronts (Some ps) history again = again
 
 -- and where it stopped
+stopped_fronts : {K : Type 0} (j : keeper.Ghosts K) (told : Option (List (List ℕ))) (answered after : List Stamped) (k : K) → IfSome told (λ ps. Stopped j answered after k) → IfSome told (λ ps. FrontsReopen after)
+stopped_fronts j None answered after k s = tt
+stopped_fronts j (Some ps) answered after k s = s.0
+
 pub halted_fronts : {K : Type 0} (j : keeper.Ghosts K) (before : List Stamped) (old k : K) (h : Halted j before old k) → IfSome (j.payloads old) (λ ps. FrontsReopen h.after)
-halted_fronts j before old k h = fronts (j.payloads old) h.stopped
-  where
-    fronts : (told : Option (List (List ℕ))) → IfSome told (λ ps. Stopped j h.answered h.after k) → IfSome told (λ ps. FrontsReopen h.after)
-    fronts None s = tt
-    fronts (Some ps) s = s.0
+halted_fronts j before old k h = stopped_fronts j (j.payloads old) h.answered h.after k h.stopped
+
+pub halted_by_fronts : {K : Type 0} (most : ℕ) (j : keeper.Ghosts K) (before : List Stamped) (old k : K) (h : HaltedBy most j before old k) → IfSome (j.payloads old) (λ ps. FrontsReopen h.after)
+halted_by_fronts most j before old k h = stopped_fronts j (j.payloads old) h.answered h.after k h.stopped
 
 -- what was printed is a front of it
 pub printed_front : (good : End) (bytes : List ℕ) (end : End) (old new : Out) → Printed good bytes end old new → WritesFront old.written new.written bytes

@@ -137,11 +137,11 @@ still_same g old mid new first second = record {
 
 -- what a run left stays so
 pub survives_reread : {D : Type 0} (g : Ghosts D) (before accepted : List Stamped) (answered status : ℕ) (old mid new : D) → g.moment old ≤ g.moment mid → Changes g.moment g.may_leave g.left_since Same mid new → g.contents new ≡ g.contents mid
-    → DiskSurvives (seen g old mid) before accepted answered status → DiskSurvives (seen g old new) before accepted answered status
+    → DiskSurvives 1 (seen g old mid) before accepted answered status → DiskSurvives 1 (seen g old new) before accepted answered status
 survives_reread {D = D} g before accepted answered status old mid new later same held = survives (g.contents old)
   where
-    run : Survives before accepted answered status (g.contents old) (g.may_leave old) (g.contents mid) (g.may_leave mid) (g.left_since mid (g.moment old))
-        → Survives before accepted answered status (g.contents old) (g.may_leave old) (g.contents new) (g.may_leave new) (g.left_since new (g.moment old))
+    run : Survives 1 before accepted answered status (g.contents old) (g.may_leave old) (g.contents mid) (g.may_leave mid) (g.left_since mid (g.moment old))
+        → Survives 1 before accepted answered status (g.contents old) (g.may_leave old) (g.contents new) (g.may_leave new) (g.left_since new (g.moment old))
     run s = record {
       few = s.few;
       always = λ c left. either c (same.since (g.moment old) c later left);
@@ -149,7 +149,7 @@ survives_reread {D = D} g before accepted answered status old mid new later same
       bytes = subst (λ (o : Option (List ℕ)). IfSome o (OpensWith before accepted answered)) (sym held) s.bytes;
       done = λ is c here. s.done is c (image c here);
       whole = λ is. subst (λ (o : Option (List ℕ)). IfSome o (λ file. opens file ≡ Ok (at_last (before ++ accepted)))) (sym held) (s.whole is);
-      sound = λ was. sound (s.sound was);
+      sound = λ m enough was. sound m (s.sound m enough was);
     }
       where
         image : (c : List ℕ) → g.may_leave new c → g.may_leave mid c
@@ -162,11 +162,11 @@ survives_reread {D = D} g before accepted answered status old mid new later same
         either c (inl left) = s.always c left
         either c (inr past) = inr (none_less c (s.now c (same_after (g.may_leave mid) c past)))
 
-        sound : (n : ℕ) × (answered ≤ n) × (n ≤ length accepted) × IsSound (g.contents mid) (g.may_leave mid) (before ++ take n accepted)
-            → (n : ℕ) × (answered ≤ n) × (n ≤ length accepted) × IsSound (g.contents new) (g.may_leave new) (before ++ take n accepted)
-        sound (n, least, most, is) = (n, least, most, record { bytes = subst (λ (o : Option (List ℕ)). IfSome o (λ file. opens file ≡ Ok (at_last (before ++ take n accepted)))) (sym held) is.bytes; near = λ c here. is.near c (image c here) })
+        sound : (m : ℕ) → (n : ℕ) × (answered ≤ n) × (n ≤ length accepted) × IsSound m (g.contents mid) (g.may_leave mid) (before ++ take n accepted)
+            → (n : ℕ) × (answered ≤ n) × (n ≤ length accepted) × IsSound m (g.contents new) (g.may_leave new) (before ++ take n accepted)
+        sound m (n, least, most, is) = (n, least, most, record { bytes = subst (λ (o : Option (List ℕ)). IfSome o (λ file. opens file ≡ Ok (at_last (before ++ take n accepted)))) (sym held) is.bytes; near = λ c here. is.near c (image c here) })
 
-    survives : (o : Option (List ℕ)) → IfSome o (λ file. Survives before accepted answered status (g.contents old) (g.may_leave old) (g.contents mid) (g.may_leave mid) (g.left_since mid (g.moment old)))
-        → IfSome o (λ file. Survives before accepted answered status (g.contents old) (g.may_leave old) (g.contents new) (g.may_leave new) (g.left_since new (g.moment old)))
+    survives : (o : Option (List ℕ)) → IfSome o (λ file. Survives 1 before accepted answered status (g.contents old) (g.may_leave old) (g.contents mid) (g.may_leave mid) (g.left_since mid (g.moment old)))
+        → IfSome o (λ file. Survives 1 before accepted answered status (g.contents old) (g.may_leave old) (g.contents new) (g.may_leave new) (g.left_since new (g.moment old)))
     survives None s = tt
     survives (Some file) s = run s

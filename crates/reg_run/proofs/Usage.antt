@@ -97,6 +97,8 @@ task_is_use : (d : Seen) (t : Task) (before after : World) → Did d t the_end.U
 task_is_use d task.Init before after did = did.ends
 task_is_use d task.Apply before after (inl not) = not.cause
 task_is_use d task.Apply before after (inr p) = p.2.ends
+task_is_use d (task.Together most) before after (inl not) = not.cause
+task_is_use d (task.Together most) before after (inr p) = p.2.ends
 task_is_use d (task.Serve port connections) before after (inl not) = not.cause
 task_is_use d (task.Serve port connections) before after (inr p) = p.2.ends
 task_is_use d task.Check before after (inl not) = not.cause

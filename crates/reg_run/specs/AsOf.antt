@@ -108,4 +108,4 @@ pub record DidAsOf (d : Seen) (Asks : State → End → In → In → Out → Ou
   pub clock : LookedOnce before after
   pub net : SameNet before after
   pub same : IsUntouched d
-  pub disk : DiskSurvives d from.history [] 0 (status_of end)
+  pub disk : DiskSurvives 1 d from.history [] 0 (status_of end)

@@ -1,5 +1,5 @@
 -- What a crash leaves of the disk: at any moment of a run, and after it.
-use Rattle.std.specs.Prelude.{◌≡◌, ◌⊎◌, ◌≤◌, ◌+◌, ℕ, List, [], ◌∷◌, ◌++◌, length, take, Option}
+use Rattle.std.specs.Prelude.{◌≡◌, ◌⊎◌, ◌≤◌, ◌+◌, ℕ, List, ◌++◌, length, take, Option}
 use Rattle.std.specs.Prelude.{Result, Ok, Err, IfSome, true}
 use Rattle.reg_terms.specs.declared.command.Stamped.{Stamped}
 use Rattle.reg_machine.specs.History.{State, start}
@@ -23,19 +23,19 @@ OpensWith before accepted least file =
     (n : ℕ) × (least ≤ n) × (n ≤ length accepted)
     × (opens file ≡ Ok (at_last (before ++ take n accepted)))
 
--- the other is this history, or lacks its last command, or has one command more
-abbrev pub IsNear : List Stamped → List Stamped → Type 0
-IsNear history other =
-    (other ≡ history) ⊎ (((last : Stamped) × (history ≡ other ++ last ∷ []))
-    ⊎ ((one : Stamped) × (other ≡ history ++ one ∷ [])))
+-- the other lacks the last commands of this history, or has commands more: so many of them at most
+abbrev pub IsNear : ℕ → List Stamped → List Stamped → Type 0
+IsNear most history other =
+    (more : List Stamped) × (length more ≤ most)
+    × ((history ≡ other ++ more) ⊎ (other ≡ history ++ more))
 
--- A disk is sound for a history: its bytes open to it, and each image to it, to it without its last
--- command or with one command more.
-pub record IsSound (held : Option (List ℕ)) (images : List ℕ → Type 0)
+-- A disk is sound for a history, but for so many commands: its bytes open to it, and each image to
+-- it, to it without its last commands or with commands more, of these so many at most.
+pub record IsSound (most : ℕ) (held : Option (List ℕ)) (images : List ℕ → Type 0)
     (history : List Stamped) : Type 0 where
   pub bytes : IfSome held (λ file. opens file ≡ Ok (at_last history))
   pub near : (c : List ℕ) → images c
-      → (other : List Stamped) × IsNear history other × (opens c ≡ Ok (at_last other))
+      → (other : List Stamped) × IsNear most history other × (opens c ≡ Ok (at_last other))
 
 -- a run ended at its input's end, or where that or the listener failed or there was too much input:
 -- at status 0, 5, 8 or 9
@@ -43,11 +43,12 @@ abbrev pub IsWhole : ℕ → Type 0
 IsWhole status = (status ≡ 0) ⊎ ((status ≡ 5) ⊎ ((status ≡ 8) ⊎ (status ≡ 9)))
 
 -- What a run leaves that began at a history, accepted these commands after it, and answered all of
--- them but perhaps the last. Its disk held these bytes and might leave these images before, and
--- does those now.
-pub record Survives (before accepted : List Stamped) (answered status : ℕ) (held : Option (List ℕ))
-    (was : List ℕ → Type 0) (left : Option (List ℕ)) (images since : List ℕ → Type 0) : Type 0 where
-  pub few : (answered ≤ length accepted) × (length accepted ≤ answered + 1)
+-- them but perhaps the last ones, so many at most. Its disk held these bytes and might leave these
+-- images before, and does those now.
+pub record Survives (most : ℕ) (before accepted : List Stamped) (answered status : ℕ)
+    (held : Option (List ℕ)) (was : List ℕ → Type 0) (left : Option (List ℕ))
+    (images since : List ℕ → Type 0) : Type 0 where
+  pub few : (answered ≤ length accepted) × (length accepted ≤ answered + most)
   -- at any moment since the start a crash leaves what it might have left before, or a front of the
   -- accepted commands
   pub always : (c : List ℕ) → since c → AsBefore was c ⊎ OpensWith before accepted 0 c
@@ -59,17 +60,17 @@ pub record Survives (before accepted : List Stamped) (answered status : ℕ) (he
   pub done : IsWhole status → (c : List ℕ) → images c → opens c ≡ Ok (at_last (before ++ accepted))
   -- and so do the bytes
   pub whole : IsWhole status → IfSome left (λ file. opens file ≡ Ok (at_last (before ++ accepted)))
-  -- a sound disk stays sound
-  pub sound : IsSound held was before
+  -- a sound disk stays sound, but for as many commands or more
+  pub sound : (m : ℕ) → most ≤ m → IsSound m held was before
       → (n : ℕ) × (answered ≤ n) × (n ≤ length accepted)
-      × IsSound left images (before ++ take n accepted)
+      × IsSound m left images (before ++ take n accepted)
 
 -- Of a disk whose file opens to this history: each image since the start is one from before, and
 -- where the disk was sound for the history, it is sound for it again.
 pub record StaysAt (history : List Stamped) (held : Option (List ℕ)) (was : List ℕ → Type 0)
     (left : Option (List ℕ)) (images since : List ℕ → Type 0) : Type 0 where
   pub always : (c : List ℕ) → since c → was c
-  pub sound : IsSound held was history → IsSound left images history
+  pub sound : (m : ℕ) → IsSound m held was history → IsSound m left images history
 
 -- Each image since the start is one from before, or opens to the empty history, or is damaged. At
 -- status 0 each image now opens to the empty history. At every status `StaysAt` holds of the
@@ -110,11 +111,12 @@ abbrev pub IsUntouched : Seen → Type 0
 IsUntouched d = (d.left ≡ d.held) × ((c : List ℕ) → d.since c → d.was c)
 
 -- what a run leaves of a disk that opened to a history, with these commands accepted and so many of
--- them answered
-abbrev pub DiskSurvives : Seen → List Stamped → List Stamped → (answered status : ℕ) → Type 0
-DiskSurvives d before accepted answered status =
-    IfSome d.held (λ file. Survives before accepted answered status d.held d.was d.left d.images
-    d.since)
+-- them answered, all but the last ones
+abbrev pub DiskSurvives : (most : ℕ) → Seen → List Stamped → List Stamped → (answered status : ℕ)
+    → Type 0
+DiskSurvives most d before accepted answered status =
+    IfSome d.held (λ file. Survives most before accepted answered status d.held d.was d.left
+    d.images d.since)
 
 -- what beginning a journal leaves of a disk; over a file that is taken nothing is written
 pub record DiskBegins (d : Seen) (status : ℕ) : Type 0 where

@@ -40,7 +40,7 @@ pub record FindsFrom (d : Seen) (text : List ℕ) (held : Option (List ℕ)) (fa
   pub finds : FindsAt (moment_asked text (max from.clock now)) from held faults later found
   pub clock : left ≡ option_map later_moments moments
   pub same : IsUntouched d
-  pub disk : (status : ℕ) → DiskSurvives d from.history [] 0 status
+  pub disk : (status : ℕ) → DiskSurvives 1 d from.history [] 0 status
 
 -- the file wasn't opened, and the clock not looked at
 abbrev pub IsUnopened : Seen → Option (List ℕ) → (faults later : ℕ) → (moments left : Option (List ℕ))

@@ -17,6 +17,7 @@ use Rattle.reg_session.specs.Lines.{lines, IsCutAtLineFeeds}
 use Rattle.reg_session.specs.Replies.{IsLine, line_of}
 use Rattle.reg_session.specs.Answered.{Point, Accepted}
 use Rattle.reg_session.specs.Input.{Takes, EndsInput}
+use Rattle.reg_session.specs.Together.{EndsTogether}
 use Rattle.reg_session.specs.declared.stop.Stop.{Stop}
 use Rattle.reg_session.specs.declared.stop.Stop.TheVariants as stop
 use Rattle.reg_run.specs.Crash.{Seen, seen, OpensTo, IsUntouched, DiskSurvives, DiskBegins}
@@ -117,35 +118,45 @@ pub record AppliedAll (from : State) (taken : List ℕ) (before after : World)
   pub opens : OpensTo after.held (Ok (at_last to.state.history))
   pub still : SameFaults before after
 
+-- How a session over an input may stop: from a point on, over the bytes that were taken, with what
+-- is left of the input, the bytes that were written and how many of them were flushed, whether the
+-- output failed, the histories that were answered and that may be kept, and why.
+abbrev pub HowStopped : Type 1
+HowStopped =
+    Point → List ℕ → (left written : Option (List ℕ)) → (flushed : Option ℕ) → (failed : Type 0)
+    → (answered after : List Stamped) → Stop → Type 0
+
+-- the session of a run stopped so
+abbrev pub StoppedSo : HowStopped → State → List ℕ → World → World → (accepted : List Stamped)
+    → (answered : List Stamped) → Stop → Type 0
+StoppedSo Stops from taken before after accepted answered why =
+    Stops (begins_at before from) taken after.left after.written after.flushed (Rose before.writes
+    after.writes) answered (from.history ++ accepted) why
+
 -- How `apply` ends, over the bytes that it took: with its cause, and what was answered and kept.
-abbrev pub ApplyEnds : End → State → List ℕ → World → World → (accepted : List Stamped)
-    → (answered : List Stamped) → Type 0
-ApplyEnds the_end.Done from taken before after accepted answered =
+abbrev pub ApplyEnds : HowStopped → End → State → List ℕ → World → World
+    → (accepted : List Stamped) → (answered : List Stamped) → Type 0
+ApplyEnds Stops the_end.Done from taken before after accepted answered =
     AppliedAll from taken before after accepted
-ApplyEnds the_end.Usage from taken before after accepted answered = ⊥
-ApplyEnds the_end.Memory from taken before after accepted answered =
-    EndsInput (begins_at before from) taken after.left after.written after.flushed
-    (Rose before.writes after.writes) answered (from.history ++ accepted) stop.Memory
-ApplyEnds the_end.Disk from taken before after accepted answered =
+ApplyEnds Stops the_end.Usage from taken before after accepted answered = ⊥
+ApplyEnds Stops the_end.Memory from taken before after accepted answered =
+    StoppedSo Stops from taken before after accepted answered stop.Memory
+ApplyEnds Stops the_end.Disk from taken before after accepted answered =
     Rose before.faults after.faults
-    × EndsInput (begins_at before from) taken after.left after.written after.flushed
-    (Rose before.writes after.writes) answered (from.history ++ accepted) stop.Disk
-ApplyEnds the_end.Input from taken before after accepted answered =
+    × StoppedSo Stops from taken before after accepted answered stop.Disk
+ApplyEnds Stops the_end.Input from taken before after accepted answered =
     Rose before.reads after.reads
-    × EndsInput (begins_at before from) taken after.left after.written after.flushed
-    (Rose before.writes after.writes) answered (from.history ++ accepted) stop.Input
-ApplyEnds the_end.Output from taken before after accepted answered =
+    × StoppedSo Stops from taken before after accepted answered stop.Input
+ApplyEnds Stops the_end.Output from taken before after accepted answered =
     Rose before.writes after.writes
-    × EndsInput (begins_at before from) taken after.left after.written after.flushed
-    (Rose before.writes after.writes) answered (from.history ++ accepted) stop.Output
-ApplyEnds (the_end.Damaged at) from taken before after accepted answered = ⊥
-ApplyEnds the_end.Listener from taken before after accepted answered = ⊥
-ApplyEnds the_end.TooMuch from taken before after accepted answered =
-    EndsInput (begins_at before from) taken after.left after.written after.flushed
-    (Rose before.writes after.writes) answered (from.history ++ accepted) stop.TooMuch
-ApplyEnds the_end.Exists from taken before after accepted answered = ⊥
-ApplyEnds the_end.Refused from taken before after accepted answered = ⊥
-ApplyEnds the_end.OtherFormat from taken before after accepted answered = ⊥
+    × StoppedSo Stops from taken before after accepted answered stop.Output
+ApplyEnds Stops (the_end.Damaged at) from taken before after accepted answered = ⊥
+ApplyEnds Stops the_end.Listener from taken before after accepted answered = ⊥
+ApplyEnds Stops the_end.TooMuch from taken before after accepted answered =
+    StoppedSo Stops from taken before after accepted answered stop.TooMuch
+ApplyEnds Stops the_end.Exists from taken before after accepted answered = ⊥
+ApplyEnds Stops the_end.Refused from taken before after accepted answered = ⊥
+ApplyEnds Stops the_end.OtherFormat from taken before after accepted answered = ⊥
 
 -- no call of the input, of the output and of the disk was counted as a fault
 pub record NoFault (before after : World) : Type 0 where
@@ -164,22 +175,34 @@ pub record TooMuchExactly (end : End) (taken : List ℕ) (before after : World) 
       → IfSome before.left (λ bytes. 2 ^ 32 ≤ length bytes
       → (end ≡ the_end.TooMuch) ⊎ (end ≡ the_end.Memory))
 
--- `apply` from the state that the file opened to: the bytes that were taken, cut at each LF, the
--- commands that were accepted and how many of them were answered, how it ended, what it leaves of
--- the disk, and that each line of reply came behind what the disk has.
-pub record DidApply (d : Seen) (end : End) (before after : World) (from : State) : Type 0 where
+-- Lines of the input were answered from the state that the file opened to, in a session that stops
+-- in one of these ways: the bytes that were taken, cut at each LF, the commands that were accepted,
+-- of which all but so many at most were answered, how it ended, what it leaves of the disk, and
+-- that each line of reply came behind what the disk has.
+pub record DidAnswer (most : ℕ) (Stops : HowStopped) (d : Seen) (end : End) (before after : World)
+    (from : State) : Type 0 where
   pub taken : List ℕ
   pub input : Takes before.left taken after.left
   pub few : length taken ≤ 2 ^ 32
   pub cut : IsCutAtLineFeeds (lines taken) taken
   pub accepted : List Stamped
   pub answered : ℕ
-  pub ends : ApplyEnds end from taken before after accepted (from.history ++ take answered accepted)
+  pub ends : ApplyEnds Stops end from taken before after accepted (from.history
+      ++ take answered accepted)
   pub too_much : TooMuchExactly end taken before after
   pub net : SameNet before after
-  pub disk : DiskSurvives d from.history accepted answered (status_of end)
+  pub disk : DiskSurvives most d from.history accepted answered (status_of end)
   pub keeps_up : DiskKeepsUp d (from.history ++ accepted) IsLine (marked_output before)
       (marked_output after)
+
+-- `apply`: each line was answered by itself
+abbrev pub DidApply : Seen → End → World → World → State → Type 0
+DidApply d end before after from = DidAnswer 1 EndsInput d end before after from
+
+-- `apply --together`: of the lines that were read already up to so many were answered together
+abbrev pub DidTogether : ℕ → Seen → End → World → World → State → Type 0
+DidTogether most d end before after from =
+    DidAnswer most (EndsTogether most) d end before after from
 
 -- `check` from the state that the file opened to: it printed how many commands there are, and only
 -- read the disk
@@ -189,7 +212,7 @@ pub record DidCheck (d : Seen) (end : End) (before after : World) (from : State)
   pub clock : SameClock before after
   pub net : SameNet before after
   pub same : IsUntouched d
-  pub disk : DiskSurvives d from.history [] 0 (status_of end)
+  pub disk : DiskSurvives 1 d from.history [] 0 (status_of end)
 
 -- why a journal doesn't open, as a run's end
 abbrev pub end_of_open : OpenFault → End
@@ -239,7 +262,7 @@ pub record DidAsk (d : Seen) (IsDue : State → ℕ → Due → Type 0) (end : E
   pub clock : LookedOnce before after
   pub net : SameNet before after
   pub same : IsUntouched d
-  pub disk : DiskSurvives d from.history [] 0 (status_of end)
+  pub disk : DiskSurvives 1 d from.history [] 0 (status_of end)
 
 -- The input wasn't taken whole: it failed, and nothing was asked or written.
 abbrev pub LoadBroke : End → State → World → World → (answered kept : List Stamped) → Type 0
@@ -272,7 +295,7 @@ pub record DidLoad (d : Seen) (job : List ℕ) (end : End) (before after : World
       ⊎ LoadAsked end from job taken before after (from.history
       ++ take answered accepted) (from.history ++ accepted)
   pub net : SameNet before after
-  pub disk : DiskSurvives d from.history accepted answered (status_of end)
+  pub disk : DiskSurvives 1 d from.history accepted answered (status_of end)
   pub keeps_up : DiskKeepsUp d (from.history ++ accepted) IsLine (marked_output before)
       (marked_output after)
 
@@ -291,6 +314,8 @@ pub record DidSample (d : Seen) (seed size : ℕ) (end : End) (before after : Wo
 abbrev pub Did : Seen → Task → End → World → World → Type 0
 Did d task.Init end before after = DidInit d end before after
 Did d task.Apply end before after = OverJournal d (DidApply d end before after) end before after
+Did d (task.Together most) end before after =
+    OverJournal d (DidTogether most d end before after) end before after
 Did d (task.Serve port connections) end before after =
     OverJournal d (DidServe d port connections end before after) end before after
 Did d task.Check end before after = OverJournal d (DidCheck d end before after) end before after

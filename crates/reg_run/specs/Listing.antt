@@ -73,7 +73,7 @@ pub record DidCommands (d : Seen) (places : Places) (end : End) (before after : 
   pub clock : SameClock before after
   pub net : SameNet before after
   pub same : IsUntouched d
-  pub disk : DiskSurvives d from.history [] 0 (status_of end)
+  pub disk : DiskSurvives 1 d from.history [] 0 (status_of end)
 
 -- ---- for private clauses
 

@@ -162,4 +162,4 @@ pub record DidProvision (d : Seen) (asked : Provision) (end : End) (before after
   pub input : SameInput before after
   pub clock : LookedOnce before after
   pub net : SameNet before after
-  pub disk : DiskSurvives d from.history accepted answered (status_of end)
+  pub disk : DiskSurvives 1 d from.history accepted answered (status_of end)

@@ -80,7 +80,7 @@ pub record DidServe (d : Seen) (port limit : ℕ) (end : End) (before after : Wo
       ++ take answered accepted)
   pub input : SameInput before after
   pub output : SameOutput before after
-  pub disk : DiskSurvives d from.history accepted answered (status_of end)
+  pub disk : DiskSurvives 1 d from.history accepted answered (status_of end)
   pub keeps_up : ConnectionsKeepUp d (from.history ++ accepted) before.net.connections
       after.net.connections
 

@@ -33,9 +33,9 @@ use reg_keep::{InitFault, Journal, Keeper, OpenFault};
 use reg_machine::Machine;
 use reg_outside::{Clock, Disk, Failed, Listener, Sink, Source, write_whole};
 use reg_service::Service;
-use reg_session::{Stop, answer_input, reply_line, turn};
+use reg_session::{Stop, answer_input, answer_together, reply_line, turn};
 use reg_terms::Reply;
-use reg_words::{Question, Task};
+use reg_words::{BatchSize, Question, Task};
 use std::alloc::{AllocError, Global};
 
 pub(crate) fn end_of_open(fault: OpenFault) -> End
@@ -133,6 +133,35 @@ fn apply_over<S: Source, K: Sink, D: Disk, C: Clock>(
     match open(alloc, disk) {
         Err((end, disk)) => (end, disk),
         Ok(service) => match answer_input(alloc, service, input, out, clock) {
+            Ok(service) => (End::Done, close(service)),
+            Err((stop, keeper)) => (end_of_stop(stop), keeper.into_disk()),
+        },
+    }
+}
+
+/// Answers the lines of the input over the journal on a disk, of those that were read already at
+/// most so many together.
+fn apply_together_over<S: Source, K: Sink, D: Disk, C: Clock>(
+    alloc: Global,
+    most: BatchSize,
+    input: &mut S,
+    out: &mut K,
+    disk: D,
+    clock: &mut C,
+) -> (End, D)
+    ensures did { (net : Net)
+        → Did (seen ⟦<D as Disk>⟧ disk result.1) (Task.Together most) result.0
+        (world ⟦<S as Source>⟧ ⟦<K as Sink>⟧ ⟦<D as Disk>⟧ ⟦<C as Clock>⟧ input.old out.old disk
+        clock.old net)
+        (world ⟦<S as Source>⟧ ⟦<K as Sink>⟧ ⟦<D as Disk>⟧ ⟦<C as Clock>⟧ input.new out.new result.1
+        clock.new net) }
+    ensures object { D.name result.1 ≡ D.name disk }
+    ensures later { D.faults disk ≤ D.faults result.1 }
+{
+    let count = most.number();
+    match open(alloc, disk) {
+        Err((end, disk)) => (end, disk),
+        Ok(service) => match answer_together(alloc, count, service, input, out, clock) {
             Ok(service) => (End::Done, close(service)),
             Err((stop, keeper)) => (end_of_stop(stop), keeper.into_disk()),
         },
@@ -322,6 +351,7 @@ pub fn perform<S: Source, K: Sink, D: Disk, E: Disk, C: Clock, L: Listener>(
     match task {
         Task::Init => init(disk),
         Task::Apply => apply_over(alloc, input, out, disk, clock),
+        Task::Together { most } => apply_together_over(alloc, *most, input, out, disk, clock),
         Task::Serve { port, connections } => {
             serve_over(alloc, *port, *connections, disk, clock, net)
         }

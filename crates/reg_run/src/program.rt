@@ -44,15 +44,15 @@ fn follow<S: Source, K: Sink, D: Disk, E: Disk, C: Clock, L: Listener>(
 
 /// Runs the command that the words name over the disk's journal, and gives the exit status
 /// (`docs/REQUESTS.md`, "The program"): `init` begins a journal, `apply` answers each line of the
-/// input with a line of output, `serve PORT [--connections N]` answers the messages of so many
-/// connections, one after another, `check` opens the journal, `commands [--from N] [--to M]`
-/// prints its commands, `members NAME [--at T]` and `history NAME` ask it, `as-of T` answers each
-/// line of the input by the registry as it was at a moment, `why SUBJECT GROUP [--at T]` says why a
-/// person is a member of a group or isn't, now or then, and `provision CONSUMER SUBJECT MAX` prints
-/// operations for an outside list and acknowledges them. `migrate` writes the disk's journal, which
-/// is then of format 1, anew on the second disk as one of format 2, and no other command touches
-/// the second. A status other than 0 has a note on `notes`; that it can't be written changes
-/// nothing.
+/// input with a line of output, and with `--together N` up to N lines that were read already by one
+/// append, `serve PORT [--connections N]` answers the messages of so many connections, one after
+/// another, `check` opens the journal, `commands [--from N] [--to M]` prints its commands, `members
+/// NAME [--at T]` and `history NAME` ask it, `as-of T` answers each line of the input by the
+/// registry as it was at a moment, `why SUBJECT GROUP [--at T]` says why a person is a member of a
+/// group or isn't, now or then, and `provision CONSUMER SUBJECT MAX` prints operations for an
+/// outside list and acknowledges them. `migrate` writes the disk's journal, which is then of format
+/// 1, anew on the second disk as one of format 2, and no other command touches the second. A status
+/// other than 0 has a note on `notes`; that it can't be written changes nothing.
 pub fn run<S: Source, K: Sink, N: Sink, D: Disk, E: Disk, C: Clock, L: Listener>(
     alloc: Global,
     words: &[String],

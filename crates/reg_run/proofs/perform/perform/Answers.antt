@@ -9,6 +9,9 @@ returns-in-Init-clause-did g c = rw c.in-Init.is (c.init.ensures.did (world g.S.
 pub returns-in-Apply-clause-did : goal.returns-in-Apply-clause-did
 returns-in-Apply-clause-did g c = rw c.in-Apply.is (c.apply_over.ensures.did (net_of g.L.Listener c.args.net.now), refl)
 
+pub returns-in-Together-clause-did : goal.returns-in-Together-clause-did
+returns-in-Together-clause-did g c = rw c.in-Together.is (c.apply_together_over.ensures.did (net_of g.L.Listener c.args.net.now), refl)
+
 pub returns-in-Check-clause-did : goal.returns-in-Check-clause-did
 returns-in-Check-clause-did g c = rw c.in-Check.is (c.check_over.ensures.did (world g.S.Source g.K.Sink g.D.Disk g.C.Clock c.args.input.now c.args.out.now c.args.disk c.args.clock.now (net_of g.L.Listener c.args.net.now)), refl)
 
