@@ -64,24 +64,37 @@ fn stop_at(alloc: Global, run: &Run, disk: &[u8], stop: u64) -> Result<Stopped, 
     })
 }
 
-/// How many commands the disk had before a run, if it opened, and how many the whole run adds.
+/// How many lines a run of these words answers together at most: so many commands may be kept that
+/// it didn't acknowledge.
+fn count_together(words: &[String]) -> u64 {
+    match words {
+        [_, option, count] if option.as_str() == "--together" => {
+            count.as_str().parse::<u64>().unwrap_or(1)
+        }
+        _ => 1,
+    }
+}
+
+/// How many commands the disk had before a run, if it opened, how many the whole run adds, and how
+/// many lines it answers together.
 #[derive(Clone, Copy)]
 struct Wanted {
     before: Option<u64>,
     added: u64,
+    together: u64,
 }
 
 impl Wanted {
     /// Whether a stopped run may leave what opens to so many commands, or doesn't open: all that it
-    /// acknowledged are there, and one of the others at most. Where the run began the journal, one
-    /// that didn't end may leave none.
+    /// acknowledged are there, and of the others as many at most as it answers together. Where the
+    /// run began the journal, one that didn't end may leave none.
     fn allows(&self, stopped: &Stopped, kept: &str) -> bool {
         match count_commands(kept) {
             Some(count) => {
                 let before = self.before.unwrap_or(0);
                 let least = before.saturating_add(stopped.acknowledged);
                 let most = least
-                    .saturating_add(1)
+                    .saturating_add(self.together)
                     .min(before.saturating_add(self.added));
                 least <= count && count <= most
             }
@@ -99,6 +112,7 @@ fn wanted_of(alloc: Global, run: &Run, disk: &[u8]) -> Result<Wanted, AllocError
     Ok(Wanted {
         before: count_commands(kept.as_str()),
         added: whole.acknowledged,
+        together: count_together(&run.words),
     })
 }
 
