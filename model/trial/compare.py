@@ -1,12 +1,13 @@
 """Compares the program with the model, reply by reply and byte by byte.
 
-    python3 compare.py PROGRAM [FIRST_SEED] [HISTORIES] [--counts]
+    python3 compare.py PROGRAM [FIRST_SEED] [HISTORIES] [--counts] [--together N]
 
 PROGRAM is the registry's program. It plays the aimed histories and then HISTORIES random ones
 (100 by itself) from FIRST_SEED on (1 by itself), with a clock that is handed to it, and each reply
 has to be the model's. The first differences are printed with the history, the line, the clock,
 what was wanted and what was found; the status is 1 where there is one. With --counts the answers
-to each operation are counted, and those named that never came.
+to each operation are counted, and those named that never came. With --together N the program
+answers up to N lines together.
 
 It needs python3 (3.8 or later, nothing beside its own library), `cc` for the clock, and a program
 that is linked dynamically, since the clock is put before the one of the C library.
@@ -95,9 +96,10 @@ def main() -> int:
     parser.add_argument("first_seed", nargs="?", type=int, default=1)
     parser.add_argument("histories", nargs="?", type=int, default=100)
     parser.add_argument("--counts", action="store_true")
+    parser.add_argument("--together", type=int, default=0)
     words = parser.parse_args()
     with tempfile.TemporaryDirectory() as folder:
-        program = Program(words.program, folder)
+        program = Program(words.program, folder, words.together)
         return int(compare(program, words.first_seed, words.histories, words.counts) > 0)
 
 

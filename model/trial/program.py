@@ -13,7 +13,9 @@ CLOCK_SOURCE = Path(__file__).with_name("clock.c")
 class Program:
     """A program that is linked dynamically, with the clock shim before it."""
 
-    def __init__(self, path: str, folder: str) -> None:
+    def __init__(self, path: str, folder: str, together: int = 0) -> None:
+        """Where a number is given, up to so many lines are answered together."""
+        self.words = ["apply"] + (["--together", str(together)] if together else [])
         self.path = str(Path(path).resolve())
         self.folder = Path(folder)
         self.shim = self.folder / "clock.so"
@@ -39,7 +41,7 @@ class Program:
         readings.write_text("".join(f"{line.moment}\n" for line in lines))
         environment = dict(os.environ, CLOCK_LIST=str(readings), LD_PRELOAD=str(self.shim))
         done = subprocess.run(
-            [self.path, str(journal), "apply"],
+            [self.path, str(journal), *self.words],
             input="".join(f"{line.text}\n\n\r\n" for line in lines).encode(),
             stdout=subprocess.PIPE,
             env=environment,
