@@ -115,6 +115,23 @@ impl Held {
         }
     }
 
+    /// Nothing again. The memory stays.
+    pub(crate) fn restart(&mut self)
+        ensures { self.new ≡ record { rest = []; held = 0; head = None } }
+    {
+        self.bytes.clear();
+        self.start = 0;
+        self.head = None;
+    }
+
+    /// The bytes that aren't given yet.
+    pub(crate) fn rest(&self) -> &[u8]
+        ensures { result.now ≡ self.now.rest }
+    {
+        let (_, rest) = self.bytes.split_at(self.start);
+        rest
+    }
+
     /// More bytes. Where there is no memory for them, none was taken.
     pub(crate) fn feed(&mut self, piece: &[u8]) -> Result<(), AllocError>
         ensures fed { OnOk result (self.new ≡ record {

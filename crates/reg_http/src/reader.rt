@@ -55,6 +55,21 @@ impl HttpReader {
         self.held.feed(piece)
     }
 
+    /// Forgets all that was fed. What memory it has is used again.
+    pub fn restart(&mut self)
+        ensures { self.new ≡ start }
+    {
+        self.held.restart();
+        self.fault = None;
+    }
+
+    /// The bytes that were fed and aren't given yet.
+    pub fn unfinished(&self) -> &[u8]
+        ensures { result.now ≡ self.now.rest }
+    {
+        self.held.rest()
+    }
+
     /// What comes next in the bytes that were fed. After a fault it is that fault for good. Where
     /// there is no memory, nothing was given. At most as many bytes that were given are held as
     /// others.

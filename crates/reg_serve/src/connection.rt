@@ -155,8 +155,8 @@ fn serve_some<K: Keeper, C: Connection, T: Clock>(
     }
 }
 
-/// Answers all messages, piece by piece.
-fn serve_bytes<K: Keeper, C: Connection, T: Clock>(
+/// Answers all messages, piece by piece. What is left in the reader is no whole message.
+pub(crate) fn serve_bytes<K: Keeper, C: Connection, T: Clock>(
     alloc: Global,
     routes: &Routes,
     service: Service<K>,
@@ -196,33 +196,6 @@ fn serve_bytes<K: Keeper, C: Connection, T: Clock>(
     (Ended::TooMuch, Next::Go(service))
 }
 
-/// Answers all messages, with a reader of its own.
-pub(crate) fn serve_routed<K: Keeper, C: Connection, T: Clock>(
-    alloc: Global,
-    routes: &Routes,
-    service: Service<K>,
-    conn: &mut C,
-    clock: &mut T,
-) -> (Ended, Next<K>)
-    ensures session { SessionOf ⟦<K as Keeper>⟧
-        (point ⟦<C as Sink>⟧ ⟦<T as Clock>⟧ conn.old clock.old service.state) service.keeper
-        (C.left conn.old) (C.left conn.new) (C.written conn.new) (T.moments clock.new) result }
-    ensures keeps_up { SessionKeepsUp ⟦<K as Keeper>⟧
-        (point ⟦<C as Sink>⟧ ⟦<T as Clock>⟧ conn.old clock.old service.state) service.keeper
-        (C.left conn.old) (C.left conn.new) (output_of ⟦<C as Sink>⟧ conn.old)
-        (output_of ⟦<C as Sink>⟧ conn.new) (T.moments clock.new) result }
-    ensures failed { result.0 ≡ Ended.Failed
-        → Rose (C.read_faults conn.old) (C.read_faults conn.new)
-        ⊎ Rose (C.write_faults conn.old) (C.write_faults conn.new) }
-{
-    turns_are_of_all_bytes();
-    service.stays();
-    let Ok(mut reader) = HttpReader::new(alloc) else {
-        return (Ended::NoMemory, Next::Go(service));
-    };
-    serve_bytes(alloc, routes, service, &mut reader, conn, clock)
-}
-
 /// Answers the messages of a connection, one after another, until it ends, a message closes it, or
 /// there is nothing more to be done with it: a head isn't taken, a call of the connection failed,
 /// 2^32 bytes were read, or there was no memory. Where the service stopped, its keeper is given
@@ -249,5 +222,8 @@ pub fn serve_connection<K: Keeper, C: Connection, T: Clock>(
     let Ok(routes) = Routes::new(alloc) else {
         return (Ended::NoMemory, Next::Go(service));
     };
-    serve_routed(alloc, &routes, service, conn, clock)
+    let Ok(mut reader) = HttpReader::new(alloc) else {
+        return (Ended::NoMemory, Next::Go(service));
+    };
+    serve_bytes(alloc, &routes, service, &mut reader, conn, clock)
 }

@@ -8,9 +8,9 @@ ghost use Rattle.reg_serve.specs.KeepingUp.{BackKeepsUp, VisitsKeepUp};
 ghost use Rattle.reg_serve.specs.Visits.{CeasesNext, CeasesServing, GivesBack, ServedSo};
 ghost use Rattle.reg_serve.specs.Visits.{ServesVisits, ceased_of};
 
-use crate::connection::serve_routed;
+use crate::connection::serve_bytes;
 use crate::ended::Ceased;
-use reg_http::Routes;
+use reg_http::{HttpReader, Routes};
 use reg_keep::Keeper;
 use reg_outside::{Clock, Failed, Listener, Sink, Source};
 use reg_service::{Cause, Next, Service};
@@ -26,11 +26,13 @@ fn ceased_of(cause: Cause) -> Ceased
     }
 }
 
-/// Serves an accepted connection, and gives it back however it ended. It says how that went.
+/// Serves an accepted connection, by a reader that is used again, and gives it back however it
+/// ended. It says how that went.
 fn serve_accepted<K: Keeper, L: Listener, T: Clock>(
     alloc: Global,
     routes: &Routes,
     service: Service<K>,
+    reader: &mut HttpReader,
     net: &mut L,
     conn: L::Conn,
     clock: &mut T,
@@ -45,10 +47,11 @@ fn serve_accepted<K: Keeper, L: Listener, T: Clock>(
     ensures cause { HasCause (L.listener_faults net.old) (L.listener_faults net.new) result.1 }
     ensures port { L.listens net.new ≡ L.listens net.old }
 {
+    reader.restart();
     let mut conn = conn;
-    let (_ended, next) = serve_routed(alloc, routes, service, &mut conn, clock);
-    let closed = net.close(conn);
-    (next, closed)
+    let (_ended, next) = serve_bytes(alloc, routes, service, reader, &mut conn, clock);
+    let given_back = net.give_back(conn, reader.unfinished());
+    (next, given_back)
 }
 
 /// Accepts a connection and serves it, and says whether there was one.
@@ -56,6 +59,7 @@ fn serve_next<K: Keeper, L: Listener, T: Clock>(
     alloc: Global,
     routes: &Routes,
     service: Service<K>,
+    reader: &mut HttpReader,
     net: &mut L,
     clock: &mut T,
 ) -> Result<(Service<K>, bool), (Ceased, K)>
@@ -97,10 +101,10 @@ fn serve_next<K: Keeper, L: Listener, T: Clock>(
         Some(conn) => conn,
         None => return Ok((service, false)),
     };
-    let (next, closed) = serve_accepted(alloc, routes, service, net, conn, clock);
+    let (next, given_back) = serve_accepted(alloc, routes, service, reader, net, conn, clock);
     match next {
         Next::Stop(cause, keeper) => Err((ceased_of(cause), keeper)),
-        Next::Go(service) => match closed {
+        Next::Go(service) => match given_back {
             Ok(()) => Ok((service, true)),
             Err(Failed) => Err((Ceased::Listener, service.into_keeper())),
         },
@@ -112,6 +116,7 @@ fn serve_all<K: Keeper, L: Listener, T: Clock>(
     alloc: Global,
     routes: &Routes,
     service: Service<K>,
+    reader: &mut HttpReader,
     net: &mut L,
     clock: &mut T,
     limit: u64,
@@ -146,7 +151,7 @@ fn serve_all<K: Keeper, L: Listener, T: Clock>(
     let mut service = service;
     let mut served: u64 = 0;
     while served < limit {
-        match serve_next(alloc, routes, service, net, clock) {
+        match serve_next(alloc, routes, service, reader, net, clock) {
             Err(end) => return Err(end),
             Ok((after, another)) => {
                 if !another {
@@ -198,8 +203,11 @@ pub fn serve_connections<K: Keeper, L: Listener, T: Clock>(
     ensures still { OnOk result (L.listener_faults net.new ≡ L.listener_faults net.old) }
 {
     service.stays();
-    match Routes::new(alloc) {
-        Ok(routes) => serve_all(alloc, &routes, service, net, clock, limit),
-        Err(_) => Err((Ceased::Memory, service.into_keeper())),
-    }
+    let Ok(routes) = Routes::new(alloc) else {
+        return Err((Ceased::Memory, service.into_keeper()));
+    };
+    let Ok(mut reader) = HttpReader::new(alloc) else {
+        return Err((Ceased::Memory, service.into_keeper()));
+    };
+    serve_all(alloc, &routes, service, &mut reader, net, clock, limit)
 }

@@ -1,8 +1,9 @@
 //! The registry: reads requests, line by line or from connections, and answers each.
 #![tactic(auto)]
 
-use reg_outside::{Access, FileDisk, StdSink, StdSource, SystemClock, TcpPort};
+use reg_outside::{Access, FileDisk, StdSink, StdSource, SystemClock};
 use reg_run::{End, run, status_of, write_note};
+use reg_tcp::TcpPort;
 use std::env;
 use std::fs::{File, OpenOptions};
 use std::io::ErrorKind;
@@ -45,7 +46,7 @@ fn over(rt: &HostRuntime, path: &str, second_path: &str, words: &[String]) -> u8
     let mut disk = FileDisk::new(rt, path, access(words));
     let mut second = FileDisk::new(rt, second_path, Access::Make);
     let mut clock = SystemClock::new(rt);
-    let mut net = TcpPort::new(rt);
+    let mut net = TcpPort::new(rt, rt.alloc());
     let status = run(
         rt.alloc(),
         words,

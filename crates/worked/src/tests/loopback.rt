@@ -4,12 +4,13 @@ ghost use Rattle.std.specs.Prelude.{◌≡◌, IfOk, is_some, true};
 use super::otherwise::{Otherwise, expect};
 use super::registry::empty;
 use reg_base::Moment;
-use reg_outside::{ListClock, Listener, TcpPort};
+use reg_outside::{ListClock, Listener};
 use reg_serve::{Ended, serve_connection};
 use reg_service::Next;
+use reg_tcp::TcpPort;
 use std::alloc::{AllocError, Global};
 use std::io::{self, Eprint, Read, Write};
-use std::net::{Ipv4Addr, Net, Shutdown, SocketAddr, SocketAddrV4, TcpListener, TcpStream};
+use std::net::{Ipv4Addr, Net, Shutdown, SocketAddr, SocketAddrV4, TcpStream};
 
 /// A folder and a group are made, and the group's members asked for.
 const MESSAGES: &[u8] = b"POST /requests HTTP/1.1\r\n\
@@ -46,9 +47,7 @@ Content-Length: 25\r\n\
 {\"members\":[],\"ok\":true}\n";
 
 /// Listens on the first of some ports that is free.
-fn listen_on<R: Net<Listener = TcpListener, Stream = TcpStream> + Eprint>(
-    net: &mut TcpPort<R>,
-) -> Result<u16, Otherwise>
+fn listen_on<R: Net + Eprint>(net: &mut TcpPort<R>) -> Result<u16, Otherwise>
     ensures { IfOk result (λ port. is_some net.new.port ≡ true) }
 {
     for port in 49_400..49_500u16 {
@@ -74,10 +73,7 @@ fn clock(alloc: Global) -> Result<ListClock, AllocError> {
 }
 
 /// Accepts the connection that waits, serves it, and gives it back.
-fn serve<R: Net<Listener = TcpListener, Stream = TcpStream> + Eprint>(
-    alloc: Global,
-    net: &mut TcpPort<R>,
-) -> Result<(), Otherwise>
+fn serve<R: Net + Eprint>(alloc: Global, net: &mut TcpPort<R>) -> Result<(), Otherwise>
     requires { is_some net.old.port ≡ true }
 {
     let mut clock = clock(alloc)?;
@@ -86,7 +82,7 @@ fn serve<R: Net<Listener = TcpListener, Stream = TcpStream> + Eprint>(
         return Err(Otherwise::NotSo("a connection comes"));
     };
     let (ended, next) = serve_connection(alloc, service, &mut conn, &mut clock);
-    let is_given_back = net.close(conn).is_ok();
+    let is_given_back = net.give_back(conn, &[]).is_ok();
     let goes_on = matches!(&next, Next::Go(_));
     drop(next);
     expect(is_given_back, "the connection is given back")?;
@@ -100,7 +96,7 @@ fn serve<R: Net<Listener = TcpListener, Stream = TcpStream> + Eprint>(
 /// Row by row: the port is listened on, the messages are sent and the client's side is closed, and
 /// only then the connection is accepted, served and given back.
 pub fn play(rt: &HostRuntime) -> Result<(), Otherwise> {
-    let mut net = TcpPort::new(rt);
+    let mut net = TcpPort::new(rt, rt.alloc());
     let port = listen_on(&mut net)?;
     let Ok(mut client) = client_of(rt, port) else {
         return Err(Otherwise::NotSo("a client sends its messages"));

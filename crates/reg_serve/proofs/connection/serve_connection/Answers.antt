@@ -9,3 +9,10 @@ returns-in_default-clause-session g c = session_none g.K.Keeper _ _ c.args.servi
 
 pub returns-in_default-clause-keeps_up : goal.returns-in_default-clause-keeps_up
 returns-in_default-clause-keeps_up g c = (returns-in_default-clause-session g c, quiet_up g.K.Keeper c.args.service.keeper c.args.service.keeper c.args.service.state.history _ _ refl refl)
+
+-- there was no memory for a reader
+pub returns-in_default-new-clause-session : goal.returns-in_default-new-clause-session
+returns-in_default-new-clause-session g c = session_none g.K.Keeper _ _ c.args.service c.turns_are_of_all_bytes.ensures.begun refl c.stays.ensures
+
+pub returns-in_default-new-clause-keeps_up : goal.returns-in_default-new-clause-keeps_up
+returns-in_default-new-clause-keeps_up g c = (returns-in_default-new-clause-session g c, quiet_up g.K.Keeper c.args.service.keeper c.args.service.keeper c.args.service.state.history _ _ refl refl)

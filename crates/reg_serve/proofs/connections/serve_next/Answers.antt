@@ -47,33 +47,33 @@ returns-in-Stop-clause-keeps_up_to g c =
     rw c.ceased_of.ensures (stopped_one_up _ g.K.Keeper c.args.service.state c.args.service.keeper _ _ _ _ _ c.in-Some.conn c.accept.result _ c.in-Stop.cause c.in-Stop.keeper c.accept.ensures.accepts (c.in-Ok.is ∙ ap Ok c.in-Some.is) c.serve_accepted-next.ensures.keeps_up c.in-Stop.is)
 
 -- it was served
-pub returns-in-Ok-closed-clause-served : goal.returns-in-Ok-closed-clause-served
-returns-in-Ok-closed-clause-served g c =
+pub returns-in-Ok-given_back-clause-served : goal.returns-in-Ok-given_back-clause-served
+returns-in-Ok-given_back-clause-served g c =
     (served_one _ g.K.Keeper c.args.service.state c.args.service.keeper _ _ _ _ _ c.in-Some.conn c.accept.result _ c.in-Go.service c.accept.ensures.accepts (c.in-Ok.is ∙ ap Ok c.in-Some.is) c.serve_accepted-next.ensures.back c.in-Go.is).0
 
-pub returns-in-Ok-closed-clause-kept : goal.returns-in-Ok-closed-clause-kept
-returns-in-Ok-closed-clause-kept g c =
+pub returns-in-Ok-given_back-clause-kept : goal.returns-in-Ok-given_back-clause-kept
+returns-in-Ok-given_back-clause-kept g c =
     (served_one _ g.K.Keeper c.args.service.state c.args.service.keeper _ _ _ _ _ c.in-Some.conn c.accept.result _ c.in-Go.service c.accept.ensures.accepts (c.in-Ok.is ∙ ap Ok c.in-Some.is) c.serve_accepted-next.ensures.back c.in-Go.is).1
 
-pub returns-in-Ok-closed-clause-keeps_up : goal.returns-in-Ok-closed-clause-keeps_up
-returns-in-Ok-closed-clause-keeps_up g c =
+pub returns-in-Ok-given_back-clause-keeps_up : goal.returns-in-Ok-given_back-clause-keeps_up
+returns-in-Ok-given_back-clause-keeps_up g c =
     served_one_up _ g.K.Keeper c.args.service.state c.args.service.keeper _ _ _ _ _ c.in-Some.conn c.accept.result _ c.in-Go.service c.accept.ensures.accepts (c.in-Ok.is ∙ ap Ok c.in-Some.is) c.serve_accepted-next.ensures.keeps_up c.in-Go.is
 
-pub returns-in-Ok-closed-clause-still : goal.returns-in-Ok-closed-clause-still
-returns-in-Ok-closed-clause-still g c = (rw c.in-Ok-closed.is at c.serve_accepted-next.ensures.cause.still) ∙ (rw c.in-Ok.is at c.accept.ensures.cause.still)
+pub returns-in-Ok-given_back-clause-still : goal.returns-in-Ok-given_back-clause-still
+returns-in-Ok-given_back-clause-still g c = (rw c.in-Ok-given_back.is at c.serve_accepted-next.ensures.cause.still) ∙ (rw c.in-Ok.is at c.accept.ensures.cause.still)
 
--- and couldn't be closed
-pub returns-in-Err-closed-clause-ceased : goal.returns-in-Err-closed-clause-ceased
-returns-in-Err-closed-clause-ceased g c =
+-- and couldn't be given back
+pub returns-in-Err-given_back-clause-ceased : goal.returns-in-Err-given_back-clause-ceased
+returns-in-Err-given_back-clause-ceased g c =
     let s = c.args.service in
     let one = served_one _ g.K.Keeper s.state s.keeper _ _ _ _ _ c.in-Some.conn c.accept.result _ c.in-Go.service c.accept.ensures.accepts (c.in-Ok.is ∙ ap Ok c.in-Some.is) c.serve_accepted-next.ensures.back c.in-Go.is in
     ceases_listener g.K.Keeper 1 s.state c.in-Go.service.state s.keeper _ _ _ _ _ one.0 (omega arith)
-    (go_halted g.K.Keeper s.state.history s.keeper c.in-Go.service c.into_keeper-in-Err-closed.result one.1 c.into_keeper-in-Err-closed.ensures.keeper c.into_keeper-in-Err-closed.ensures.fronts c.into_keeper-in-Err-closed.ensures.leaves) refl refl
+    (go_halted g.K.Keeper s.state.history s.keeper c.in-Go.service c.into_keeper-in-Err-given_back.result one.1 c.into_keeper-in-Err-given_back.ensures.keeper c.into_keeper-in-Err-given_back.ensures.fronts c.into_keeper-in-Err-given_back.ensures.leaves) refl refl
 
-pub returns-in-Err-closed-clause-keeps_up_to : goal.returns-in-Err-closed-clause-keeps_up_to
-returns-in-Err-closed-clause-keeps_up_to g c =
+pub returns-in-Err-given_back-clause-keeps_up_to : goal.returns-in-Err-given_back-clause-keeps_up_to
+returns-in-Err-given_back-clause-keeps_up_to g c =
     let s = c.args.service in
     let one = served_one _ g.K.Keeper s.state s.keeper _ _ _ _ _ c.in-Some.conn c.accept.result _ c.in-Go.service c.accept.ensures.accepts (c.in-Ok.is ∙ ap Ok c.in-Some.is) c.serve_accepted-next.ensures.back c.in-Go.is in
     let up = served_one_up _ g.K.Keeper s.state s.keeper _ _ _ _ _ c.in-Some.conn c.accept.result _ c.in-Go.service c.accept.ensures.accepts (c.in-Ok.is ∙ ap Ok c.in-Some.is) c.serve_accepted-next.ensures.keeps_up c.in-Go.is in
     ceases_listener_up g.K.Keeper 1 s.state c.in-Go.service.state s.keeper c.in-Go.service.keeper _ _ _ _ _ up (omega arith)
-    (go_halted g.K.Keeper s.state.history s.keeper c.in-Go.service c.into_keeper-in-Err-closed.result one.1 c.into_keeper-in-Err-closed.ensures.keeper c.into_keeper-in-Err-closed.ensures.fronts c.into_keeper-in-Err-closed.ensures.leaves) refl refl c.into_keeper-in-Err-closed.ensures.keeper
+    (go_halted g.K.Keeper s.state.history s.keeper c.in-Go.service c.into_keeper-in-Err-given_back.result one.1 c.into_keeper-in-Err-given_back.ensures.keeper c.into_keeper-in-Err-given_back.ensures.fronts c.into_keeper-in-Err-given_back.ensures.leaves) refl refl c.into_keeper-in-Err-given_back.ensures.keeper
