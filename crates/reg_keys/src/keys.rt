@@ -1,12 +1,12 @@
 // The keys of all callers.
-ghost use Rattle.std.specs.Prelude.{◌≡◌, ◌≤◌, ◌+◌, ◌&&◌, ℕ, List, length, None, Some};
+ghost use Rattle.std.specs.Prelude.{◌≡◌, ◌&&◌, ℕ, List, length, None, Some};
 ghost use Rattle.std.specs.Prelude.{OnOk, OnErr, MatchOption, if◌then◌else◌};
 ghost use Rattle.std.specs.Str.{bytes_eq};
-ghost use Rattle.reg_keys.specs.declared.entry.Entry.{Entry};
-ghost use Rattle.reg_keys.specs.Keys.{entry_in};
+ghost use Rattle.reg_keys.specs.Places.{AreBelow};
+ghost use Rattle.reg_keys.specs.Records.{kept};
 
-use crate::caller::Entries;
-use crate::entry::entry_of;
+use crate::places::Places;
+use crate::records::{Record, Records};
 use std::alloc::{AllocError, Global};
 
 /// What a key stands for: the number of the command that was kept, the id of what it made, and the
@@ -22,11 +22,9 @@ pub struct Found<'a> {
 #[derive(Drop)]
 pub struct Keys {
     alloc: Global,
-    callers: Entries,
-    // The commands, one behind the other.
-    bytes: Vec<u8>,
-    ghost inside: { (b k : List ℕ) (e : Entry) → entry_in callers b k ≡ Some e
-        → e.start + e.len ≤ length bytes.items },
+    places: Places,
+    records: Records,
+    ghost below: { AreBelow (length (kept records)) places },
 }
 
 impl Keys {
@@ -38,8 +36,8 @@ impl Keys {
     {
         Keys {
             alloc,
-            callers: Entries::new(alloc),
-            bytes: Vec::new(alloc),
+            places: Places::new(alloc),
+            records: Records::new(alloc),
         }
     }
 
@@ -48,13 +46,12 @@ impl Keys {
         ensures { MatchOption result (found_in self.now by.now key.now ≡ None)
             (λ r. found_in self.now by.now key.now ≡ Some (r.number, r.id, r.bytes.now)) }
     {
-        let entry = self.callers.get(by, key)?;
-        let (_, behind) = self.bytes.as_slice().split_at(entry.start as usize);
-        let (bytes, _) = behind.split_at(entry.len as usize);
+        let place = self.places.get(&self.records, by, key)?;
+        let record = self.records.get(place)?;
         Some(Found {
-            number: entry.number,
-            id: entry.id,
-            bytes,
+            number: record.number,
+            id: record.id,
+            bytes: record.bytes,
         })
     }
 
@@ -74,13 +71,17 @@ impl Keys {
         ensures err { OnErr result ((b k : List ℕ) → found_in self.new b k
             ≡ found_in self.old b k) }
     {
-        let start = self.bytes.len();
-        self.bytes.extend_from_slice(bytes)?;
-        let entry = entry_of(start as u64, bytes.len() as u64, number, id);
-        match self.callers.put(self.alloc, by, key, entry) {
+        let place = self.records.push(Record {
+            by,
+            key,
+            number,
+            id,
+            bytes,
+        })?;
+        match self.places.put(self.alloc, &self.records, by, key, place) {
             Ok(()) => Ok(()),
             Err(AllocError) => {
-                self.bytes.truncate(start);
+                self.records.pop();
                 Err(AllocError)
             }
         }

@@ -2,9 +2,10 @@
 //! what it made, and the command's bytes. It is what finds the keys of requests.
 #![tactic(auto)]
 
-mod caller;
-mod entry;
-mod first;
+mod digest;
 mod keys;
+mod others;
+mod places;
+mod records;
 
 pub use keys::{Found, Keys};
