@@ -4,7 +4,9 @@ use Rattle.std.proofs.lemmas.List.{append-nil}
 use Rattle.reg_outside.specs.Disk.{put}
 use Rattle.reg_keep.specs.Frames.{frame, frames_of, length_bytes, AreShort}
 use Rattle.reg_keep.specs.Settled.{behind_gate}
-use Rattle.reg_keep.proofs.Writes.{told_both, told_reaches}
+use Rattle.reg_keep.specs.Waiting.{Waiting, Adds, end_of, with_waiting}
+use Rattle.reg_keep.proofs.Writes.{told_both}
+use Rattle.reg_keep.proofs.Waits.{none_wait}
 use Rattle.reg_keep.proofs.Spelled.{frames_of-append}
 
 -- the length and the bytes of the first payload, and the frames of others
@@ -20,7 +22,7 @@ pub record Filling (gate : ℕ) (first : List ℕ) (all : List (List ℕ)) (old 
   pub place : at ≡ gate + 1 + length (so_many first done)
 
 module _ (gate : ℕ) (first : List ℕ) (all : List (List ℕ)) (old : Option (List ℕ)) where
-  pub filling_start : (held : Option (List ℕ)) (at : ℕ) (piece : List ℕ) → piece ≡ length_bytes (length first) → AreShort all → held ≡ option_map (put (gate + 1) (piece ++ first)) old → at ≡ gate + 1 + length (piece ++ first) → Filling gate first all old all held at
+  filling_start : (held : Option (List ℕ)) (at : ℕ) (piece : List ℕ) → piece ≡ length_bytes (length first) → AreShort all → held ≡ option_map (put (gate + 1) (piece ++ first)) old → at ≡ gate + 1 + length (piece ++ first) → Filling gate first all old all held at
   filling_start held at piece same short is place =
       let none : piece ++ first ≡ so_many first [] = ap (λ (l : List ℕ). l ++ first) same ∙ sym (append-nil (length_bytes (length first) ++ first)) in
       record {
@@ -35,12 +37,6 @@ module _ (gate : ℕ) (first : List ℕ) (all : List (List ℕ)) (old : Option (
   push done p =
       append_assoc (length_bytes (length first) ++ first) (frames_of done) (frame p)
       ∙ ap (λ (l : List ℕ). (length_bytes (length first) ++ first) ++ l) (ap (λ (l : List ℕ). frames_of done ++ l) (sym (append-nil (frame p))) ∙ sym (frames_of-append done (p ∷ [])))
-
-  pub filling_reaches : (left : List (List ℕ)) (held : Option (List ℕ)) (at : ℕ) → Filling gate first all old left held at → IfSome old (λ h. gate + 1 ≤ length h) → IfSome held (λ h. at ≤ length h)
-  filling_reaches left held at f fits = told_reaches (gate + 1) (so_many first f.done) old held fits f.bytes at f.place
-
-  pub filling_front : (left : List (List ℕ)) (held : Option (List ℕ)) (at : ℕ) → Filling gate first all old left held at → gate + 1 ≤ at
-  filling_front left held at f = omega (arith, f.place)
 
   pub filling_step : (left : List (List ℕ)) (held : Option (List ℕ)) (at : ℕ) (p : List ℕ) (more : List (List ℕ)) (new : Option (List ℕ)) (next : ℕ) (piece : List ℕ)
       → Filling gate first all old left held at → left ≡ p ∷ more → piece ≡ frame p → IfSome old (λ h. gate + 1 ≤ length h) → new ≡ option_map (put at piece) held → next ≡ at + length piece
@@ -67,3 +63,13 @@ module _ (gate : ℕ) (first : List ℕ) (all : List (List ℕ)) (old : Option (
 
   pub filling_gate : (left : List (List ℕ)) (held : Option (List ℕ)) (at : ℕ) → Filling gate first all old left held at → length left ≡ 0 → at ≡ gate + length (frames_of (first ∷ all))
   filling_gate left held at f is = omega (arith, f.place, ap (λ (l : List (List ℕ)). length (so_many first l)) (every left held at f is))
+
+  -- the first payload's length and bytes, which wait for the place behind the gate
+  pub filling_added : (piece : List ℕ) (start w : Waiting) (now : Option (List ℕ)) → piece ≡ length_bytes (length first) → AreShort all → start ≡ (gate + 1, []) → Adds (piece ++ first) start old w now
+      → Filling gate first all old all (with_waiting w now) (end_of w)
+  filling_added piece start w now same short is added =
+      let adds : Adds (piece ++ first) (gate + 1, []) old w now = subst (λ (s : Waiting). Adds (piece ++ first) s old w now) is added in
+      let behind : end_of (gate + 1, []) ≡ gate + 1 = omega arith in
+      filling_start (with_waiting w now) (end_of w) piece same short
+      (adds.whole ∙ ap (option_map (put (end_of (gate + 1, [])) (piece ++ first))) (none_wait (gate + 1) old) ∙ ap (λ (n : ℕ). option_map (put n (piece ++ first)) old) behind)
+      (omega (arith, adds.long))

@@ -14,9 +14,10 @@ ghost use Rattle.reg_keep.specs.Keeping.{IsGoing};
 
 use crate::Records;
 use crate::begin::{InitFault, NEW};
+use crate::gathering::Gathered;
 use crate::open::{HEADER, OLD_HEADER, is_open};
 use crate::read::read_full;
-use crate::writing::{five_bytes, four_bytes, open_gate, write_both};
+use crate::writing::{five_bytes, four_bytes, open_gate};
 use reg_outside::{Disk, Failed};
 
 fn begins_closed(front: &[u8]) -> bool
@@ -129,7 +130,7 @@ fn begin_closed<D: Disk>(disk: &mut D) -> Result<u64, InitFault>
 }
 
 // The frames of these payloads behind the gate at place 8, and the place of the last gate, closed.
-// Each payload takes two writes, and the last gate one.
+// They are gathered, and each full buffer takes one write.
 fn write_records<D: Disk>(disk: &mut D, first: &[u8], mut rest: Records) -> Result<u64, Failed>
     requires place { IfSome (D.contents disk.old) (λ held. 8 < length held) }
     requires short { AreShort (first.now ∷ payloads_of_records rest) }
@@ -144,14 +145,15 @@ fn write_records<D: Disk>(disk: &mut D, first: &[u8], mut rest: Records) -> Resu
     ensures told { is_some (D.contents disk.new) ≡ is_some (D.contents disk.old) }
     ensures cause { HasCause (D.faults disk.old) (D.faults disk.new) result }
 {
-    let mut at = write_both(disk, 9, &four_bytes(first.len() as u32), first)?;
+    let mut frames = Gathered::new(9);
+    frames.add_both(disk, &four_bytes(first.len() as u32), first)?;
     'frames: while let Some((_, payload)) = rest.take_first() {
         let size = payload.bytes().len() as u32;
-        let next = write_both(disk, at, &five_bytes(size), payload.bytes())?;
-        at = next;
+        frames.add_both(disk, &five_bytes(size), payload.bytes())?;
     }
-    disk.write_at(at, &[0])?;
-    Ok(at)
+    frames.add(disk, &[0])?;
+    let end = frames.write_out(disk)?;
+    Ok(end - 1)
 }
 
 // The same, on the disk.

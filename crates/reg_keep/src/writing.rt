@@ -8,6 +8,7 @@ ghost use Rattle.reg_keep.specs.Frames.{with_frames};
 ghost use Rattle.reg_keep.specs.Settled.{IsSettled, IsBeforeOrAll, OpensWithAll, SameFront};
 ghost use Rattle.reg_keep.specs.Settled.{behind_gate};
 
+use crate::gathering::Gathered;
 use reg_base::Bytes;
 use reg_outside::{Disk, Failed};
 
@@ -28,26 +29,8 @@ pub fn five_bytes(n: u32) -> [u8; 5]
     [1, a, b, c, d]
 }
 
-// Two pieces, one behind the other, and the place behind them.
-pub fn write_both<D: Disk>(disk: &mut D, at: u64, one: &[u8], two: &[u8]) -> Result<u64, Failed>
-    requires place { IfSome (D.contents disk.old) (λ held. at ≤ length held) }
-    ensures next { IfOk result (λ n. n ≡ at + length (one.now ++ two.now)) }
-    ensures small { IfOk result (λ n. n < 2 ^ 63) }
-    ensures written { OnOk result (D.contents disk.new
-        ≡ option_map (put at (one.now ++ two.now)) (D.contents disk.old)) }
-    ensures crash { Changes D.moment D.may_leave D.left_since (SameFront at) disk.old disk.new }
-    ensures object { D.name disk.new ≡ D.name disk.old }
-    ensures told { is_some (D.contents disk.new) ≡ is_some (D.contents disk.old) }
-    ensures cause { HasCause (D.faults disk.old) (D.faults disk.new) result }
-{
-    disk.write_at(at, one)?;
-    let next = at + one.len() as u64;
-    disk.write_at(next, two)?;
-    Ok(next + two.len() as u64)
-}
-
-// The frames of these payloads behind a gate, and the place of the last gate, closed. Each payload
-// takes two writes, and the last gate one.
+// The frames of these payloads behind a gate, and the place of the last gate, closed. They are
+// gathered: one write takes all of them, or each full buffer.
 fn write_frames<D: Disk>(
     disk: &mut D,
     gate: u64,
@@ -67,16 +50,17 @@ fn write_frames<D: Disk>(
     ensures told { is_some (D.contents disk.new) ≡ is_some (D.contents disk.old) }
     ensures cause { HasCause (D.faults disk.old) (D.faults disk.new) result }
 {
-    let mut at = write_both(disk, gate + 1, &four_bytes(first.len() as u32), first)?;
+    let mut frames = Gathered::new(gate + 1);
+    frames.add_both(disk, &four_bytes(first.len() as u32), first)?;
     let mut left = rest;
     'frames: while let Some((payload, behind)) = left.split_first() {
         let size = payload.bytes().len() as u32;
-        let next = write_both(disk, at, &five_bytes(size), payload.bytes())?;
-        at = next;
+        frames.add_both(disk, &five_bytes(size), payload.bytes())?;
         left = behind;
     }
-    disk.write_at(at, &[0])?;
-    Ok(at)
+    frames.add(disk, &[0])?;
+    let end = frames.write_out(disk)?;
+    Ok(end - 1)
 }
 
 // The same, on the disk.

@@ -54,22 +54,21 @@ fn expect_first(records: Records, count: u64) -> Result<(), Otherwise> {
     expect(records.take_first().is_none(), "there is no payload more")
 }
 
-/// A journal begins with four calls. Then each append takes eight: the length, a read, three
-/// writes, a sync, the write that opens the gate, and a sync. Once the gate is written the payload
-/// is there.
+/// A journal begins with four calls. Then each append takes six: the length, a read, a write, a
+/// sync, the write that opens the gate, and a sync. Once the gate is written the payload is there.
 fn play_stop(alloc: Global, stop: u64) -> Result<(), Otherwise> {
     let mut journal = begun(alloc, stop.saturating_add(5))?;
     let count = acknowledged(&mut journal);
     let disk = journal.into_disk();
-    expect_number(count, stop / 8, "acknowledged appends")?;
+    expect_number(count, stop / 6, "acknowledged appends")?;
     let records = opened(alloc, disk.bytes())?;
-    let is_open = stop % 8 == 7;
+    let is_open = stop % 6 == 5;
     expect_first(records, count.saturating_add(u64::from(is_open)))
 }
 
 /// Ten appends are stopped at each call of the disk, and at none.
 pub fn play_stops(alloc: Global) -> Result<(), Otherwise> {
-    for stop in 0..81u64 {
+    for stop in 0..61u64 {
         play_stop(alloc, stop)?;
     }
     Ok(())
