@@ -1,9 +1,10 @@
 // A turn of an open connection.
-ghost use Rattle.std.specs.Prelude.{◌≡◌, ◌≤◌, ◌<◌, None, length, if◌then◌else◌, is_err};
+ghost use Rattle.std.specs.Prelude.{◌≡◌, ◌≤◌, ◌<◌, None, false, length, if◌then◌else◌, is_err};
 ghost use Rattle.std.specs.Prelude.{IfOk, IfSome};
 ghost use Rattle.reg_outside.specs.Faults.{HasCause, HasWriteCause, Rose};
 ghost use Rattle.reg_outside.specs.Memory.{one_more};
 ghost use Rattle.reg_outside.specs.Streams.{Reads, Writes, is_write_fault};
+ghost use Rattle.reg_tcp.specs.Steps.{is_kept};
 
 use crate::link::Link;
 use reg_outside::{Connection, Failed, Sink, Source, Stamp};
@@ -72,28 +73,42 @@ impl TcpConn {
     }
 
     /// The turn is over. Where it ended since nothing had come for now, and no call failed, the
-    /// connection stays open, with what was read of it and is no whole message.
+    /// connection stays open, with what was read of it and is no whole message. Else it is over.
     pub(crate) fn end(self, unfinished: &[u8]) -> After
         ensures { 0 < self → result ≡ After.Closed }
     {
+        if self.faults > 0 || !self.is_quiet {
+            return self.close();
+        }
         let TcpConn {
             mut link,
             place: _,
             pieces: _,
-            is_quiet,
+            is_quiet: _,
             has_written,
+            faults: _,
+        } = self;
+        match link.keep(unfinished, has_written) {
+            Ok(()) => After::Kept(link),
+            Err(Failed) => After::Closed,
+        }
+    }
+
+    /// The connection is over: it is closed once all that was written is sent, or at once where a
+    /// call failed.
+    pub(crate) fn close(self) -> After
+        ensures failed { 0 < self → result ≡ After.Closed }
+        ensures over { is_kept result ≡ false }
+    {
+        let TcpConn {
+            link,
+            place: _,
+            pieces: _,
+            is_quiet: _,
+            has_written: _,
             faults,
         } = self;
-        if faults > 0 {
-            return After::Closed;
-        }
-        if is_quiet {
-            return match link.keep(unfinished, has_written) {
-                Ok(()) => After::Kept(link),
-                Err(Failed) => After::Closed,
-            };
-        }
-        if link.has_unsent() {
+        if faults == 0 && link.has_unsent() {
             After::Ending(link)
         } else {
             After::Closed

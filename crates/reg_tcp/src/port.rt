@@ -1,6 +1,6 @@
 // A port that is listened on.
 ghost use Rattle.std.specs.Prelude.{◌≡◌, ◌≤◌, Some, None, if◌then◌else◌, is_err, OnOk};
-ghost use Rattle.std.specs.Prelude.{OnErr, IfOk, IfSome, is_some, true, [], ◌∷◌};
+ghost use Rattle.std.specs.Prelude.{OnErr, IsOk, IfOk, IfSome, is_some, true, [], ◌∷◌};
 ghost use Rattle.std.specs.Net.Addr.{ipv4_octets};
 ghost use Rattle.std.specs.Net.Socket.{v4_ip, v4_port};
 ghost use Rattle.reg_outside.specs.Faults.{HasCause, Rose};
@@ -10,7 +10,7 @@ use crate::conn::TcpConn;
 use crate::inlet::Inlet;
 use crate::slots::Slots;
 use reg_base::Moment;
-use reg_outside::{Failed, Listener};
+use reg_outside::{Accepted, Failed, Listener};
 use std::alloc::Global;
 use std::io::Eprint;
 use std::marker::Model;
@@ -79,8 +79,6 @@ impl<R: Net + Eprint> Listener for TcpPort<'_, R> {
 
     ghost listener_faults = { λ p. p.faults };
 
-    ghost back_at_most = { λ p. tt };
-
     /// Writes a line on standard error: `opened: N commands, MOMENT`.
     fn announce(&mut self, commands: usize, moment: Moment) {
         let text = moment.text();
@@ -113,13 +111,15 @@ impl<R: Net + Eprint> Listener for TcpPort<'_, R> {
     }
 
     /// Waits for the next connection that has something to read, and gives a turn of it, in which
-    /// no call has failed yet. `Failed` comes where the listener fails, or the system tells of no
-    /// connection. Each such call is counted.
-    fn accept(&mut self) -> Result<Option<TcpConn>, Failed>
+    /// no call has failed yet. Its number is its slot, which another may have once it is closed.
+    /// `Failed` comes where the listener fails, or the system tells of no connection. Each such
+    /// call is counted.
+    fn accept(&mut self) -> Result<Option<Accepted<TcpConn>>, Failed>
         requires { is_some self.old.port ≡ true }
         ensures port { self.new.port ≡ self.old.port }
         ensures cause { HasCause self.old.faults self.new.faults result }
-        ensures fresh { IfOk result (λ found. IfSome found (λ conn. conn ≡ 0)) }
+        ensures fresh { IfOk result
+            (λ found. IfSome found (λ accepted. accepted.conn ≡ 0)) }
         ensures counted { self.new.faults
             ≡ (if is_err result then one_more self.old.faults else self.old.faults) }
     {
@@ -127,7 +127,10 @@ impl<R: Net + Eprint> Listener for TcpPort<'_, R> {
             return Err(self.fault());
         };
         match inlet.next(&mut self.slots) {
-            Ok(conn) => Ok(Some(conn)),
+            Ok(conn) => {
+                let number = conn.place().slot;
+                Ok(Some(Accepted { number, conn }))
+            }
             Err(_) => Err(self.fault()),
         }
     }
@@ -136,8 +139,27 @@ impl<R: Net + Eprint> Listener for TcpPort<'_, R> {
     /// it has something to read, which the unfinished bytes are before. It closes the connection
     /// where a call failed, the bytes have ended or the turn did before them: at once, or when all
     /// that was written is sent. Never `Failed`.
-    fn give_back(&mut self, conn: TcpConn, unfinished: &[u8]) -> Result<(), Failed> {
-        self.slots.take_back(conn, unfinished);
+    fn give_back(&mut self, accepted: Accepted<TcpConn>, unfinished: &[u8]) -> Result<(), Failed>
+        ensures ok { IsOk result }
+        ensures same { self.new ≡ self.old }
+        ensures port { self.new.port ≡ self.old.port }
+        ensures cause { HasCause self.old.faults self.new.faults result }
+    {
+        let Accepted { number: _, conn } = accepted;
+        self.slots.take_back(conn.place(), conn.end(unfinished));
+        Ok(())
+    }
+
+    /// Closes the connection once all that was written is sent, or at once where a call failed. It
+    /// is never kept. Never `Failed`.
+    fn close(&mut self, accepted: Accepted<TcpConn>) -> Result<(), Failed>
+        ensures ok { IsOk result }
+        ensures same { self.new ≡ self.old }
+        ensures port { self.new.port ≡ self.old.port }
+        ensures cause { HasCause self.old.faults self.new.faults result }
+    {
+        let Accepted { number: _, conn } = accepted;
+        self.slots.take_back(conn.place(), conn.close());
         Ok(())
     }
 }

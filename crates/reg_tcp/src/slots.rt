@@ -188,9 +188,9 @@ impl Slots {
         }
     }
 
-    /// Takes a connection back, with what was read of it and is no whole message.
-    pub(crate) fn take_back(&mut self, conn: TcpConn, unfinished: &[u8]) {
-        let Place { slot: key, turn } = conn.place();
+    /// Takes a connection back whose turn is over.
+    pub(crate) fn take_back(&mut self, place: Place, after: After) {
+        let Place { slot: key, turn } = place;
         let Some(slot) = self.slots.get_mut(key) else {
             return;
         };
@@ -198,7 +198,7 @@ impl Slots {
         if slot.turn != turn || slot.link.is_some() {
             return;
         }
-        match conn.end(unfinished) {
+        match after {
             After::Kept(link) => slot.link = Some(link),
             After::Ending(link) => {
                 slot.link = Some(link);
