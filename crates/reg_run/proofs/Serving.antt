@@ -1,5 +1,5 @@
 -- How serving ends, from how its parts did.
-use Rattle.std.proofs.Common.{◌≡◌, ◌++◌, [], append-nil, length, List, ℕ, Option, Some, None, Result, Ok, Err, refl, ap, sym, subst, ◌∙◌, arith, take, inl, take_all, option_map}
+use Rattle.std.proofs.Common.{◌≡◌, ◌++◌, [], length, List, ℕ, Option, Some, None, Result, Ok, Err, refl, ap, sym, subst, ◌∙◌, arith, take, inl, take_all, option_map}
 use Rattle.std.specs.Prelude.{All, IfErr, IfSome, OnOk}
 use Rattle.std.proofs.lemmas.List.Elements.{All-nil}
 use Rattle.reg_outside.specs.Connections.{Connections}
@@ -26,7 +26,7 @@ use Rattle.reg_run.proofs.KeepingUp.{StandsOn, disk_keeps_up}
 -- no connection was served
 pub no_visits : (told : Option Connections) → Visits told told []
 no_visits None = tt
-no_visits (Some told) = record { coming = refl; accepted = omega arith; given_back = sym (append-nil told.given_back) }
+no_visits (Some told) = refl
 
 between_same : (h : List Stamped) (r : Result (List (List ℕ)) ℕ) → r ≡ Ok (payloads_of h) → IsBetween h h r
 between_same h r e = (length h, omega arith, omega arith, e ∙ ap (λ (l : List Stamped). Ok (payloads_of l)) (sym (take_all (length h) h (omega arith))))

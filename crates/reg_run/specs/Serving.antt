@@ -1,4 +1,4 @@
--- What `serve` did: which connections were given back, and what is kept of what they asked.
+-- What `serve` did: which turns connections had, and what is kept of what they asked.
 use Rattle.std.specs.Prelude.{◌≡◌, ◌⊎◌, ◌≤◌, ◌++◌, ℕ, List, [], All, Option, Some, Ok, length}
 use Rattle.std.specs.Prelude.{take, IfSome}
 use Rattle.reg_outside.specs.Connections.{Connections}
@@ -17,8 +17,9 @@ use Rattle.reg_run.specs.World.{World, SameInput, SameOutput}
 use Rattle.reg_run.specs.declared.status.End.{End}
 use Rattle.reg_run.specs.declared.status.End.TheVariants as the_end
 
--- Connections of this port were served, as many as were asked for or all that were to come, and
--- these commands accepted; the file opens to the last history, and no call of the listener failed.
+-- Turns of connections of this port were had, as many as were asked for or all that were to come,
+-- and these commands accepted; the file opens to the last history, and no call of the listener
+-- failed.
 pub record ServedAll (from : State) (port limit : ℕ) (before after : World)
     (accepted : List Stamped) : Type 0 where
   pub last : State
@@ -29,8 +30,8 @@ pub record ServedAll (from : State) (port limit : ℕ) (before after : World)
   pub opens : OpensTo after.held (Ok (at_last last.history))
   pub still : after.net.net_faults ≡ before.net.net_faults
 
--- Serving ceased for this cause, before the first connection or after some of this port: up to the
--- first history all was answered, and what may be kept is the second.
+-- Serving ceased for this cause, before the first turn or after some of this port: up to the first
+-- history all was answered, and what may be kept is the second.
 pub record ServedSome (from : State) (port limit : ℕ) (before after : World)
     (answered kept : List Stamped) (why : Ceased) : Type 0 where
   pub visits : List Visit
@@ -39,7 +40,7 @@ pub record ServedSome (from : State) (port limit : ℕ) (before after : World)
   pub few : length visits ≤ limit
   pub ends : CeasesAt from before.moments visits after.moments answered kept why
 
--- how `serve` ends: with its cause, and which connections were served
+-- how `serve` ends: with its cause, and which turns were had
 abbrev pub ServeEnds : End → State → (port limit : ℕ) → World → World
     → (accepted answered : List Stamped) → Type 0
 ServeEnds the_end.Done from port limit before after accepted answered =
@@ -61,8 +62,7 @@ ServeEnds the_end.Exists from port limit before after accepted answered = ⊥
 ServeEnds the_end.Refused from port limit before after accepted answered = ⊥
 ServeEnds the_end.OtherFormat from port limit before after accepted answered = ⊥
 
--- What was written to each connection that was given back, from its coming on, keeps up with the
--- disk, where the disk tells its bytes.
+-- What was written in each turn keeps up with the disk, where the disk tells its bytes.
 abbrev pub ConnectionsKeepUp : Seen → List Stamped → (old new : Option Connections) → Type 0
 ConnectionsKeepUp d history old new = IfSome d.held (λ file. (visits : List Visit)
     × Visits old new visits

@@ -171,6 +171,7 @@ finish_closed a call due old new s close done is shut sent = (refl, sym is ∙ s
 
 pub finish_cut : {K : Type 0} (T : Type 0) (a : Asked) (call : Call) (due : Reply) (old new : Option (List ℕ)) (s : Served K) (close : Bool) (e : Ended) → close ≡ closes_by a call
     → SendsReply {T = T} a close due old new (Err e) → Finishes a call due old new s (Err (e, next.Go s))
+finish_cut T a call due old new s close ended.Silent is sent = absurd sent
 finish_cut T a call due old new s close ended.Closed is sent = absurd sent
 finish_cut T a call due old new s close ended.Bad is sent = absurd sent
 finish_cut T a call due old new s close ended.Failed is sent = (refl, rw is at sent)
@@ -221,6 +222,7 @@ finishes_ended g k w ms w2 ms2 p s call at due (Err (ended.Failed, n)) gives may
 finishes_ended g k w ms w2 ms2 p s call at due (Err (ended.NoMemory, n)) gives may kept f =
     let none : SentFront (asked_of call) (closes_by (asked_of call) call) due w w2 = (due, inl refl, front_none w w2 (response_to (asked_of call) (closes_by (asked_of call) call) due) f.2) in
     rw f.0 (record { to = goes s.state; ends = (breaks w ms w2 ms2 p s.state call at due gives may none, f.1, f.2); leaves = (refl, kept) })
+finishes_ended g k w ms w2 ms2 p s call at due (Err (ended.Silent, n)) gives may kept f = absurd f
 finishes_ended g k w ms w2 ms2 p s call at due (Err (ended.Bad, n)) gives may kept f = absurd f
 finishes_ended g k w ms w2 ms2 p s call at due (Err (ended.TooMuch, n)) gives may kept f = absurd f
 finishes_ended g k w ms w2 ms2 p s call at due (Err (ended.Stopped, n)) gives may kept f = absurd f

@@ -67,11 +67,17 @@ shown_due : (due shown : Reply) → IsShown due shown → shown ≢ reply.NoMemo
 shown_due due shown (inl e) sure = e
 shown_due due shown (inr e) sure = absurd (sure e.0)
 
-ends_at : (p : Point) (rest taken : List ℕ) (now w ms : Option (List ℕ)) (e : Ended) (to : Outcome) (ends : EndsAtMessage p rest w ms e to ⊎ (IsQuiet p w ms to × EndsBetween taken now rest e)) → (e ≡ ended.Closed) ⊎ (e ≡ ended.Bad)
+ends_at : (p : Point) (rest taken : List ℕ) (now w ms : Option (List ℕ)) (e : Ended) (to : Outcome) (ends : EndsAtMessage p rest w ms e to ⊎ (IsQuiet p w ms to × EndsBetween taken now rest e)) → (e ≡ ended.Silent) ⊎ ((e ≡ ended.Closed) ⊎ (e ≡ ended.Bad))
     → IsSureAtLast p rest taken now w ms e to ends → EndsAt p rest w
+ends_at p rest taken now w ms ended.Silent (goes s) (inl (inl m)) whole sure = absurd m.3
+ends_at p rest taken now w ms ended.Silent (goes s) (inl (inr f)) whole sure = absurd f.2
+ends_at p rest taken now w ms ended.Silent (goes s) (inr q) whole sure = runs_out q.1.1 q.0.0
+ends_at p rest taken now w ms ended.Silent (stops why after) (inl (inl m)) whole sure = absurd m.3
+ends_at p rest taken now w ms ended.Silent (stops why after) (inl (inr f)) whole sure = absurd f.2
+ends_at p rest taken now w ms ended.Silent (stops why after) (inr q) whole sure = absurd q.0
 ends_at p rest taken now w ms ended.Closed (goes s) (inl (inl m)) whole sure = closes_at m.0 m.1 (record { written = w; moments = ms; state = s }) m.2 m.3.0 m.3.1 sure refl
 ends_at p rest taken now w ms ended.Closed (goes s) (inl (inr f)) whole sure = absurd f.2
-ends_at p rest taken now w ms ended.Closed (goes s) (inr q) whole sure = runs_out q.1.1 q.0.0
+ends_at p rest taken now w ms ended.Closed (goes s) (inr q) whole sure = absurd q.1
 ends_at p rest taken now w ms ended.Closed (stops why after) (inl (inl m)) whole sure = absurd m.3
 ends_at p rest taken now w ms ended.Closed (stops why after) (inl (inr f)) whole sure = absurd f.2
 ends_at p rest taken now w ms ended.Closed (stops why after) (inr q) whole sure = absurd q.0
@@ -83,13 +89,17 @@ ends_at p rest taken now w ms ended.Bad (stops why after) (inl (inl m)) whole su
 ends_at p rest taken now w ms ended.Bad (stops why after) (inl (inr f)) whole sure = absurd f.2.0
 ends_at p rest taken now w ms ended.Bad (stops why after) (inr q) whole sure = absurd q.0
 ends_at p rest taken now w ms ended.Failed to ends (inl e) sure = absurd (cc)
-ends_at p rest taken now w ms ended.Failed to ends (inr e) sure = absurd (cc)
+ends_at p rest taken now w ms ended.Failed to ends (inr (inl e)) sure = absurd (cc)
+ends_at p rest taken now w ms ended.Failed to ends (inr (inr e)) sure = absurd (cc)
 ends_at p rest taken now w ms ended.TooMuch to ends (inl e) sure = absurd (cc)
-ends_at p rest taken now w ms ended.TooMuch to ends (inr e) sure = absurd (cc)
+ends_at p rest taken now w ms ended.TooMuch to ends (inr (inl e)) sure = absurd (cc)
+ends_at p rest taken now w ms ended.TooMuch to ends (inr (inr e)) sure = absurd (cc)
 ends_at p rest taken now w ms ended.NoMemory to ends (inl e) sure = absurd (cc)
-ends_at p rest taken now w ms ended.NoMemory to ends (inr e) sure = absurd (cc)
+ends_at p rest taken now w ms ended.NoMemory to ends (inr (inl e)) sure = absurd (cc)
+ends_at p rest taken now w ms ended.NoMemory to ends (inr (inr e)) sure = absurd (cc)
 ends_at p rest taken now w ms ended.Stopped to ends (inl e) sure = absurd (cc)
-ends_at p rest taken now w ms ended.Stopped to ends (inr e) sure = absurd (cc)
+ends_at p rest taken now w ms ended.Stopped to ends (inr (inl e)) sure = absurd (cc)
+ends_at p rest taken now w ms ended.Stopped to ends (inr (inr e)) sure = absurd (cc)
 
 -- ---- the same messages
 

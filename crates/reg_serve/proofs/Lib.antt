@@ -1,6 +1,8 @@
 mod Answering
+mod Conversing
 mod Cutting
 mod Exactly
+mod Joining
 mod Turning
 mod Upkeep
 mod Upvisits

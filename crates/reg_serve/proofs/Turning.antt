@@ -25,7 +25,7 @@ use Rattle.reg_session.specs.Answered.{Point}
 use Rattle.reg_session.specs.Input.{Takes}
 use Rattle.reg_calls.specs.Asked.{closes}
 use Rattle.reg_serve.specs.Answered.{Answered, Outcome, goes, stops}
-use Rattle.reg_serve.specs.Keeping.{EndsTurnsOf, IsLeft, ReadLeaves, SessionOf, TurnLeaves}
+use Rattle.reg_serve.specs.Keeping.{EndsTurnsOf, IsLeft, ReadLeaves, SessionOf, SessionRests, TurnLeaves}
 use Rattle.reg_serve.specs.Sessions.{Remains, Serves, TurnFails, TurnServed, EndsTurn, EndsAtMessage, EndsBetween, IsQuiet, HasServed}
 use Rattle.reg_serve.specs.declared.ended.Ended.{Ended}
 use Rattle.reg_serve.specs.declared.ended.Ended.TheVariants as ended
@@ -206,6 +206,30 @@ pub turn_ends : (taken : List ℕ) (now : Option (List ℕ)) (p : Point) (readin
 turn_ends taken now p reading w ms e to (inl at) = inl at
 turn_ends taken now p reading w ms e to (inr quiet) = inr (quiet.0, rw quiet.1 tt)
 
+-- no message ends a connection since no more bytes came
+pub never_silent : (p : Point) (reading : Reading) (w ms : Option (List ℕ)) (to : Outcome) → EndsTurn p reading w ms ended.Silent to → ⊥
+never_silent p reading w ms (goes s) (inl (inl m)) = m.3
+never_silent p reading w ms (goes s) (inl (inr f)) = f.2
+never_silent p reading w ms (goes s) (inr quiet) = absurd (cc)
+never_silent p reading w ms (stops why after) (inl (inl m)) = m.3
+never_silent p reading w ms (stops why after) (inl (inr f)) = f.2
+never_silent p reading w ms (stops why after) (inr quiet) = absurd (cc)
+
+-- so where one did, nothing is said of what was read of it last
+unfoldable pub session_rests : {K : Type 0} (g : Ghosts K) (before p : Point) (first k : K) (left now : Option (List ℕ)) (old : Reading) (w ms : Option (List ℕ)) (rest : List ℕ) (e : Ended × Next K) → EndsTurnsOf g p k old w ms e → SessionOf g before first left now w ms e
+    → SessionRests g before first left now w ms rest e
+session_rests g before p first k left now old w ms rest e t l = (l, λ is. absurd (never_silent t.turns.last t.turns.reading w ms t.to (rw is at t.turns.ends)))
+
+pub failed_otherwise : ended.Failed ≡ ended.Silent → ⊥
+failed_otherwise is = absurd (cc)
+
+pub too_much_otherwise : ended.TooMuch ≡ ended.Silent → ⊥
+too_much_otherwise is = absurd (cc)
+
+-- nor where it ended otherwise
+pub other_rests : {K : Type 0} (g : Ghosts K) (before : Point) (first : K) (left now w ms : Option (List ℕ)) (rest : List ℕ) (e : Ended × Next K) → (e.0 ≡ ended.Silent → ⊥) → SessionOf g before first left now w ms e → SessionRests g before first left now w ms rest e
+other_rests g before first left now w ms rest e not l = (l, λ is. absurd (not is))
+
 -- it ended before anything was read
 unfoldable pub session_first : {K : Type 0} (g : Ghosts K) (k : K) (left : Option (List ℕ)) (p : Point) (w ms : Option (List ℕ)) (e : Ended × Next K) → HasGiven [] [] start → EndsTurnsOf g p k start w ms e → SessionOf g p k left left w ms e
 session_first g k left p w ms e begun t = record {
@@ -264,6 +288,14 @@ session_piece g k0 k1 law left mid now p q before count piece w ms e h kept read
   leaves = left_then g p.state.history q.state.history k0 k1 t.turns.last.state.history t.to e.1 kept t.leaves;
 }
 
+pub first_rests : {K : Type 0} (g : Ghosts K) (k : K) (left : Option (List ℕ)) (p : Point) (w ms : Option (List ℕ)) (rest : List ℕ) (e : Ended × Next K) → HasGiven [] [] start → EndsTurnsOf g p k start w ms e → SessionRests g p k left left w ms rest e
+first_rests g k left p w ms rest e begun t = session_rests g p p k k left left start w ms rest e t (session_first g k left p w ms e begun t)
+
+pub piece_rests : {K : Type 0} (g : Ghosts K) (k0 k1 : K) (law : FedLaw) (left mid now : Option (List ℕ)) (p q : Point) (before : Reading) (count : ℕ) (piece : List ℕ) (w ms : Option (List ℕ)) (rest : List ℕ) (e : Ended × Next K) → HasServed left mid p q before count
+    → KeptOn g p.state.history k0 q.state.history k1 → mid ≡ prepend_known piece now → count + length piece ≤ 2 ^ 32 → EndsTurnsOf g q k1 (fed before piece) w ms e → SessionRests g p k0 left now w ms rest e
+piece_rests g k0 k1 law left mid now p q before count piece w ms rest e h kept read few t =
+    session_rests g p q k0 k1 left now (fed before piece) w ms rest e t (session_piece g k0 k1 law left mid now p q before count piece w ms e h kept read few t)
+
 -- a read failed, or 2^32 bytes were read
 pub session_still : {K : Type 0} (g : Ghosts K) (k0 : K) (left mid now : Option (List ℕ)) (p : Point) (s : Served K) (before : Reading) (count : ℕ) (w0 w ms : Option (List ℕ)) (e : Ended)
     → HasServed left mid p (record { written = w0; moments = ms; state = s.state }) before count → KeptOn g p.state.history k0 s.state.history s.keeper
@@ -288,23 +320,26 @@ session_still g k0 left mid now p s before count w0 w ms e h kept same still few
 -- its bytes ended
 pub session_end : {K : Type 0} (g : Ghosts K) (k0 : K) (left mid now : Option (List ℕ)) (p : Point) (s : Served K) (before : Reading) (count : ℕ) (bs : List ℕ) (n : ℕ) (w0 w ms : Option (List ℕ))
     → HasServed left mid p (record { written = w0; moments = ms; state = s.state }) before count → KeptOn g p.state.history k0 s.state.history s.keeper → w ≡ w0
-    → mid ≡ prepend_known (take n bs) now → n ≡ 0 → IsAtEnd now → count < 2 ^ 32 → IsUnfinished before.rest → SessionOf g p k0 left now w ms (ended.Closed, next.Go s)
-session_end g k0 left mid now p s before count bs n w0 w ms h kept still read none at few unfinished = record {
-  to = goes s.state;
-  session = record {
-    taken = h.taken;
-    input = took_none left mid now h.taken bs n h.input read none;
-    few = omega (arith, h.counted, few);
-    calls = h.calls;
-    open_still = h.open_still;
-    last = record { written = w0; moments = ms; state = s.state };
-    all = h.all;
-    reading = before;
-    given = h.given;
-    ends = inr ((still, refl, refl), (at, unfinished, omega (arith, h.counted, few)));
-  };
-  leaves = (refl, kept);
-}
+    → mid ≡ prepend_known (take n bs) now → n ≡ 0 → IsAtEnd now → count < 2 ^ 32 → IsUnfinished before.rest → SessionRests g p k0 left now w ms before.rest (ended.Silent, next.Go s)
+session_end g k0 left mid now p s before count bs n w0 w ms h kept still read none at few unfinished = (
+  record {
+    to = goes s.state;
+    session = record {
+      taken = h.taken;
+      input = took_none left mid now h.taken bs n h.input read none;
+      few = omega (arith, h.counted, few);
+      calls = h.calls;
+      open_still = h.open_still;
+      last = record { written = w0; moments = ms; state = s.state };
+      all = h.all;
+      reading = before;
+      given = h.given;
+      ends = inr ((still, refl, refl), (at, unfinished, omega (arith, h.counted, few)));
+    };
+    leaves = (refl, kept);
+  },
+  λ is. refl,
+)
 
 -- a count of faults that rose has risen from before
 pub rose_more : (a b c x y z : ℕ) → a ≤ b → x ≤ y → Rose b c ⊎ Rose y z → Rose a c ⊎ Rose x z

@@ -46,13 +46,13 @@ use Rattle.reg_calls.specs.Responses.{response_to, fault_response}
 use Rattle.reg_calls.specs.declared.asked.Asked.{Asked}
 use Rattle.reg_serve.specs.Answered.{MayReply, Outcome, Question, goes, last_response, reads, refuses, stops}
 use Rattle.reg_serve.specs.Keeping.{IsLeft, TurnLeaves}
-use Rattle.reg_serve.specs.KeepingUp.{IsResponse, KeepsUpOn, KeepsUpTo, ReadKeepsUp, SessionKeepsUp, TurnKeepsUp, TurnsKeepUp}
+use Rattle.reg_serve.specs.KeepingUp.{IsResponse, KeepsUpOn, KeepsUpTo, ReadKeepsUp, RestsKeepUp, TurnKeepsUp, TurnsKeepUp}
 use Rattle.reg_serve.specs.Sent.{Finishes, SentFault, SentFaultFront}
 use Rattle.reg_serve.specs.Sessions.{HasServed, Serves}
 use Rattle.reg_serve.specs.declared.ended.Ended.{Ended}
 use Rattle.reg_serve.specs.declared.ended.Ended.TheVariants as ended
 use Rattle.reg_serve.proofs.Answering.{front_none}
-use Rattle.reg_serve.proofs.Turning.{FedLaw, ends_behind, fails_turn, session_first, session_piece}
+use Rattle.reg_serve.proofs.Turning.{FedLaw, ends_behind, fails_turn, session_first, session_piece, session_rests}
 
 -- ---- the number that a reply tells
 
@@ -195,6 +195,7 @@ finishes_part g first moment w w2 ms ms2 s a call due (ended.Closed, n) of kept 
 finishes_part g first moment w w2 ms ms2 s a call due (ended.Failed, n) of kept set f = (f.0, response_up WritesFront g first moment s w w2 ms ms2 a (closes_by a call) due f.1.0 of kept set f.1.1 f.1.2)
 finishes_part g first moment w w2 ms ms2 s a call due (ended.NoMemory, n) of kept set f =
     (f.0, response_up WritesFront g first moment s w w2 ms ms2 a (closes_by a call) due due of kept set (inl refl) (front_none w w2 (response_to a (closes_by a call) due) f.2))
+finishes_part g first moment w w2 ms ms2 s a call due (ended.Silent, n) of kept set f = absurd f
 finishes_part g first moment w w2 ms ms2 s a call due (ended.Bad, n) of kept set f = absurd f
 finishes_part g first moment w w2 ms ms2 s a call due (ended.TooMuch, n) of kept set f = absurd f
 finishes_part g first moment w w2 ms ms2 s a call due (ended.Stopped, n) of kept set f = absurd f
@@ -259,16 +260,16 @@ behind_up g k0 k1 p q old mid o0 o1 o2 ms e served kept a r =
 
 -- ---- the connection as a whole
 
-pub session_first_up : {K : Type 0} (g : Ghosts K) (k : K) (left : Option (List ℕ)) (p : Point) (old new : Output) (ms : Option (List ℕ)) (e : Ended × Next K) → HasGiven [] [] start → TurnsKeepUp g p k start old new ms e
-    → SessionKeepsUp g p k left left old new ms e
-unfolding session_first
-session_first_up g k left p old new ms e begun t = (session_first g k left p new.written ms e begun t.0, t.1)
+pub session_first_up : {K : Type 0} (g : Ghosts K) (k : K) (left : Option (List ℕ)) (p : Point) (old new : Output) (ms : Option (List ℕ)) (rest : List ℕ) (e : Ended × Next K) → HasGiven [] [] start → TurnsKeepUp g p k start old new ms e
+    → RestsKeepUp g p k left left old new ms rest e
+unfolding session_first session_rests
+session_first_up g k left p old new ms rest e begun t = (session_rests g p p k k left left start new.written ms rest e t.0 (session_first g k left p new.written ms e begun t.0), t.1)
 
-pub session_piece_up : {K : Type 0} (g : Ghosts K) (k0 k1 : K) (law : FedLaw) (left mid now : Option (List ℕ)) (p q : Point) (before : Reading) (count : ℕ) (piece : List ℕ) (o0 o1 o2 : Output) (ms : Option (List ℕ)) (e : Ended × Next K)
+pub session_piece_up : {K : Type 0} (g : Ghosts K) (k0 k1 : K) (law : FedLaw) (left mid now : Option (List ℕ)) (p q : Point) (before : Reading) (count : ℕ) (piece : List ℕ) (o0 o1 o2 : Output) (ms : Option (List ℕ)) (rest : List ℕ) (e : Ended × Next K)
     → HasServed left mid p q before count → KeptOn g p.state.history k0 q.state.history k1 → mid ≡ prepend_known piece now → count + length piece ≤ 2 ^ 32 → KeepsUp g IsResponse k0 o0 o1 q.state.history k1
-    → TurnsKeepUp g q k1 (fed before piece) o1 o2 ms e → SessionKeepsUp g p k0 left now o0 o2 ms e
-unfolding session_piece
-session_piece_up g k0 k1 law left mid now p q before count piece o0 o1 o2 ms e h kept read few a t = (
-  session_piece g k0 k1 law left mid now p q before count piece o2.written ms e h kept read few t.0,
+    → TurnsKeepUp g q k1 (fed before piece) o1 o2 ms e → RestsKeepUp g p k0 left now o0 o2 ms rest e
+unfolding session_piece session_rests
+session_piece_up g k0 k1 law left mid now p q before count piece o0 o1 o2 ms rest e h kept read few a t = (
+  session_rests g p q k0 k1 left now (fed before piece) o2.written ms rest e t.0 (session_piece g k0 k1 law left mid now p q before count piece o2.written ms e h kept read few t.0),
   up_behind g p.state.history q.state.history k0 k1 t.0.turns.last.state.history t.0.to e.1 o0 o1 o2 kept t.0.leaves a t.1,
 )

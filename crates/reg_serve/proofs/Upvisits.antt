@@ -2,6 +2,7 @@
 use Rattle.std.proofs.Common.{◌≡◌, ◌≤◌, ◌<◌, ◌+◌, ◌++◌, ◌∷◌, [], List, ℕ, Option, Some, Result, Ok, refl, ◌⊎◌}
 use Rattle.std.proofs.lemmas.List.Elements.{All-append, All-cons, All-nil, All-weaker}
 use Rattle.reg_outside.specs.Connections.{Accepts, Connections, Seen}
+use Rattle.reg_outside.specs.declared.listener.Accepted.{Accepted}
 use Rattle.reg_outside.specs.Streams.{WritesFront}
 use Rattle.reg_terms.specs.declared.command.Stamped.{Stamped}
 use Rattle.reg_machine.specs.History.{State}
@@ -16,10 +17,10 @@ use Rattle.reg_service.specs.declared.service.Next.TheVariants as next
 use Rattle.reg_serve.specs.Answered.{Outcome, goes, stops}
 use Rattle.reg_serve.specs.Keeping.{IsLeft}
 use Rattle.reg_serve.specs.KeepingUp.{BackKeepsUp, IsResponse, KeepsUpTo, VisitsKeepUp, output_seen}
-use Rattle.reg_serve.specs.Visits.{CeasesNext, CeasesServing, IsVisit, ServedSo, ServesVisits, Visit, Visits, ceased_of}
+use Rattle.reg_serve.specs.Visits.{CeasesNext, CeasesServing, IsVisit, NoneComes, ServedSo, ServesVisits, Visit, Visits, ceased_of}
 use Rattle.reg_serve.specs.declared.ended.Ceased.{Ceased}
 use Rattle.reg_serve.specs.declared.ended.Ceased.TheVariants as ceased
-use Rattle.reg_serve.proofs.Visiting.{NoneComes, ceases_first, ceases_listener, ceases_stopped, ceases_then, one_told, served_none, served_then, serves_all}
+use Rattle.reg_serve.proofs.Visiting.{ceases_first, ceases_listener, ceases_stopped, ceases_then, one_told, served_none, served_then, serves_all}
 
 -- one connection
 abbrev IsUp : {K : Type 0} → Ghosts K → K → List Stamped → K → Visit → Type 0
@@ -43,19 +44,19 @@ unfolding served_none
 served_none_up g first keeper s ms old new told = (served_none s ms old new told, All-nil (IsUp g first s.history keeper))
 
 -- one was, after which the service goes on
-pub served_one_up : {C E K : Type 0} (see : C → Seen) (g : Ghosts K) (s : State) (k : K) (ms : Option (List ℕ)) (old mid new : Option Connections) (later : Option (List ℕ)) (conn : C) (r : Result (Option C) E) (n : Next K) (after : Served K)
-    → Accepts see old mid r → r ≡ Ok (Some conn) → BackKeepsUp g s k ms (see conn) mid new later n → n ≡ next.Go after
+pub served_one_up : {C E K : Type 0} (see : C → Seen) (g : Ghosts K) (s : State) (k : K) (ms : Option (List ℕ)) (old mid new : Option Connections) (later : Option (List ℕ)) (accepted : Accepted C) (r : Result (Option (Accepted C)) E) (n : Next K) (after : Served K)
+    → Accepts see old mid r → r ≡ Ok (Some accepted) → BackKeepsUp g s k ms accepted.number (see accepted.conn) mid new later n → n ≡ next.Go after
     → (x : ServedSo 1 s ms old new after.state later) × VisitsKeepUp g k after.state.history after.keeper x.visits
-served_one_up see g s k ms old mid new later conn r n after a took b is = go b.0.to b.0.is (rw is at b.0.leaves) (rw is at b.1)
+served_one_up see g s k ms old mid new later accepted r n after a took b is = go b.0.to b.0.is (rw is at b.0.leaves) (rw is at b.1)
   where
     visit : Visit
-    visit = record { came = see conn; back = b.0.back }
+    visit = record { number = accepted.number; came = see accepted.conn; back = b.0.back; unfinished = b.0.unfinished }
 
-    go : (to : Outcome) (v : IsVisit s ms (record { came = see conn; back = b.0.back }) b.0.end to later) → IsLeft g s.history k v.session.last.state.history to (next.Go after)
-        → KeepsUpTo g k (output_seen (see conn)) (output_seen b.0.back) (next.Go after) to → (x : ServedSo 1 s ms old new after.state later) × VisitsKeepUp g k after.state.history after.keeper x.visits
+    go : (to : Outcome) (v : IsVisit s ms (record { number = accepted.number; came = see accepted.conn; back = b.0.back; unfinished = b.0.unfinished }) b.0.end to later) → IsLeft g s.history k v.session.last.state.history to (next.Go after)
+        → KeepsUpTo g k (output_seen (see accepted.conn)) (output_seen b.0.back) (next.Go after) to → (x : ServedSo 1 s ms old new after.state later) × VisitsKeepUp g k after.state.history after.keeper x.visits
     go (goes t) v l up = (
-      record { visits = (record { came = see conn; back = b.0.back }) ∷ []; told = one_told see old mid new conn b.0.back r a took b.0.told; counted = refl; sessions = (b.0.end, t, later, v, (l.0, refl)) },
-      one_up g k after.keeper after.state.history (record { came = see conn; back = b.0.back }) up,
+      record { visits = (record { number = accepted.number; came = see accepted.conn; back = b.0.back; unfinished = b.0.unfinished }) ∷ []; told = one_told see old mid new accepted b.0.back b.0.unfinished r a took b.0.told; counted = refl; sessions = (b.0.end, t, later, v, (l.0, refl)) },
+      one_up g k after.keeper after.state.history (record { number = accepted.number; came = see accepted.conn; back = b.0.back; unfinished = b.0.unfinished }) up,
     )
     go (stops why h) v l up = absurd l
 
@@ -66,19 +67,19 @@ unfolding ceases_listener
 ceases_listener_up g count s last k kept keeper ms old new later served one h answered after same = (ceases_listener g count s last k keeper ms old new later served.0 one h answered after, rw (after, same) served.1)
 
 -- the service stopped at it
-pub stopped_one_up : {C E K : Type 0} (see : C → Seen) (g : Ghosts K) (s : State) (k : K) (ms : Option (List ℕ)) (old mid new : Option Connections) (later : Option (List ℕ)) (conn : C) (r : Result (Option C) E) (n : Next K) (why : Cause) (keeper : K)
-    → Accepts see old mid r → r ≡ Ok (Some conn) → BackKeepsUp g s k ms (see conn) mid new later n → n ≡ next.Stop why keeper → (c : CeasesNext g s k ms old new later (ceased_of why) keeper) × VisitsKeepUp g k c.halted.after keeper c.visits
+pub stopped_one_up : {C E K : Type 0} (see : C → Seen) (g : Ghosts K) (s : State) (k : K) (ms : Option (List ℕ)) (old mid new : Option Connections) (later : Option (List ℕ)) (accepted : Accepted C) (r : Result (Option (Accepted C)) E) (n : Next K) (why : Cause) (keeper : K)
+    → Accepts see old mid r → r ≡ Ok (Some accepted) → BackKeepsUp g s k ms accepted.number (see accepted.conn) mid new later n → n ≡ next.Stop why keeper → (c : CeasesNext g s k ms old new later (ceased_of why) keeper) × VisitsKeepUp g k c.halted.after keeper c.visits
 unfolding ceases_stopped
-stopped_one_up see g s k ms old mid new later conn r n why keeper a took b is = go b.0.to b.0.is (rw is at b.0.leaves) (rw is at b.1)
+stopped_one_up see g s k ms old mid new later accepted r n why keeper a took b is = go b.0.to b.0.is (rw is at b.0.leaves) (rw is at b.1)
   where
     visit : Visit
-    visit = record { came = see conn; back = b.0.back }
+    visit = record { number = accepted.number; came = see accepted.conn; back = b.0.back; unfinished = b.0.unfinished }
 
-    go : (to : Outcome) (v : IsVisit s ms visit b.0.end to later) → IsLeft g s.history k v.session.last.state.history to (next.Stop why keeper) → KeepsUpTo g k (output_seen (see conn)) (output_seen b.0.back) (next.Stop why keeper) to
+    go : (to : Outcome) (v : IsVisit s ms visit b.0.end to later) → IsLeft g s.history k v.session.last.state.history to (next.Stop why keeper) → KeepsUpTo g k (output_seen (see accepted.conn)) (output_seen b.0.back) (next.Stop why keeper) to
         → (c : CeasesNext g s k ms old new later (ceased_of why) keeper) × VisitsKeepUp g k c.halted.after keeper c.visits
     go (goes t) v l up = absurd l
     go (stops cause after) v l up = (
-      ceases_stopped g s k keeper ms old new later visit b.0.end why cause after v l.1.0 l.0 l.1.1 l.1.2 (one_told see old mid new conn b.0.back r a took b.0.told),
+      ceases_stopped g s k keeper ms old new later visit b.0.end why cause after v l.1.0 l.0 l.1.1 l.1.2 (one_told see old mid new accepted b.0.back b.0.unfinished r a took b.0.told),
       rw l.1.2 (one_up g k keeper after visit up),
     )
 

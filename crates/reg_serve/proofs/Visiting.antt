@@ -1,8 +1,8 @@
 -- From connection to connection of a listener.
-use Rattle.std.proofs.Common.{◌≡◌, ◌≤◌, ◌<◌, ◌+◌, ◌++◌, ◌∷◌, [], List, ℕ, Option, Some, None, Result, Ok, Err, refl, ap, sym, ◌∙◌, append_assoc, append-nil, arith, inl, inr, ◌⊎◌, length, length-append, map, option_map}
-use Rattle.std.specs.Prelude.{IfSome}
-use Rattle.std.proofs.lemmas.List.{map-append}
-use Rattle.reg_outside.specs.Connections.{Accepts, Connections, HasOpen, Seen, gives_back}
+use Rattle.std.proofs.Common.{◌≡◌, ◌≤◌, ◌<◌, ◌+◌, ◌++◌, ◌∷◌, [], List, ℕ, Option, Some, None, Result, Ok, Err, refl, ap, sym, ◌∙◌, append_assoc, arith, inl, inr, ◌⊎◌, length, length-append, option_map}
+use Rattle.std.specs.Prelude.{IfSome, OnOk, OnErr}
+use Rattle.reg_outside.specs.Connections.{Accepts, Arrival, Connections, HasOut, HasTurn, Seen, back_of, gives_back, next_turn, opens, sends}
+use Rattle.reg_outside.specs.declared.listener.Accepted.{Accepted}
 use Rattle.reg_outside.specs.Faults.{Rose}
 use Rattle.reg_terms.specs.declared.command.Stamped.{Stamped}
 use Rattle.reg_machine.specs.History.{State}
@@ -16,79 +16,90 @@ use Rattle.reg_service.specs.declared.service.Next.TheVariants as next
 use Rattle.reg_session.proofs.Halting.{halted_then}
 use Rattle.reg_serve.specs.Answered.{Outcome, goes, stops}
 use Rattle.reg_serve.specs.Keeping.{IsLeft}
-use Rattle.reg_serve.specs.Visits.{BreaksAt, CeasesAt, CeasesNext, CeasesServing, GivesBack, IsVisit, ServedSo, ServesVisits, Sessions, StopsAtLast, Visit, Visits, ceased_of}
+use Rattle.reg_serve.specs.Visits.{BreaksAt, CeasesAt, CeasesNext, CeasesServing, GivesBack, IsVisit, NoneComes, ServedSo, ServesVisits, Sessions, StopsAtLast, Visit, Visited, Visits, ceased_of}
 use Rattle.reg_serve.specs.declared.ended.Ceased.{Ceased}
 use Rattle.reg_serve.specs.declared.ended.Ceased.TheVariants as ceased
 use Rattle.reg_serve.specs.declared.ended.Ended.{Ended}
+use Rattle.reg_serve.specs.declared.ended.Ended.TheVariants as ended
 
 -- ---- what a listener tells
 
-abbrev pub NoneComes : Option Connections → Type 0
-NoneComes told = IfSome told (λ (c : Connections). c.coming ≡ [])
-
-abbrev IsSteady : Option Connections → Type 0
-IsSteady told = IfSome told (λ (c : Connections). length c.given_back ≤ c.accepted)
-
 -- an accepted connection can be given back
-pub accepted_open : {C E : Type 0} (see : C → Seen) (old new : Option Connections) (conn : C) (r : Result (Option C) E) → IsSteady old → Accepts see old new r → r ≡ Ok (Some conn) → IfSome new HasOpen
-accepted_open {E = E} see old new conn r steady a is = go old new steady (rw is at a)
+pub accepted_out : {C E : Type 0} (see : C → Seen) (old new : Option Connections) (accepted : Accepted C) (r : Result (Option (Accepted C)) E) → Accepts see old new r → r ≡ Ok (Some accepted) → IfSome new HasOut
+accepted_out {E = E} see old new accepted r a is = go old new (rw is at a)
   where
-    go : (old new : Option Connections) → IsSteady old → Accepts {E = E} see old new (Ok (Some conn)) → IfSome new HasOpen
-    go None None s a = tt
-    go None (Some n) s a = absurd a
-    go (Some o) None s a = absurd a
-    go (Some o) (Some n) s a = omega (arith, s, a.accepted, ap (λ (l : List Seen). length l) a.given_back)
+    had : (turns : List Arrival) (number : ℕ) (conn : Seen) (old new : Connections) → HasTurn turns number conn old new → HasOut new
+    had [] number conn old new t = absurd t
+    had (opens first ∷ more) number conn old new t = rw t.2 (omega arith)
+    had (sends sender bytes ∷ more) number conn old new t = rw t.2 (omega arith)
+
+    go : (old new : Option Connections) → Accepts {E = E} see old new (Ok (Some accepted)) → IfSome new HasOut
+    go None None a = tt
+    go None (Some n) a = absurd a
+    go (Some o) None a = absurd a
+    go (Some o) (Some n) a = had (next_turn o.given_back o.coming) accepted.number (see accepted.conn) o n a
 
 -- none was accepted: the call failed, or none is to come
-pub failed_told : {C E : Type 0} (see : C → Seen) (old new : Option Connections) (e : E) (r : Result (Option C) E) → Accepts see old new r → r ≡ Err e → Visits old new []
+pub failed_told : {C E : Type 0} (see : C → Seen) (old new : Option Connections) (e : E) (r : Result (Option (Accepted C)) E) → Accepts see old new r → r ≡ Err e → Visits old new []
 failed_told {C = C} see old new e r a is = go old new (rw is at a)
   where
     go : (old new : Option Connections) → Accepts {C = C} see old new (Err e) → Visits old new []
     go None None a = tt
     go None (Some n) a = absurd a
     go (Some o) None a = absurd a
-    go (Some o) (Some n) a = rw a (record { coming = refl; accepted = omega arith; given_back = sym (append-nil o.given_back) })
+    go (Some o) (Some n) a = a
 
-pub none_told : {C E : Type 0} (see : C → Seen) (old new : Option Connections) (r : Result (Option C) E) → Accepts see old new r → r ≡ Ok None → Visits old new [] × NoneComes new
+pub none_told : {C E : Type 0} (see : C → Seen) (old new : Option Connections) (r : Result (Option (Accepted C)) E) → Accepts see old new r → r ≡ Ok None → Visits old new [] × NoneComes new
 none_told {C = C} {E = E} see old new r a is = go old new (rw is at a)
   where
     go : (old new : Option Connections) → Accepts {C = C} {E = E} see old new (Ok None) → Visits old new [] × NoneComes new
     go None None a = (tt, tt)
     go None (Some n) a = absurd a
     go (Some o) None a = absurd a
-    go (Some o) (Some n) a = rw a.1 (record { coming = refl; accepted = omega arith; given_back = sym (append-nil o.given_back) }, a.0)
+    go (Some o) (Some n) a = (a.1, rw a.1 a.0)
 
 -- one was, and it was given back
-pub one_told : {C E : Type 0} (see : C → Seen) (old mid new : Option Connections) (conn : C) (back : Seen) (r : Result (Option C) E) → Accepts see old mid r → r ≡ Ok (Some conn) → new ≡ option_map (gives_back back) mid
-    → Visits old new ((record { came = see conn; back = back }) ∷ [])
-one_told {E = E} see old mid new conn back r a is told = rw told (go old mid (rw is at a))
+pub one_told : {C E : Type 0} (see : C → Seen) (old mid new : Option Connections) (accepted : Accepted C) (back : Seen) (left : Option (List ℕ)) (r : Result (Option (Accepted C)) E) → Accepts see old mid r → r ≡ Ok (Some accepted)
+    → new ≡ option_map (gives_back (back_of accepted.number back left)) mid → Visits old new ((record { number = accepted.number; came = see accepted.conn; back = back; unfinished = left }) ∷ [])
+one_told {E = E} see old mid new accepted back left r a is told = rw told (go old mid (rw is at a))
   where
-    go : (old mid : Option Connections) → Accepts {E = E} see old mid (Ok (Some conn)) → Visits old (option_map (gives_back back) mid) ((record { came = see conn; back = back }) ∷ [])
+    go : (old mid : Option Connections) → Accepts {E = E} see old mid (Ok (Some accepted))
+        → Visits old (option_map (gives_back (back_of accepted.number back left)) mid) ((record { number = accepted.number; came = see accepted.conn; back = back; unfinished = left }) ∷ [])
     go None None a = tt
     go None (Some m) a = absurd a
     go (Some o) None a = absurd a
-    go (Some o) (Some m) a = record { coming = a.coming; accepted = a.accepted; given_back = ap (λ (l : List Seen). l ++ back ∷ []) a.given_back }
+    go (Some o) (Some m) a = (gives_back (back_of accepted.number back left) m, record { out = m; had = a; back = refl }, refl)
 
 -- some visits, and then others
+visited_then : (old mid new : Connections) (xs ys : List Visit) → Visited old mid xs → Visited mid new ys → Visited old new (xs ++ ys)
+visited_then old mid new [] ys a b = rw a at b
+visited_then old mid new (x ∷ xs) ys a b = (a.0, a.1, visited_then a.0 mid new xs ys a.2 b)
+
 pub visits_then : (old mid new : Option Connections) (xs ys : List Visit) → Visits old mid xs → Visits mid new ys → Visits old new (xs ++ ys)
 visits_then None None None xs ys a b = tt
 visits_then None None (Some n) xs ys a b = absurd b
 visits_then None (Some m) new xs ys a b = absurd a
 visits_then (Some o) None new xs ys a b = absurd a
 visits_then (Some o) (Some m) None xs ys a b = absurd b
-visits_then (Some o) (Some m) (Some n) xs ys a b = record {
-  coming = a.coming ∙ (ap (λ (l : List Seen). map (λ (v : Visit). v.came) xs ++ l) b.coming
-      ∙ (sym (append_assoc (map (λ (v : Visit). v.came) xs) (map (λ (v : Visit). v.came) ys) n.coming) ∙ ap (λ (l : List Seen). l ++ n.coming) (sym (map-append (λ (v : Visit). v.came) xs ys))));
-  accepted = omega (arith, a.accepted, b.accepted, length-append xs ys);
-  given_back = b.given_back ∙ (ap (λ (l : List Seen). l ++ map (λ (v : Visit). v.back) ys) a.given_back
-      ∙ (append_assoc o.given_back (map (λ (v : Visit). v.back) xs) (map (λ (v : Visit). v.back) ys) ∙ ap (λ (l : List Seen). o.given_back ++ l) (sym (map-append (λ (v : Visit). v.back) xs ys))));
-}
+visits_then (Some o) (Some m) (Some n) xs ys a b = visited_then o m n xs ys a b
 
 -- ---- sessions
 
 pub sessions_then : (s mid last : State) (ms between later : Option (List ℕ)) (xs ys : List Visit) → Sessions s ms xs mid between → Sessions mid between ys last later → Sessions s ms (xs ++ ys) last later
 sessions_then s mid last ms between later [] ys a b = rw (← a.0, ← a.1) b
 sessions_then s mid last ms between later (x ∷ xs) ys a b = (a.0, a.1, a.2, a.3, sessions_then a.1 mid last a.2 between later xs ys a.4 b)
+
+-- a connection that no more bytes came of is open, or over where it couldn't be given back
+pub silent_back : {A E : Type 0} (r : Result A E) (end : Ended) (unfinished : List ℕ) (number : ℕ) (conn : Seen) (old new : Option Connections) → end ≡ ended.Silent → OnOk r (new ≡ option_map (gives_back (back_of number conn (Some unfinished))) old)
+    → OnErr r (new ≡ option_map (gives_back (back_of number conn None)) old) → (left : Option (List ℕ)) × IfSome left (λ bytes. (end ≡ ended.Silent) × (unfinished ≡ bytes)) × (new ≡ option_map (gives_back (back_of number conn left)) old)
+silent_back (Ok x) end unfinished number conn old new is back over = (Some unfinished, (is, refl), back)
+silent_back (Err e) end unfinished number conn old new is back over = (None, tt, over)
+
+-- what a connection may come again with is what was read of it last
+pub rests_so : (e : Ended) (rest held unfinished : List ℕ) (left : Option (List ℕ)) → (e ≡ ended.Silent → rest ≡ held) → unfinished ≡ held → IfSome left (λ bytes. (e ≡ ended.Silent) × (unfinished ≡ bytes))
+    → IfSome left (λ bytes. (e ≡ ended.Silent) × (rest ≡ bytes))
+rests_so e rest held unfinished None so is back = tt
+rests_so e rest held unfinished (Some bytes) so is back = (back.0, so back.0 ∙ (sym is ∙ back.1))
 
 -- ---- one connection
 
@@ -97,15 +108,15 @@ unfoldable pub served_none : (s : State) (ms : Option (List ℕ)) (old new : Opt
 served_none s ms old new told = record { visits = []; told = told; counted = refl; sessions = (refl, refl) }
 
 -- one was, after which the service goes on
-pub served_one : {C E K : Type 0} (see : C → Seen) (g : Ghosts K) (s : State) (k : K) (ms : Option (List ℕ)) (old mid new : Option Connections) (later : Option (List ℕ)) (conn : C) (r : Result (Option C) E) (n : Next K) (after : Served K)
-    → Accepts see old mid r → r ≡ Ok (Some conn) → GivesBack g s k ms (see conn) mid new later n → n ≡ next.Go after
+pub served_one : {C E K : Type 0} (see : C → Seen) (g : Ghosts K) (s : State) (k : K) (ms : Option (List ℕ)) (old mid new : Option Connections) (later : Option (List ℕ)) (accepted : Accepted C) (r : Result (Option (Accepted C)) E) (n : Next K) (after : Served K)
+    → Accepts see old mid r → r ≡ Ok (Some accepted) → GivesBack g s k ms accepted.number (see accepted.conn) mid new later n → n ≡ next.Go after
     → ServedSo 1 s ms old new after.state later × KeptOn g s.history k after.state.history after.keeper
-served_one see g s k ms old mid new later conn r n after a took b is = go b.to b.is (rw is at b.leaves)
+served_one see g s k ms old mid new later accepted r n after a took b is = go b.to b.is (rw is at b.leaves)
   where
-    go : (to : Outcome) (v : IsVisit s ms (record { came = see conn; back = b.back }) b.end to later) → IsLeft g s.history k v.session.last.state.history to (next.Go after)
+    go : (to : Outcome) (v : IsVisit s ms (record { number = accepted.number; came = see accepted.conn; back = b.back; unfinished = b.unfinished }) b.end to later) → IsLeft g s.history k v.session.last.state.history to (next.Go after)
         → ServedSo 1 s ms old new after.state later × KeptOn g s.history k after.state.history after.keeper
     go (goes t) v l = (
-      record { visits = (record { came = see conn; back = b.back }) ∷ []; told = one_told see old mid new conn b.back r a took b.told; counted = refl; sessions = (b.end, t, later, v, (l.0, refl)) },
+      record { visits = (record { number = accepted.number; came = see accepted.conn; back = b.back; unfinished = b.unfinished }) ∷ []; told = one_told see old mid new accepted b.back b.unfinished r a took b.told; counted = refl; sessions = (b.end, t, later, v, (l.0, refl)) },
       rw l.0 l.1,
     )
     go (stops why h) v l = absurd l
@@ -143,22 +154,22 @@ ceases_stopped g s k keeper ms old new later visit e why cause after v h same an
       ends = rw (same, kept) (breaks_stopped s ms (visit ∷ []) later h.answered after cause (stops_at_last s ms visit e later cause h.answered after v answered));
     }
 
-pub stopped_one : {C E K : Type 0} (see : C → Seen) (g : Ghosts K) (s : State) (k : K) (ms : Option (List ℕ)) (old mid new : Option Connections) (later : Option (List ℕ)) (conn : C) (r : Result (Option C) E) (n : Next K) (why : Cause) (keeper : K)
-    → Accepts see old mid r → r ≡ Ok (Some conn) → GivesBack g s k ms (see conn) mid new later n → n ≡ next.Stop why keeper → CeasesNext g s k ms old new later (ceased_of why) keeper
-stopped_one see g s k ms old mid new later conn r n why keeper a took b is = go b.to b.is (rw is at b.leaves)
+pub stopped_one : {C E K : Type 0} (see : C → Seen) (g : Ghosts K) (s : State) (k : K) (ms : Option (List ℕ)) (old mid new : Option Connections) (later : Option (List ℕ)) (accepted : Accepted C) (r : Result (Option (Accepted C)) E) (n : Next K) (why : Cause) (keeper : K)
+    → Accepts see old mid r → r ≡ Ok (Some accepted) → GivesBack g s k ms accepted.number (see accepted.conn) mid new later n → n ≡ next.Stop why keeper → CeasesNext g s k ms old new later (ceased_of why) keeper
+stopped_one see g s k ms old mid new later accepted r n why keeper a took b is = go b.to b.is (rw is at b.leaves)
   where
     visit : Visit
-    visit = record { came = see conn; back = b.back }
+    visit = record { number = accepted.number; came = see accepted.conn; back = b.back; unfinished = b.unfinished }
 
     go : (to : Outcome) (v : IsVisit s ms visit b.end to later) → IsLeft g s.history k v.session.last.state.history to (next.Stop why keeper) → CeasesNext g s k ms old new later (ceased_of why) keeper
     go (goes t) v l = absurd l
-    go (stops cause after) v l = ceases_stopped g s k keeper ms old new later visit b.end why cause after v l.1.0 l.0 l.1.1 l.1.2 (one_told see old mid new conn b.back r a took b.told)
+    go (stops cause after) v l = ceases_stopped g s k keeper ms old new later visit b.end why cause after v l.1.0 l.0 l.1.1 l.1.2 (one_told see old mid new accepted b.back b.unfinished r a took b.told)
 
-pub stop_rose : {K : Type 0} (g : Ghosts K) (s : State) (k : K) (ms : Option (List ℕ)) (came : Seen) (old new : Option Connections) (later : Option (List ℕ)) (n : Next K) (why : Cause) (keeper : K) → GivesBack g s k ms came old new later n
+pub stop_rose : {K : Type 0} (g : Ghosts K) (s : State) (k : K) (ms : Option (List ℕ)) (number : ℕ) (came : Seen) (old new : Option Connections) (later : Option (List ℕ)) (n : Next K) (why : Cause) (keeper : K) → GivesBack g s k ms number came old new later n
     → n ≡ next.Stop why keeper → ceased_of why ≡ ceased.Disk → Rose (g.keep_faults k) (g.keep_faults keeper)
-stop_rose g s k ms came old new later n why keeper b is disk = at why disk (go b.to b.is (rw is at b.leaves))
+stop_rose g s k ms number came old new later n why keeper b is disk = at why disk (go b.to b.is (rw is at b.leaves))
   where
-    go : (to : Outcome) (v : IsVisit s ms (record { came = came; back = b.back }) b.end to later) → IsLeft g s.history k v.session.last.state.history to (next.Stop why keeper) → RoseAt why (g.keep_faults k) (g.keep_faults keeper)
+    go : (to : Outcome) (v : IsVisit s ms (record { number = number; came = came; back = b.back; unfinished = b.unfinished }) b.end to later) → IsLeft g s.history k v.session.last.state.history to (next.Stop why keeper) → RoseAt why (g.keep_faults k) (g.keep_faults keeper)
     go (goes t) v l = absurd l
     go (stops cause after) v l = l.2
 
@@ -218,7 +229,7 @@ ceases_then g count limit s mid k0 k1 keeper ms between later old told new why a
 -- there was no memory before the first
 pub same_told : (told : Option Connections) → Visits told told []
 same_told None = tt
-same_told (Some c) = record { coming = refl; accepted = omega arith; given_back = sym (append-nil c.given_back) }
+same_told (Some c) = refl
 
 unfoldable pub ceases_first : {K : Type 0} (g : Ghosts K) (limit : ℕ) (s : State) (k keeper : K) (ms : Option (List ℕ)) (told : Option Connections) (h : Halted g s.history k keeper) → h.answered ≡ s.history → h.after ≡ s.history
     → CeasesServing g limit s k ms told told ms ceased.Memory keeper

@@ -147,5 +147,6 @@ CallEnds p call w ms ended.Failed (stops why after) = StopsAt p call w ms why af
 CallEnds p call w ms ended.Closed (stops why after) = ⊥
 CallEnds p call w ms ended.NoMemory (stops why after) = ⊥
 CallEnds p call w ms ended.Stopped (goes s) = ⊥
+CallEnds p call w ms ended.Silent to = ⊥
 CallEnds p call w ms ended.Bad to = ⊥
 CallEnds p call w ms ended.TooMuch to = ⊥

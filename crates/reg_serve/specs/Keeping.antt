@@ -11,6 +11,7 @@ use Rattle.reg_http.specs.declared.call.Turn.{Turn}
 use Rattle.reg_serve.specs.Answered.{Outcome, goes, stops}
 use Rattle.reg_serve.specs.Sessions.{Session, TurnFails, EndsTurn, EndsTurns}
 use Rattle.reg_serve.specs.declared.ended.Ended.{Ended}
+use Rattle.reg_serve.specs.declared.ended.Ended.TheVariants as ended
 
 -- What is left of a service from this history and keeper on: it goes on in that state, and the
 -- history went on in its keeper by the commands that were accepted; or it stopped for that cause,
@@ -31,6 +32,13 @@ pub record SessionOf {K : Type 0} (g : Ghosts K) (before : Point) (keeper : K)
   pub to : Outcome
   pub session : Session before left now written moments e.0 to
   pub leaves : IsLeft g before.state.history keeper session.last.state.history to e.1
+
+-- and where no more bytes came, these were read and are no whole message
+abbrev pub SessionRests : {K : Type 0} → Ghosts K → Point → K
+    → (left now written moments : Option (List ℕ)) → (unfinished : List ℕ) → Ended × Next K → Type 0
+SessionRests g before keeper left now written moments unfinished e =
+    (l : SessionOf g before keeper left now written moments e)
+    × (e.0 ≡ ended.Silent → l.session.reading.rest ≡ unfinished)
 
 -- a turn of the reader at which a connection ended, and what is left
 pub record TurnLeaves {K : Type 0} (g : Ghosts K) (p : Point) (keeper : K) (t : Turn)

@@ -16,7 +16,7 @@ use Rattle.reg_http.specs.declared.call.Turn.{Turn}
 use Rattle.reg_calls.specs.Responses.{response_to, fault_response}
 use Rattle.reg_calls.specs.declared.asked.Asked.{Asked}
 use Rattle.reg_serve.specs.Answered.{Outcome, goes, stops}
-use Rattle.reg_serve.specs.Keeping.{EndsTurnsOf, ReadLeaves, SessionOf, TurnLeaves}
+use Rattle.reg_serve.specs.Keeping.{EndsTurnsOf, ReadLeaves, SessionOf, SessionRests, TurnLeaves}
 use Rattle.reg_serve.specs.Visits.{GivesBack, Visit}
 use Rattle.reg_serve.specs.declared.ended.Ended.{Ended}
 
@@ -67,19 +67,26 @@ SessionKeepsUp g p keeper left now old new moments e =
     (l : SessionOf g p keeper left now new.written moments e)
     × KeepsUpTo g keeper old new e.1 l.to
 
+-- and what was read of it last and is no whole message
+abbrev pub RestsKeepUp : {K : Type 0} → Ghosts K → Point → K → (left now : Option (List ℕ))
+    → Output → Output → Option (List ℕ) → (unfinished : List ℕ) → Ended × Next K → Type 0
+RestsKeepUp g p keeper left now old new moments unfinished e =
+    (l : SessionRests g p keeper left now new.written moments unfinished e)
+    × KeepsUpTo g keeper old new e.1 l.0.to
+
 -- a connection's output, as it is told
 abbrev pub output_seen : Seen → Output
 output_seen conn = record { written = conn.written; marks = conn.marks }
 
 -- an accepted connection was given back, and its responses keep up with what is left
-abbrev pub BackKeepsUp : {K : Type 0} → Ghosts K → State → K → Option (List ℕ) → Seen
-    → Option Connections → Option Connections → Option (List ℕ) → Next K → Type 0
-BackKeepsUp g s keeper moments came old new later n =
-    (b : GivesBack g s keeper moments came old new later n)
+abbrev pub BackKeepsUp : {K : Type 0} → Ghosts K → State → K → Option (List ℕ) → (number : ℕ)
+    → Seen → Option Connections → Option Connections → Option (List ℕ) → Next K → Type 0
+BackKeepsUp g s keeper moments number came old new later n =
+    (b : GivesBack g s keeper moments number came old new later n)
     × KeepsUpTo g keeper (output_seen came) (output_seen b.back) n b.to
 
--- what was written to each of these connections, from its coming until it was given back, keeps up
--- with this history and keeper
+-- what was written in each of these visits, from its coming until it was given back, keeps up with
+-- this history and keeper
 abbrev pub VisitsKeepUp : {K : Type 0} → Ghosts K → K → List Stamped → K → List Visit → Type 0
 VisitsKeepUp g first after keeper visits =
     All (λ (v : Visit). KeepsUpInPart g IsResponse first (output_seen v.came) (output_seen v.back)

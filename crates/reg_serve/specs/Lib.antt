@@ -1,5 +1,6 @@
 pub mod Answered
 pub mod Exact
+pub mod Joined
 pub mod Keeping
 pub mod KeepingUp
 pub mod Sent

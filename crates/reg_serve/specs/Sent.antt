@@ -20,6 +20,7 @@ abbrev pub SendsReply : {T : Type 0} → Asked → Bool → Reply → Option (Li
     → Result T Ended → Type 0
 SendsReply a close due old new (Ok done) =
     (shown : Reply) × IsShown due shown × (new ≡ append_known old (response_to a close shown))
+SendsReply a close due old new (Err ended.Silent) = ⊥
 SendsReply a close due old new (Err ended.Closed) = ⊥
 SendsReply a close due old new (Err ended.Bad) = ⊥
 SendsReply a close due old new (Err ended.Failed) =
@@ -50,6 +51,7 @@ Finishes a call due old new s (Err (ended.Failed, n)) =
     (n ≡ next.Go s) × SentFront a (closes_by a call) due old new
 Finishes a call due old new s (Err (ended.NoMemory, n)) =
     (n ≡ next.Go s) × (is_accepted due ≡ true) × (new ≡ old)
+Finishes a call due old new s (Err (ended.Silent, n)) = ⊥
 Finishes a call due old new s (Err (ended.Bad, n)) = ⊥
 Finishes a call due old new s (Err (ended.TooMuch, n)) = ⊥
 Finishes a call due old new s (Err (ended.Stopped, n)) = ⊥

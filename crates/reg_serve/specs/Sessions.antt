@@ -33,6 +33,7 @@ FaultEnds p fault w ms ended.Bad to =
     IsQuiet p p.written ms to × SentFault (reply.Refused (refusal_of fault)) p.written w
 FaultEnds p fault w ms ended.Failed to =
     IsQuiet p p.written ms to × SentFaultFront (reply.Refused (refusal_of fault)) p.written w
+FaultEnds p fault w ms ended.Silent to = ⊥
 FaultEnds p fault w ms ended.Closed to = ⊥
 FaultEnds p fault w ms ended.TooMuch to = ⊥
 FaultEnds p fault w ms ended.NoMemory to = ⊥
@@ -45,11 +46,12 @@ EndsAtMessage p rest w ms e to =
     ((call : Call) × (later : List ℕ) × IsMessage rest call later × CallEnds p call w ms e to)
     ⊎ ((fault : HeadFault) × HasFault rest fault × FaultEnds p fault w ms e to)
 
--- Why no more bytes were asked for a message: they ended, fewer than 2^32 of them, and what is left
--- is no message; a read failed; 2^32 bytes were taken; or memory was wanting.
+-- Why no more bytes were asked for a message: none came, behind fewer than 2^32 of them, and what
+-- is left is no message; a read failed; 2^32 bytes were taken; or memory was wanting.
 abbrev pub EndsBetween : List ℕ → Option (List ℕ) → List ℕ → Ended → Type 0
-EndsBetween taken now rest ended.Closed =
+EndsBetween taken now rest ended.Silent =
     IsAtEnd now × IsUnfinished rest × (length taken < 2 ^ 32)
+EndsBetween taken now rest ended.Closed = ⊥
 EndsBetween taken now rest ended.Bad = ⊥
 EndsBetween taken now rest ended.Failed = Unit {0}
 EndsBetween taken now rest ended.TooMuch = length taken ≡ 2 ^ 32

@@ -1,7 +1,8 @@
 -- Connections, one after another.
-use Rattle.std.specs.Prelude.{◌≡◌, ◌⊎◌, ◌≤◌, ◌+◌, ◌++◌, ◌∷◌, ℕ, List, [], map, length, Option, Some}
-use Rattle.std.specs.Prelude.{None, option_map, IfSome}
-use Rattle.reg_outside.specs.Connections.{Connections, Seen, gives_back}
+use Rattle.std.specs.Prelude.{◌≡◌, ◌⊎◌, ◌≤◌, ◌++◌, ◌∷◌, ℕ, List, [], length, Option, Some, None}
+use Rattle.std.specs.Prelude.{option_map, IfSome}
+use Rattle.reg_outside.specs.Connections.{Connections, HasTurn, Seen, back_of, gives_back}
+use Rattle.reg_outside.specs.Connections.{next_turn}
 use Rattle.reg_outside.specs.Faults.{Rose}
 use Rattle.reg_terms.specs.declared.command.Stamped.{Stamped}
 use Rattle.reg_machine.specs.History.{State}
@@ -18,17 +19,24 @@ use Rattle.reg_serve.specs.declared.ended.Ceased.TheVariants as ceased
 use Rattle.reg_serve.specs.declared.ended.Ended.{Ended}
 use Rattle.reg_serve.specs.declared.ended.Ended.TheVariants as ended
 
--- a connection as it came, and as it was given back
+-- A turn of a connection: the connection's number, how it came and how it was given back, and what
+-- was read of it last and is no whole message, where it may have another turn.
 pub record Visit : Type 0 where
+  pub number : ℕ
   pub came : Seen
   pub back : Seen
+  pub unfinished : Option (List ℕ)
 
--- These connections came from the front of those still to come, were accepted, and given back in
--- order.
-pub record Visited (old new : Connections) (visits : List Visit) : Type 0 where
-  pub coming : old.coming ≡ map (λ (v : Visit). v.came) visits ++ new.coming
-  pub accepted : new.accepted ≡ old.accepted + length visits
-  pub given_back : new.given_back ≡ old.given_back ++ map (λ (v : Visit). v.back) visits
+-- The next turn that was to come was had, and the connection given back.
+pub record HadTurn (v : Visit) (old new : Connections) : Type 0 where
+  pub out : Connections
+  pub had : HasTurn (next_turn old.given_back old.coming) v.number v.came old out
+  pub back : new ≡ gives_back (back_of v.number v.back v.unfinished) out
+
+-- these turns were had, one after another
+abbrev pub Visited : Connections → Connections → List Visit → Type 0
+Visited old new [] = new ≡ old
+Visited old new (v ∷ visits) = (mid : Connections) × HadTurn v old mid × Visited mid new visits
 
 -- the same where the listener tells its connections; what isn't told stays untold
 abbrev pub Visits : Option Connections → Option Connections → List Visit → Type 0
@@ -37,8 +45,12 @@ Visits None (Some new) visits = ⊥
 Visits (Some old) None visits = ⊥
 Visits (Some old) (Some new) visits = Visited old new visits
 
+-- no turn is to come
+abbrev pub NoneComes : Option Connections → Type 0
+NoneComes told = IfSome told (λ (c : Connections). next_turn c.given_back c.coming ≡ [])
+
 -- One visit was a session with this end, which left the registry so. Where a call of the connection
--- failed, a count of it rose.
+-- failed, a count of it rose. It may have another turn only where no more bytes came.
 pub record IsVisit (s : State) (moments : Option (List ℕ)) (v : Visit) (e : Ended) (to : Outcome)
     (later : Option (List ℕ)) : Type 0 where
   pub session : Session (record {
@@ -48,6 +60,8 @@ pub record IsVisit (s : State) (moments : Option (List ℕ)) (v : Visit) (e : En
   }) v.came.left v.back.left v.back.written later e to
   pub failed : e ≡ ended.Failed
       → Rose v.came.read_faults v.back.read_faults ⊎ Rose v.came.write_faults v.back.write_faults
+  pub open_still : IfSome v.unfinished (λ bytes. (e ≡ ended.Silent)
+      × (session.reading.rest ≡ bytes))
 
 -- These visits were sessions, one after another, after each of which the service went on: from this
 -- state and these moments to come to those.
@@ -57,14 +71,13 @@ Sessions s moments (v ∷ visits) last later =
     (e : Ended) × (mid : State) × (between : Option (List ℕ))
     × IsVisit s moments v e (goes mid) between × Sessions mid between visits last later
 
--- At most so many connections were served, which led to that state: as many, or all that were to
--- come.
+-- At most so many turns were had, which led to that state: as many, or all that were to come.
 pub record ServesVisits (limit : ℕ) (s : State) (moments : Option (List ℕ))
     (old new : Option Connections) (last : State) (later : Option (List ℕ)) : Type 0 where
   pub visits : List Visit
   pub told : Visits old new visits
   pub few : length visits ≤ limit
-  pub done : (length visits ≡ limit) ⊎ IfSome new (λ (c : Connections). c.coming ≡ [])
+  pub done : (length visits ≡ limit) ⊎ NoneComes new
   pub sessions : Sessions s moments visits last later
 
 -- all visits were sessions after which the service went on, and all that was answered is kept
@@ -115,7 +128,7 @@ abbrev pub ceased_of : Cause → Ceased
 ceased_of cause.Memory = ceased.Memory
 ceased_of cause.Disk = ceased.Disk
 
--- so many connections were served, which led to that state
+-- so many turns were had, which led to that state
 pub record ServedSo (count : ℕ) (s : State) (moments : Option (List ℕ))
     (old new : Option Connections) (last : State) (later : Option (List ℕ)) : Type 0 where
   pub visits : List Visit
@@ -125,13 +138,19 @@ pub record ServedSo (count : ℕ) (s : State) (moments : Option (List ℕ))
 
 -- an accepted connection was served and given back, and this is left of the service
 pub record GivesBack {K : Type 0} (g : Ghosts K) (s : State) (keeper : K)
-    (moments : Option (List ℕ)) (came : Seen) (old new : Option Connections)
+    (moments : Option (List ℕ)) (number : ℕ) (came : Seen) (old new : Option Connections)
     (later : Option (List ℕ)) (n : Next K) : Type 0 where
   pub back : Seen
-  pub told : new ≡ option_map (gives_back back) old
+  pub unfinished : Option (List ℕ)
+  pub told : new ≡ option_map (gives_back (back_of number back unfinished)) old
   pub end : Ended
   pub to : Outcome
-  pub is : IsVisit s moments (record { came = came; back = back }) end to later
+  pub is : IsVisit s moments (record {
+    number = number;
+    came = came;
+    back = back;
+    unfinished = unfinished;
+  }) end to later
   pub leaves : IsLeft g s.history keeper is.session.last.state.history to n
 
 -- why no more were served, from one connection to the next: the same, but for want of memory before

@@ -4,7 +4,7 @@ use Rattle.std.proofs.Common.{inl, inr}
 use Rattle.reg_terms.specs.declared.reply.Reply.{Reply}
 use Rattle.reg_terms.specs.declared.reply.Reply.TheVariants as reply
 use Rattle.reg_session.specs.Answered.{Point}
-use Rattle.reg_serve.specs.Answered.{Outcome, goes, stops}
+use Rattle.reg_serve.specs.Answered.{Outcome, goes}
 use Rattle.reg_serve.specs.Exact.{replies_of}
 use Rattle.reg_serve.specs.Sessions.{EndsAtMessage, EndsBetween, IsQuiet, Session}
 use Rattle.reg_serve.specs.declared.ended.Ended.{Ended}
@@ -28,7 +28,7 @@ abbrev pub IsSureAtLast : (p : Point) (rest taken : List ℕ) (now w ms : Option
 IsSureAtLast p rest taken now w ms e to (inl m) = IsSureEnd p rest w ms e to m
 IsSureAtLast p rest taken now w ms e to (inr q) = Unit {0}
 
--- A session over these bytes that wrote this. It ended since its bytes did, or with a message that
+-- A session over these bytes that wrote this. It ended since no more came, or with a message that
 -- closes the connection or isn't taken; and no reply says that there was no memory.
 pub record Whole (before : Point) (taken : List ℕ) (written : Option (List ℕ)) : Type 0 where
   pub left : Option (List ℕ)
@@ -38,7 +38,7 @@ pub record Whole (before : Point) (taken : List ℕ) (written : Option (List ℕ
   pub to : Outcome
   pub session : Session before left now written moments end to
   pub bytes : session.taken ≡ taken
-  pub whole : (end ≡ ended.Closed) ⊎ (end ≡ ended.Bad)
+  pub whole : (end ≡ ended.Silent) ⊎ ((end ≡ ended.Closed) ⊎ (end ≡ ended.Bad))
   pub sure : AreSure (replies_of session.all.answers)
   pub sure_last : IsSureAtLast session.last session.reading.rest session.taken now written moments
       end to session.ends

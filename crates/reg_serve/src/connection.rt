@@ -8,8 +8,8 @@ ghost use Rattle.reg_http.specs.Turns.{start, fed};
 ghost use Rattle.reg_session.specs.Answered.{Point, point};
 ghost use Rattle.reg_service.specs.Kept.{KeptOn};
 ghost use Rattle.reg_service.specs.Marks.{Output, output_of};
-ghost use Rattle.reg_serve.specs.Keeping.{EndsTurnsOf, SessionOf};
-ghost use Rattle.reg_serve.specs.KeepingUp.{KeepsUpOn, SessionKeepsUp, TurnsKeepUp};
+ghost use Rattle.reg_serve.specs.Keeping.{EndsTurnsOf, SessionOf, SessionRests};
+ghost use Rattle.reg_serve.specs.KeepingUp.{KeepsUpOn, RestsKeepUp, SessionKeepsUp, TurnsKeepUp};
 ghost use Rattle.reg_serve.specs.Sessions.{HasServed, Serves};
 
 use crate::ended::Ended;
@@ -122,8 +122,8 @@ fn serve_some<K: Keeper, C: Connection, T: Clock>(
         → HasServed left (C.left conn.old) first
         (point ⟦<C as Sink>⟧ ⟦<T as Clock>⟧ conn.old clock.old service.state) reader.old taken
         → KeptOn ⟦<K as Keeper>⟧ first.state.history keeper service.state.history service.keeper
-        → SessionOf ⟦<K as Keeper>⟧ first keeper left (C.left conn.new) (C.written conn.new)
-        (T.moments clock.new) e) }
+        → SessionRests ⟦<K as Keeper>⟧ first keeper left (C.left conn.new) (C.written conn.new)
+        (T.moments clock.new) reader.new.rest e) }
     ensures keeps_up { IfOk result (λ after. KeepsUpOn ⟦<K as Keeper>⟧ service.keeper
         (output_of ⟦<C as Sink>⟧ conn.old) (output_of ⟦<C as Sink>⟧ conn.new) after.0) }
     ensures keeps_up_to { IfErr result (λ e. (left : Option (List ℕ)) (first : Point) (keeper : K)
@@ -131,8 +131,8 @@ fn serve_some<K: Keeper, C: Connection, T: Clock>(
         (point ⟦<C as Sink>⟧ ⟦<T as Clock>⟧ conn.old clock.old service.state) reader.old taken
         → KeptOn ⟦<K as Keeper>⟧ first.state.history keeper service.state.history service.keeper
         → KeepsUpOn ⟦<K as Keeper>⟧ keeper began (output_of ⟦<C as Sink>⟧ conn.old) service
-        → SessionKeepsUp ⟦<K as Keeper>⟧ first keeper left (C.left conn.new) began
-        (output_of ⟦<C as Sink>⟧ conn.new) (T.moments clock.new) e) }
+        → RestsKeepUp ⟦<K as Keeper>⟧ first keeper left (C.left conn.new) began
+        (output_of ⟦<C as Sink>⟧ conn.new) (T.moments clock.new) reader.new.rest e) }
     ensures failed { IfErr result (λ e. e.0 ≡ Ended.Failed
         → Rose (C.read_faults conn.old) (C.read_faults conn.new)
         ⊎ Rose (C.write_faults conn.old) (C.write_faults conn.new)) }
@@ -146,7 +146,7 @@ fn serve_some<K: Keeper, C: Connection, T: Clock>(
         Err(Failed) => return Err((Ended::Failed, Next::Go(service))),
     };
     if count == 0 {
-        return Err((Ended::Closed, Next::Go(service)));
+        return Err((Ended::Silent, Next::Go(service)));
     }
     let piece = &buf[..count];
     match serve_piece(alloc, routes, service, reader, piece, conn, clock) {
@@ -165,13 +165,14 @@ pub(crate) fn serve_bytes<K: Keeper, C: Connection, T: Clock>(
     clock: &mut T,
 ) -> (Ended, Next<K>)
     requires { reader.old ≡ start }
-    ensures session { SessionOf ⟦<K as Keeper>⟧
+    ensures session { SessionRests ⟦<K as Keeper>⟧
         (point ⟦<C as Sink>⟧ ⟦<T as Clock>⟧ conn.old clock.old service.state) service.keeper
-        (C.left conn.old) (C.left conn.new) (C.written conn.new) (T.moments clock.new) result }
-    ensures keeps_up { SessionKeepsUp ⟦<K as Keeper>⟧
+        (C.left conn.old) (C.left conn.new) (C.written conn.new) (T.moments clock.new)
+        reader.new.rest result }
+    ensures keeps_up { RestsKeepUp ⟦<K as Keeper>⟧
         (point ⟦<C as Sink>⟧ ⟦<T as Clock>⟧ conn.old clock.old service.state) service.keeper
         (C.left conn.old) (C.left conn.new) (output_of ⟦<C as Sink>⟧ conn.old)
-        (output_of ⟦<C as Sink>⟧ conn.new) (T.moments clock.new) result }
+        (output_of ⟦<C as Sink>⟧ conn.new) (T.moments clock.new) reader.new.rest result }
     ensures failed { result.0 ≡ Ended.Failed
         → Rose (C.read_faults conn.old) (C.read_faults conn.new)
         ⊎ Rose (C.write_faults conn.old) (C.write_faults conn.new) }

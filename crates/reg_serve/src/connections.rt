@@ -1,18 +1,18 @@
 // Connections, one after another.
-ghost use Rattle.std.specs.Prelude.{◌≡◌, ◌≤◌, [], Option, is_some, true, false, if◌then◌else◌};
-ghost use Rattle.std.specs.Prelude.{IfOk, IfErr, IfSome, OnOk};
-ghost use Rattle.reg_outside.specs.Connections.{HasOpen, seen};
+ghost use Rattle.std.specs.Prelude.{◌≡◌, ◌≤◌, ℕ, List, Option, option_map, is_some, true, false};
+ghost use Rattle.std.specs.Prelude.{if◌then◌else◌, IfOk, IfErr, IfSome, OnOk};
+ghost use Rattle.reg_outside.specs.Connections.{HasOut, back_of, gives_back, seen};
 ghost use Rattle.reg_outside.specs.Faults.{HasCause, Rose};
 ghost use Rattle.reg_service.specs.Kept.{KeptOn};
 ghost use Rattle.reg_serve.specs.KeepingUp.{BackKeepsUp, VisitsKeepUp};
-ghost use Rattle.reg_serve.specs.Visits.{CeasesNext, CeasesServing, GivesBack, ServedSo};
+ghost use Rattle.reg_serve.specs.Visits.{CeasesNext, CeasesServing, GivesBack, NoneComes, ServedSo};
 ghost use Rattle.reg_serve.specs.Visits.{ServesVisits, ceased_of};
 
 use crate::connection::serve_bytes;
-use crate::ended::Ceased;
+use crate::ended::{Ceased, Ended};
 use reg_http::{HttpReader, Routes};
 use reg_keep::Keeper;
-use reg_outside::{Clock, Failed, Listener, Sink, Source};
+use reg_outside::{Accepted, Clock, Failed, Listener, Sink, Source};
 use reg_service::{Cause, Next, Service};
 use std::alloc::Global;
 
@@ -26,35 +26,66 @@ fn ceased_of(cause: Cause) -> Ceased
     }
 }
 
-/// Serves an accepted connection, by a reader that is used again, and gives it back however it
-/// ended. It says how that went.
+/// Gives a connection back that ended so. Where no more bytes came it may have another turn, which
+/// begins with the unfinished ones.
+fn return_connection<L: Listener>(
+    net: &mut L,
+    accepted: Accepted<L::Conn>,
+    ended: Ended,
+    unfinished: &[u8],
+) -> Result<(), Failed>
+    requires { IfSome (L.connections net.old) HasOut }
+    ensures back { (left : Option (List ℕ))
+        × IfSome left (λ bytes. (ended ≡ Ended.Silent) × (unfinished.now ≡ bytes))
+        × (L.connections net.new ≡ option_map (gives_back (back_of accepted.number
+        (seen ⟦<L::Conn as Source>⟧ ⟦<L::Conn as Sink>⟧ accepted.conn) left))
+        (L.connections net.old)) }
+    ensures cause { HasCause (L.listener_faults net.old) (L.listener_faults net.new) result }
+    ensures port { L.listens net.new ≡ L.listens net.old }
+{
+    match ended {
+        Ended::Silent => net.give_back(accepted, unfinished),
+        Ended::Closed
+        | Ended::Bad
+        | Ended::Failed
+        | Ended::TooMuch
+        | Ended::NoMemory
+        | Ended::Stopped => net.close(accepted),
+    }
+}
+
+/// Serves a turn of a connection, by a reader that is used again, and gives the connection back
+/// however it ended. It says how that went.
 fn serve_accepted<K: Keeper, L: Listener, T: Clock>(
     alloc: Global,
     routes: &Routes,
     service: Service<K>,
     reader: &mut HttpReader,
     net: &mut L,
-    conn: L::Conn,
+    accepted: Accepted<L::Conn>,
     clock: &mut T,
 ) -> (Next<K>, Result<(), Failed>)
-    requires { IfSome (L.connections net.old) HasOpen }
+    requires { IfSome (L.connections net.old) HasOut }
     ensures back { GivesBack ⟦<K as Keeper>⟧ service.state service.keeper (T.moments clock.old)
-        (seen ⟦<L::Conn as Source>⟧ ⟦<L::Conn as Sink>⟧ conn) (L.connections net.old)
-        (L.connections net.new) (T.moments clock.new) result.0 }
-    ensures keeps_up { BackKeepsUp ⟦<K as Keeper>⟧ service.state service.keeper
-        (T.moments clock.old) (seen ⟦<L::Conn as Source>⟧ ⟦<L::Conn as Sink>⟧ conn)
+        accepted.number (seen ⟦<L::Conn as Source>⟧ ⟦<L::Conn as Sink>⟧ accepted.conn)
         (L.connections net.old) (L.connections net.new) (T.moments clock.new) result.0 }
+    ensures keeps_up { BackKeepsUp ⟦<K as Keeper>⟧ service.state service.keeper
+        (T.moments clock.old) accepted.number
+        (seen ⟦<L::Conn as Source>⟧ ⟦<L::Conn as Sink>⟧ accepted.conn) (L.connections net.old)
+        (L.connections net.new) (T.moments clock.new) result.0 }
     ensures cause { HasCause (L.listener_faults net.old) (L.listener_faults net.new) result.1 }
     ensures port { L.listens net.new ≡ L.listens net.old }
 {
     reader.restart();
+    let Accepted { number, conn } = accepted;
     let mut conn = conn;
-    let (_ended, next) = serve_bytes(alloc, routes, service, reader, &mut conn, clock);
-    let given_back = net.give_back(conn, reader.unfinished());
+    let (ended, next) = serve_bytes(alloc, routes, service, reader, &mut conn, clock);
+    let accepted = Accepted { number, conn };
+    let given_back = return_connection(net, accepted, ended, reader.unfinished());
     (next, given_back)
 }
 
-/// Accepts a connection and serves it, and says whether there was one.
+/// Serves the next turn of a connection, and says whether there was one.
 fn serve_next<K: Keeper, L: Listener, T: Clock>(
     alloc: Global,
     routes: &Routes,
@@ -67,8 +98,7 @@ fn serve_next<K: Keeper, L: Listener, T: Clock>(
     ensures served { IfOk result (λ after. ServedSo (if after.1 then 1
         else 0) service.state (T.moments clock.old) (L.connections net.old)
         (L.connections net.new) after.0.state (T.moments clock.new)) }
-    ensures none { IfOk result (λ after. after.1 ≡ false
-        → IfSome (L.connections net.new) (λ told. told.coming ≡ [])) }
+    ensures none { IfOk result (λ after. after.1 ≡ false → NoneComes (L.connections net.new)) }
     ensures kept { IfOk result
         (λ after. KeptOn ⟦<K as Keeper>⟧ service.state.history service.keeper after.0.state.history
         after.0.keeper) }
@@ -97,11 +127,11 @@ fn serve_next<K: Keeper, L: Listener, T: Clock>(
         Ok(accepted) => accepted,
         Err(Failed) => return Err((Ceased::Listener, service.into_keeper())),
     };
-    let conn = match accepted {
-        Some(conn) => conn,
+    let turn = match accepted {
+        Some(turn) => turn,
         None => return Ok((service, false)),
     };
-    let (next, given_back) = serve_accepted(alloc, routes, service, reader, net, conn, clock);
+    let (next, given_back) = serve_accepted(alloc, routes, service, reader, net, turn, clock);
     match next {
         Next::Stop(cause, keeper) => Err((ceased_of(cause), keeper)),
         Next::Go(service) => match given_back {
@@ -111,7 +141,7 @@ fn serve_next<K: Keeper, L: Listener, T: Clock>(
     }
 }
 
-/// Serves connections one after another, over one table of routes.
+/// Serves turns of connections one after another, over one table of routes.
 fn serve_all<K: Keeper, L: Listener, T: Clock>(
     alloc: Global,
     routes: &Routes,
@@ -165,10 +195,11 @@ fn serve_all<K: Keeper, L: Listener, T: Clock>(
     Ok(service)
 }
 
-/// Serves connections one after another, at most so many, until none is to come, and gives each
-/// back however it ended. A connection that fails doesn't end it: that does a call of the listener
-/// that failed, and a service that stopped. Then the keeper is given back. `Ok` leaves the
-/// listener's count of faults as it was.
+/// Serves turns of connections one after another, at most so many, until none is to come, and gives
+/// each connection back however its turn ended: where no more bytes came it may have another. A
+/// connection that fails doesn't end it: that does a call of the listener that failed, and a
+/// service that stopped. Then the keeper is given back. `Ok` leaves the listener's count of faults
+/// as it was.
 pub fn serve_connections<K: Keeper, L: Listener, T: Clock>(
     alloc: Global,
     service: Service<K>,

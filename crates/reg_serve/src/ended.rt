@@ -4,8 +4,11 @@ use thiserror::Error;
 /// Why a connection is served no further.
 #[derive(Clone, Copy, Debug, PartialEq, Eq, Error)]
 pub enum Ended {
-    /// Its bytes ended, or a message asked to close it.
-    #[error("its bytes ended, or a message asked to close it")]
+    /// No more bytes came, for now or at their end.
+    #[error("no more bytes came, for now or at their end")]
+    Silent,
+    /// A message asked to close it.
+    #[error("a message asked to close it")]
     Closed,
     /// A message has a head that isn't taken.
     #[error("a message has a head that isn't taken")]

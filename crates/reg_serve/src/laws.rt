@@ -7,9 +7,15 @@ ghost use Rattle.reg_session.specs.Answered.{Point};
 ghost use Rattle.reg_http.specs.declared.call.Call.{Call};
 ghost use Rattle.reg_serve.specs.Answered.{Answered};
 ghost use Rattle.reg_serve.specs.Exact.{replies_of, replies, last_state};
+ghost use Rattle.reg_outside.specs.Connections.{Connections, next_turn};
+ghost use Rattle.reg_machine.specs.History.{State};
+ghost use Rattle.reg_serve.specs.Answered.{calls_of, responses_of};
+ghost use Rattle.reg_serve.specs.Joined.{Continues, IsUnused, Joined, answers_to, came_of};
+ghost use Rattle.reg_serve.specs.Joined.{came_with, join_known};
+ghost use Rattle.reg_serve.specs.Visits.{HadTurn, Sessions, Visit, Visited};
 ghost use Rattle.reg_serve.specs.Whole.{Whole};
 
-use reg_http::turns_exclude_each_other;
+use reg_http::{turns_are_of_all_bytes, turns_exclude_each_other};
 
 /// Where no reply says that there was no memory, the replies are one function of the state, the
 /// moments to come and the messages.
@@ -32,4 +38,26 @@ pub fn cutting_changes_no_response()
         ⊎ EndsInTarget (window first.session.reading.rest)) }
 {
     turns_exclude_each_other();
+}
+
+/// The turns of a connection are one session, whatever turns of others come between them. In each
+/// it comes with what its earlier turns left of all its bytes by then, behind the messages that
+/// they answered, and just their responses are written to it. Behind its last turn the same is so
+/// of one that may have another. New connections come with nothing written to them.
+pub fn turns_are_one_session()
+    ensures continues { (start mid new : Connections) (earlier : List Visit) (v : Visit)
+        (s last : State) (moments later : Option (List ℕ)) → IsUnused start
+        → (had : Visited start mid earlier) (all : Sessions s moments earlier last later)
+        → HadTurn v mid new → Continues v (join_known (came_of v.number start mid earlier had)
+        (came_with (next_turn mid.given_back mid.coming)))
+        (calls_of (answers_to v.number s moments earlier last later all))
+        (responses_of (answers_to v.number s moments earlier last later all)) }
+    ensures joined { (number : ℕ) (start new : Connections) (visits : List Visit) (s last : State)
+        (moments later : Option (List ℕ)) → IsUnused start → (had : Visited start new visits)
+        (all : Sessions s moments visits last later)
+        → Joined new number (came_of number start new visits had)
+        (calls_of (answers_to number s moments visits last later all))
+        (responses_of (answers_to number s moments visits last later all)) }
+{
+    turns_are_of_all_bytes();
 }

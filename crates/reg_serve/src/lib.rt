@@ -11,4 +11,4 @@ mod serving;
 pub use connection::serve_connection;
 pub use connections::serve_connections;
 pub use ended::{Ceased, Ended};
-pub use laws::{cutting_changes_no_response, replies_are_one};
+pub use laws::{cutting_changes_no_response, replies_are_one, turns_are_one_session};

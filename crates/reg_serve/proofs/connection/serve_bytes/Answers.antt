@@ -2,7 +2,7 @@ use Rattle.std.proofs.Common.{refl, arith, rules}
 use Rattle.reg_service.specs.Marked.{keeps_up_then, part_of_whole}
 use Rattle.reg_session.proofs.Halting.{kept_then}
 use Rattle.reg_serve.specs.KeepingUp.{IsResponse}
-use Rattle.reg_serve.proofs.Turning.{served_first, session_first, session_still, rose_more}
+use Rattle.reg_serve.proofs.Turning.{first_rests, other_rests, served_first, session_still, rose_more, too_much_otherwise}
 use Rattle.reg_serve.proofs.Upkeep.{session_first_up}
 use Rattle.reg_serve.proofs.connection.serve_bytes.Goals as goal
 
@@ -41,10 +41,10 @@ loop-taken-smaller g c = omega (arith, c.in-Ok-serve_some.ensures.more, c.in-Ok-
 
 -- it ended before anything was read
 pub returns-in-Err-clause-session : goal.returns-in-Err-clause-session
-returns-in-Err-clause-session g c = rw c.in-Err.ensures.left (session_first g.K.Keeper _ _ _ _ _ _ c.turns_are_of_all_bytes.ensures.begun (rw c.requires at c.in-Err.ensures.ended))
+returns-in-Err-clause-session g c = rw c.in-Err.ensures.left (first_rests g.K.Keeper _ _ _ _ _ _ _ c.turns_are_of_all_bytes.ensures.begun (rw c.requires at c.in-Err.ensures.ended))
 
 pub returns-in-Err-clause-keeps_up : goal.returns-in-Err-clause-keeps_up
-returns-in-Err-clause-keeps_up g c = rw c.in-Err.ensures.left (session_first_up g.K.Keeper _ _ _ _ _ _ _ c.turns_are_of_all_bytes.ensures.begun (rw c.requires at c.in-Err.ensures.keeps_up_to))
+returns-in-Err-clause-keeps_up g c = rw c.in-Err.ensures.left (session_first_up g.K.Keeper _ _ _ _ _ _ _ _ c.turns_are_of_all_bytes.ensures.begun (rw c.requires at c.in-Err.ensures.keeps_up_to))
 
 -- it ended at a piece
 pub returns-in-Err-serve_some-clause-session : goal.returns-in-Err-serve_some-clause-session
@@ -59,8 +59,9 @@ returns-in-Err-serve_some-clause-keeps_up g c = c.in-Err-serve_some.ensures.keep
 -- there was too much of it
 pub returns-clause-session : goal.returns-clause-session
 returns-clause-session g c =
-    session_still g.K.Keeper _ _ _ _ _ c.loop-taken.service _ _ _ _ _ _ c.loop-taken.invariant.done c.loop-taken.invariant.kept refl refl c.loop-taken.invariant.few
-    (λ taken counted. omega (arith, counted, c.loop-taken-test.false, c.loop-taken.invariant.few))
+    other_rests g.K.Keeper _ _ _ _ _ _ _ _ too_much_otherwise
+    (session_still g.K.Keeper _ _ _ _ _ c.loop-taken.service _ _ _ _ _ _ c.loop-taken.invariant.done c.loop-taken.invariant.kept refl refl c.loop-taken.invariant.few
+    (λ taken counted. omega (arith, counted, c.loop-taken-test.false, c.loop-taken.invariant.few)))
 
 pub returns-clause-keeps_up : goal.returns-clause-keeps_up
 returns-clause-keeps_up g c = (returns-clause-session g c, part_of_whole g.K.Keeper IsResponse _ _ _ _ _ c.loop-taken.invariant.up)

@@ -16,3 +16,10 @@ returns-in_default-new-clause-session g c = session_none g.K.Keeper _ _ c.args.s
 
 pub returns-in_default-new-clause-keeps_up : goal.returns-in_default-new-clause-keeps_up
 returns-in_default-new-clause-keeps_up g c = (returns-in_default-new-clause-session g c, quiet_up g.K.Keeper c.args.service.keeper c.args.service.keeper c.args.service.state.history _ _ refl refl)
+
+-- it was a session
+pub returns-clause-session : goal.returns-clause-session
+returns-clause-session g c = c.serve_bytes.ensures.session.0
+
+pub returns-clause-keeps_up : goal.returns-clause-keeps_up
+returns-clause-keeps_up g c = (c.serve_bytes.ensures.keeps_up.0.0, c.serve_bytes.ensures.keeps_up.1)
