@@ -12,7 +12,8 @@ use Rattle.reg_keep.specs.Keeping.{kept_in}
 use Rattle.reg_keep.specs.Stops.{Stop}
 use Rattle.reg_keep.specs.declared.keeper.Keeper as keeper
 use Rattle.reg_service.specs.Kept.{Halted, HaltedBy, Stopped}
-use Rattle.reg_service.specs.Marks.{AreMarked, AtEach, IsMarked, KeepsUpInPart, LeavesAtLeast, Output, Writing}
+use Rattle.reg_service.specs.Marked.{each_so}
+use Rattle.reg_service.specs.Marks.{AreMarked, IsMarked, KeepsUpInPart, LeavesAtLeast, Output, Writing}
 use Rattle.reg_service.specs.Opening.{FrontsReopen}
 use Rattle.reg_run.specs.Crash.{seen}
 use Rattle.reg_run.specs.KeepsUp.{DiskKeepsUp, HasCommand, IsKept, KeepsUp}
@@ -43,14 +44,6 @@ kept_of j g old new k history again on marks at number m = record {
   has = λ c here. has_command history number c again (m.leaves (payloads_in c) (on.stops m.mark.moment (payloads_in c) (c, here, refl)));
 }
 
-each_so : (P Q : ℕ → ℕ → Type 0) → ((at number : ℕ) → P at number → Q at number) → (at : ℕ) (ws : List Writing) → AtEach P at ws → AtEach Q at ws
-each_so P Q so at [] m = tt
-each_so P Q so at (w ∷ ws) m = (one w.number m.0, each_so P Q so (at + length w.text) ws m.1)
-  where
-    one : (o : Option ℕ) → IfSome o (P at) → IfSome o (Q at)
-    one None is = tt
-    one (Some number) is = so at number is
-
 -- what is true where a keeper tells its payloads is true where its disk tells its bytes
 where_told : (X : Type 0) (held : Option (List ℕ)) (told : Option (List (List ℕ))) → told ≡ option_map kept_in held → IfSome told (λ ps. X) → IfSome held (λ file. X)
 where_told X None told is x = tt
@@ -77,7 +70,7 @@ disk_keeps_up j g R first k old new out after before more history a grown again 
       writings = a.writings;
       replies = a.replies;
       text = a.text;
-      kept = both_so out.written after.marks (λ bytes ms m. each_so (IsMarked j k history ms) (IsKept (seen g old new) history ms) (kept_of j g old new k history fronts on ms) (length bytes) a.writings m) marked;
+      kept = both_so out.written after.marks (λ bytes ms m. each_so (IsMarked j k history ms) (IsKept (seen g old new) history ms) (length bytes) a.writings (kept_of j g old new k history fronts on ms) m) marked;
     }
 
 -- so it is where the service goes on

@@ -33,7 +33,8 @@ among_front mark [] ns is = absurd is
 among_front mark (m ∷ ms) ns (inl e) = inl e
 among_front mark (m ∷ ms) ns (inr is) = inr (among_front mark ms ns is)
 
-among_last : (mark : Mark) (ms : List Mark) → IsAmong mark (ms ++ mark ∷ [])
+-- the last one is among them
+pub among_last : (mark : Mark) (ms : List Mark) → IsAmong mark (ms ++ mark ∷ [])
 among_last mark [] = inl refl
 among_last mark (m ∷ ms) = inr (among_last mark ms)
 
@@ -43,11 +44,12 @@ texts_more (w ∷ ws) vs =
     ap (λ (l : List ℕ). w.text ++ l) (texts_more ws vs)
     ∙ sym (append_assoc w.text (texts ws) (texts vs))
 
-if_so : (P Q : ℕ → Type 0) (o : Option ℕ) → ((n : ℕ) → P n → Q n) → IfSome o P → IfSome o Q
+-- what is so of each number is so where there is one, and at each writing
+pub if_so : (P Q : ℕ → Type 0) (o : Option ℕ) → ((n : ℕ) → P n → Q n) → IfSome o P → IfSome o Q
 if_so P Q None h p = tt
 if_so P Q (Some n) h p = h n p
 
-each_so : (P Q : ℕ → ℕ → Type 0) (at : ℕ) (ws : List Writing)
+pub each_so : (P Q : ℕ → ℕ → Type 0) (at : ℕ) (ws : List Writing)
     → ((at n : ℕ) → P at n → Q at n) → AtEach P at ws → AtEach Q at ws
 each_so P Q at [] h p = tt
 each_so P Q at (w ∷ ws) h p =

@@ -1,5 +1,5 @@
 -- How an output keeps up over the replies of a batch.
-use Rattle.std.proofs.Common.{◌≡◌, ◌≤◌, ◌+◌, ◌++◌, ◌∷◌, [], List, ℕ, Option, Some, None, Result, Ok, refl, ap, sym, ◌∙◌, subst, arith, inl, inr, length, take, option_map, append-nil}
+use Rattle.std.proofs.Common.{◌≡◌, ◌≤◌, ◌+◌, ◌++◌, ◌∷◌, [], List, ℕ, Option, Some, None, Result, Ok, refl, ap, sym, ◌∙◌, subst, arith, length, take, option_map, append-nil}
 use Rattle.std.specs.Prelude.{All, IfSome}
 use Rattle.std.specs.Io.KnownBytes.{append_known}
 use Rattle.std.proofs.lemmas.List.{take_all}
@@ -9,20 +9,13 @@ use Rattle.reg_outside.specs.Streams.{WritesFront}
 use Rattle.reg_terms.specs.declared.command.Stamped.{Stamped}
 use Rattle.reg_terms.specs.declared.reply.Reply.{Reply}
 use Rattle.reg_keep.specs.declared.keeper.Keeper.{Ghosts}
-use Rattle.reg_service.specs.Marks.{Writing, texts, IsAmong, IsMarked, AtEach, AreMarked, Output, KeepsUp, KeepsUpBy, KeepsUpInPart, number_of}
+use Rattle.reg_service.specs.Marked.{among_last, each_so, if_so}
+use Rattle.reg_service.specs.Marks.{Writing, texts, IsMarked, AtEach, AreMarked, Output, KeepsUp, KeepsUpBy, KeepsUpInPart, number_of}
 use Rattle.reg_service.specs.Opening.{payloads_of}
 use Rattle.reg_session.specs.Replies.{IsLine, line_of}
 use Rattle.reg_session.specs.Together.{AreReplies}
 
 -- ---- what a buffer holds
-
-if_so : (P Q : ℕ → Type 0) (o : Option ℕ) → ((n : ℕ) → P n → Q n) → IfSome o P → IfSome o Q
-if_so P Q None h p = tt
-if_so P Q (Some n) h p = h n p
-
-each_so : (P Q : ℕ → ℕ → Type 0) (at : ℕ) (ws : List Writing) → ((at n : ℕ) → P at n → Q at n) → AtEach P at ws → AtEach Q at ws
-each_so P Q at [] h p = tt
-each_so P Q at (w ∷ ws) h p = (if_so (P at) (Q at) w.number (h at) p.0, each_so P Q (at + length w.text) ws h p.1)
 
 if_told : {A : Type 0} (P : Type 0) (o : Option A) (x : A) → o ≡ Some x → IfSome o (λ y. P) → P
 if_told P None x is p = absurd (cc)
@@ -42,10 +35,6 @@ replies_in g k0 k1 history text marks a ps told = record {
 }
 
 -- ---- behind one mark
-
-among_last : (mark : Mark) (ms : List Mark) → IsAmong mark (ms ++ mark ∷ [])
-among_last mark [] = inl refl
-among_last mark (m ∷ ms) = inr (among_last mark ms)
 
 -- all of them, or a front of them, written behind a mark since which each stop leaves the history
 pub replies_keep_up : (W : Option (List ℕ) → Option (List ℕ) → List ℕ → Type 0) {K : Type 0} (g : Ghosts K) (first k : K) (h : List Stamped) (old new : Output) (m : Option (List Mark)) (bytes : List ℕ) (moment : ℕ) → AreReplies h bytes
