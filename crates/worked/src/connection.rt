@@ -1,26 +1,30 @@
-// A connection that a run is given.
+// What comes of connections in a run.
 use crate::bytes::{add_hex, add_number, fill};
 use std::alloc::{AllocError, Global};
 
-/// The bytes that come from a connection, and the numbers of its calls that fail.
+/// The bytes that come of a connection, and the numbers of its calls that fail.
 #[derive(Drop)]
 pub struct Connection {
+    /// Which one sends the bytes, from 0 on, where it came before. None for a new one.
+    pub sender: Option<usize>,
     pub bytes: Vec<u8>,
     pub fail: Vec<u64>,
 }
 
 impl Connection {
-    /// Nothing comes from it yet.
-    pub fn new(alloc: Global) -> Connection {
+    /// No byte comes yet: of a new one, or of the sender.
+    pub fn new(alloc: Global, sender: Option<usize>) -> Connection {
         Connection {
+            sender,
             bytes: Vec::new(alloc),
             fail: Vec::new(alloc),
         }
     }
 
-    /// A connection of the same bytes. No call of it fails.
+    /// The same bytes. No call of it fails.
     pub fn again(&self, alloc: Global) -> Result<Connection, AllocError> {
         Ok(Connection {
+            sender: self.sender,
             bytes: self.bytes.to_vec(alloc)?,
             fail: Vec::new(alloc),
         })

@@ -2,7 +2,9 @@
 use crate::connection::Connection;
 use crate::responses::add_responses;
 use crate::run::Run;
-use reg_outside::{ListClock, MemoryConn, MemoryDisk, MemoryListener, MemorySink, MemorySource};
+use reg_outside::{
+    Incoming, ListClock, MemoryConn, MemoryDisk, MemoryListener, MemorySink, MemorySource,
+};
 use reg_run::run;
 use std::alloc::{AllocError, Global};
 
@@ -94,13 +96,24 @@ fn conn_of(alloc: Global, connection: &Connection, piece: usize) -> Result<Memor
     Ok(MemoryConn::new(alloc, bytes, piece.max(1), fail))
 }
 
+fn incoming_of(
+    alloc: Global,
+    connection: &Connection,
+    piece: usize,
+) -> Result<Incoming, AllocError> {
+    match connection.sender {
+        None => Ok(Incoming::Opens(conn_of(alloc, connection, piece)?)),
+        Some(number) => Ok(Incoming::Sends(number, connection.bytes.to_vec(alloc)?)),
+    }
+}
+
 fn listener_of(alloc: Global, given: &Run, piece: usize) -> Result<MemoryListener, AllocError> {
     let fail = given.fail_net.to_vec(alloc)?;
-    let mut conns = Vec::new(alloc);
+    let mut incoming = Vec::new(alloc);
     for connection in &given.connections {
-        conns.push(conn_of(alloc, connection, piece)?)?;
+        incoming.push(incoming_of(alloc, connection, piece)?)?;
     }
-    MemoryListener::new(alloc, conns, fail)
+    MemoryListener::new(alloc, incoming, fail)
 }
 
 impl Objects {
@@ -210,7 +223,7 @@ fn lines_of(
     let mut found = String::new(alloc);
     add_lines(&mut found, "< ", objects.out.written())?;
     add_cut(&mut found, objects.out.written())?;
-    add_responses(&mut found, objects.net.closed())?;
+    add_responses(&mut found, objects.net.given_back())?;
     add_lines(&mut found, "note ", objects.notes.written())?;
     add_status(alloc, &mut found, status)?;
     if given.shows_kept {

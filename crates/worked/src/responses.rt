@@ -1,5 +1,5 @@
 // What was written to connections.
-use reg_outside::MemoryConn;
+use reg_outside::GivenBack;
 use std::alloc::AllocError;
 
 /// Adds a line of a response, which an LF ends. One that a CR LF ends is a line of its head; else
@@ -46,9 +46,9 @@ fn add_written(found: &mut String, bytes: &[u8]) -> Result<(), AllocError> {
 }
 
 /// Adds what was written to the connections that were given back, one after another.
-pub fn add_responses(found: &mut String, closed: &[MemoryConn]) -> Result<(), AllocError> {
-    for conn in closed {
-        add_written(found, conn.written())?;
+pub fn add_responses(found: &mut String, given_back: &[GivenBack]) -> Result<(), AllocError> {
+    for back in given_back {
+        add_written(found, back.conn.written())?;
     }
     Ok(())
 }

@@ -36,7 +36,7 @@ pub struct Run {
     pub fail_disk: Vec<u64>,
     pub fail_second: Vec<u64>,
     pub fail_net: Vec<u64>,
-    /// The connections that come, in order. What is given behind the first is theirs.
+    /// What comes of connections, in order. What is given behind the first is theirs.
     pub connections: Vec<Connection>,
     pub wanted: String,
     pub shows_kept: bool,
@@ -239,9 +239,17 @@ impl Run {
         }
     }
 
-    fn add_connection(&mut self, alloc: Global) -> Result<bool, AllocError> {
-        self.connections.push(Connection::new(alloc))?;
+    fn add_connection(&mut self, alloc: Global, sender: Option<usize>) -> Result<bool, AllocError> {
+        self.connections.push(Connection::new(alloc, sender))?;
         Ok(true)
+    }
+
+    /// Adds bytes of the connection with this number, from 1 on.
+    fn add_more(&mut self, alloc: Global, number: &str) -> Result<bool, AllocError> {
+        match size_of(number) {
+            Some(number) => self.add_connection(alloc, Some(number.saturating_sub(1))),
+            None => Ok(false),
+        }
     }
 
     /// Takes a line of what the last connection is given. False where there is none, or the line
@@ -260,7 +268,8 @@ impl Run {
         };
         match key {
             "<" | "reply" | "cut" | "closed" | "note" | "status" => self.want(line),
-            "connection" => self.add_connection(alloc),
+            "connection" => self.add_connection(alloc, None),
+            "more" => self.add_more(alloc, rest),
             "ok" => self.want_number(rest),
             "kept" => {
                 self.shows_kept = true;

@@ -4,7 +4,7 @@ ghost use Rattle.std.specs.Prelude.{◌≡◌, IfOk, is_some, true};
 use super::otherwise::{Otherwise, expect};
 use super::registry::empty;
 use reg_base::Moment;
-use reg_outside::{ListClock, Listener};
+use reg_outside::{Accepted, ListClock, Listener};
 use reg_serve::{Ended, serve_connection};
 use reg_service::Next;
 use reg_tcp::TcpPort;
@@ -78,16 +78,16 @@ fn serve<R: Net + Eprint>(alloc: Global, net: &mut TcpPort<R>) -> Result<(), Oth
 {
     let mut clock = clock(alloc)?;
     let service = empty(alloc)?;
-    let Ok(Some(mut conn)) = net.accept() else {
+    let Ok(Some(Accepted { number, mut conn })) = net.accept() else {
         return Err(Otherwise::NotSo("a connection comes"));
     };
     let (ended, next) = serve_connection(alloc, service, &mut conn, &mut clock);
-    let is_given_back = net.give_back(conn, &[]).is_ok();
+    let is_given_back = net.give_back(Accepted { number, conn }, &[]).is_ok();
     let goes_on = matches!(&next, Next::Go(_));
     drop(next);
     expect(is_given_back, "the connection is given back")?;
     expect(
-        ended == Ended::Closed,
+        ended == Ended::Silent,
         "the connection ends since its bytes do",
     )?;
     expect(goes_on, "the registry goes on")
