@@ -3,9 +3,10 @@
 the client says; a command from a page of another site, and one of another type, is refused and not carried out; a client
 that sends half a message, and one that doesn't read a response of 6 MB, keep no other waiting; 200 clients at once are all
 answered; a chunked body is taken, and one that is too long refused; where the registry breaks off, a question goes on to a
-standby and a command doesn't. Each answer is JSON that nobody stores. Then docs/serving/auditors.conf: an auditor reads as
-root, and nobody else and nothing else gets through. Beside that, how long the same two slow clients keep others waiting at
-the registry's own port. It needs nginx, openssl and PyYAML.
+standby and a command doesn't; where a kept connection ends, a question is sent again, and no command goes over one. Each
+answer is JSON that nobody stores. Then docs/serving/auditors.conf: an auditor reads as root, and nobody else and nothing else
+gets through. Beside that, how long the same two slow clients keep others waiting at the registry's own port. It needs nginx,
+openssl and PyYAML.
 Build the program first (./quickstart.sh). PERSONS sets how many make the 6 MB."""
 import json
 import os
@@ -171,10 +172,11 @@ def try_sites(front):
 
 
 class Breaking:
-    """A server that takes each connection, waits, and ends it without an answer: how many it had."""
+    """A server that answers so many messages of each connection, takes one more, waits, and ends the connection without an
+    answer: how many messages it had."""
 
-    def __init__(self, seconds=0.0):
-        self.seconds, self.count = seconds, 0
+    def __init__(self, seconds=0.0, answered=0):
+        self.seconds, self.answered, self.count = seconds, answered, 0
         self.socket = socket.create_server(("127.0.0.1", 0))
         self.port = self.socket.getsockname()[1]
         threading.Thread(target=self.run, daemon=True).start()
@@ -182,10 +184,21 @@ class Breaking:
     def run(self):
         while True:
             conn, _ = self.socket.accept()
-            self.count += 1
-            time.sleep(self.seconds)
-            conn.recv(1 << 16)
-            conn.close()
+            threading.Thread(target=self.serve, args=(conn,), daemon=True).start()
+
+    def serve(self, conn):
+        with conn:
+            for _ in range(self.answered):
+                if not self.takes(conn):
+                    return
+                conn.sendall(b"HTTP/1.1 200 OK\r\nContent-Type: application/json\r\nContent-Length: 12\r\n\r\n{\"ok\":true}\n")
+            if self.takes(conn):
+                time.sleep(self.seconds)
+
+    def takes(self, conn):
+        taken = conn.recv(1 << 16) != b""
+        self.count += taken
+        return taken
 
 
 def try_faults(folder, standby):
@@ -195,12 +208,19 @@ def try_faults(folder, standby):
         post = front.message("POST", "/requests", [JSON], body)
         small = front.message("GET", "/groups/small/members")
         expect("no registry", told(front.ask(small)), UNREACHABLE)
-    breaking, slow = Breaking(), Breaking(5.0)
+    breaking, slow, kept = Breaking(), Breaking(5.0), Breaking(answered=1)
     with FrontEnd(folder, breaking.port, (standby, free_port())) as front:
         members = (200, {"members": [], "ok": True})
         expect("the registry breaks off, and a standby answers", told(front.ask(small)), members)
         expect("a command isn't sent to it", told(front.ask(post)), UNREACHABLE)
         expect("nor twice to the registry", breaking.count, 2)
+    with FrontEnd(folder, kept.port) as front, front.connect() as conn:
+        answers, fine = Answers(conn), (200, {"ok": True})
+        for sent, title in ((small, "a question opens a connection, which is kept"), (small, "it ends, and the question is sent again"),
+                            (post, "a command opens its own"), (post, "which isn't kept")):
+            conn.sendall(sent)
+            expect(title, told(answers.next()), fine)
+        expect("each command was sent once", kept.count, 5)
     with FrontEnd(folder, slow.port, changes=[("proxy_read_timeout 60s", "proxy_read_timeout 1s")]) as front:
         expect("the registry is late", told(front.ask(post)), TIMEOUT)
         expect("a command is sent once", slow.count, 1)

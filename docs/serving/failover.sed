@@ -8,7 +8,7 @@ upstream registry {\
     server 127.0.0.1:8080 max_fails=0;\
     server OTHER:8080 fail_timeout=5s;\
 }
-# questions go where commands go
+# questions go where commands go, over a connection each
 /GET registry_questions;/d
 s/proxy_connect_timeout 10s;/proxy_connect_timeout 2s;/
 # where no connection is made the other one is tried; a command that was sent goes to no second machine
