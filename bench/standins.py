@@ -1,13 +1,15 @@
 #!/usr/bin/env python3
-"""Makes stand-ins of crates in a copy of the repository: each has the contracts that it had, and no bodies.
+"""Makes stand-ins of crates in a copy of the repository: each has the contracts that other crates see, and no bodies.
 
     bench/standins.py COPY CRATE..
     cd COPY/crates/CRATE && RT_ALLOW_C=1 rt lib
 
-A crate above is then checked over libraries that take a third of the time, before the real ones are proved, as
+A crate above is then checked over libraries that take a fifth of the time, before the real ones are proved, as
 `cd COPY/crates/ABOVE && RT_ALLOW_C=1 rt check`; its proofs stand unchanged over the real ones. Each body becomes a call
-of a C function that never comes back, which `reg_absurd` declares: so nothing of COPY may be committed. Lemma files stay
-where another crate cites them; all other proofs of these crates go.
+of a C function that never comes back, which `reg_absurd` declares: so nothing of COPY may be committed. Functions that no
+other crate sees go, with their imports. Lemma files stay where another crate cites them; all other proofs of these crates
+go. Builds within one copy wait for each other: two crates are built side by side in two copies, of which each has links to
+the folders `out/rlib` of what is below.
 """
 import os
 import re
@@ -28,6 +30,9 @@ CLAUSE = re.compile(r"\b(requires|ensures)\*?(\s+\w+)?\s*$")
 GHOST = re.compile(r"ghost\s+\w+\s*=\s*\{")
 TACTIC = re.compile(r"#\[tactic\((?:[^\[\]]|\[[^\]]*\])*?\)\]\s*\n")
 CITED = re.compile(r"Rattle\.(\w+)\.proofs\.([\w.]+)")
+USING = re.compile(r"\b(reg_\w+)::proofs::([\w:]+)")
+IMPORT = re.compile(r"(?m)^[ ]*(?:pub(?:\([a-z]+\))? )?use (?:crate|super)\b[^;]*;\n")
+DEFINED = re.compile(r"\b(?:fn|struct|enum|trait|const|static|type)\s+(\w+)")
 OF_A_FUNCTION = ("Answers", "Invariants", "Proof", "Given", "Goals")
 
 
@@ -105,13 +110,54 @@ def next_function(code, at):
     return None
 
 
+def is_seen(code, at):
+    """Whether another crate sees the function whose name ends here: a public one, or one of a trait."""
+    begin = code.rindex("\n", 0, at) + 1
+    if code.startswith("pub ", begin + len(code[begin:at]) - len(code[begin:at].lstrip())):
+        return True
+    if not code[begin].isspace():
+        return False
+    heads = [it.start() for it in re.finditer(r"(?m)^(?:impl|pub trait|trait|pub\(crate\) trait)\b", code[:begin])]
+    head = code[heads[-1] : code.index("{", heads[-1])]
+    return not head.startswith("impl") or " for " in head
+
+
+def before_comment(code, at):
+    """The begin of the comments and attributes that stand on the lines above."""
+    while at > 0:
+        begin = code.rfind("\n", 0, at - 1) + 1
+        if not re.match(r"\s*(//[^!]|#\[)", code[begin:at]):
+            break
+        at = begin
+    return at
+
+
 def without_bodies(code):
     pieces, at = [], 0
     while (name := next_function(code, at)) is not None:
         body = body_of(code, name)
-        pieces += [code[at:name]] if body is None else [code[at : body[0]], BODY]
-        at = name if body is None else body[1]
+        if body is None:
+            pieces, at = [*pieces, code[at:name]], name
+        elif is_seen(code, name):
+            pieces, at = [*pieces, code[at : body[0]], BODY], body[1]
+        else:
+            pieces, at = [*pieces, code[at : before_comment(code, code.rindex("\n", 0, name) + 1)]], body[1]
     return TACTIC.sub("", "".join([*pieces, code[at:]]))
+
+
+def without_imports(code, gone):
+    """The code without imports of functions that have gone."""
+
+    def left(found):
+        text = found[0]
+        group = re.search(r"\{([^{}]*)\}", text)
+        names = [it.strip() for it in group[1].split(",") if it.strip()] if group else [text[:-2].split("::")[-1].strip()]
+        kept = [it for it in names if it.split(" as ")[0] not in gone]
+        if len(kept) == len(names):
+            return text
+        return text[: group.start()] + "{" + ", ".join(kept) + "}" + text[group.end() :] if group and kept else ""
+
+    return IMPORT.sub(left, code)
 
 
 def texts(folder, *endings):
@@ -136,8 +182,8 @@ def cited_of(top, crate):
     folder = f"{top}/crates/{crate}/proofs"
     files = {os.path.relpath(it, folder)[:-5].replace(os.sep, "."): it for it in texts(folder, ".antt")}
     others = [it for it in os.listdir(f"{top}/crates") if it != crate]
-    left = [module for other in others for path in texts(f"{top}/crates/{other}", ".antt", ".rt")
-            for name, module in CITED.findall(read(path)) if name == crate]
+    left = [module.replace("::", ".") for other in others for path in texts(f"{top}/crates/{other}", ".antt", ".rt")
+            for cited in (CITED, USING) for name, module in cited.findall(read(path)) if name == crate]
     kept = set()
     while left:
         parts = left.pop().split(".")
@@ -158,8 +204,11 @@ def stand_in(top, crate):
         lines = read(files["Lib"]).split("\n")
         said = [re.match(r"\s*(?:pub )?mod (\w+)", it) for it in lines]
         write(files["Lib"], "\n".join(it for it, m in zip(lines, said) if not m or m[1] in fronts))
-    for path in texts(f"{top}/crates/{crate}/src", ".rt"):
-        write(path, without_bodies(read(path)))
+    sources = {path: read(path) for path in texts(f"{top}/crates/{crate}/src", ".rt")}
+    stripped = {path: without_bodies(code) for path, code in sources.items()}
+    gone = set(DEFINED.findall("".join(sources.values()))) - set(DEFINED.findall("".join(stripped.values())))
+    for path, code in stripped.items():
+        write(path, without_imports(code, gone))
 
 
 def main(top, *crates):
