@@ -1,6 +1,7 @@
 -- From connection to connection of a listener.
-use Rattle.std.proofs.Common.{◌≡◌, ◌≤◌, ◌<◌, ◌+◌, ◌++◌, ◌∷◌, [], List, ℕ, Option, Some, None, Result, Ok, Err, refl, ap, sym, ◌∙◌, append_assoc, arith, inl, inr, ◌⊎◌, length, length-append, option_map}
-use Rattle.std.specs.Prelude.{IfSome, OnOk, OnErr}
+use Rattle.std.proofs.Common.{◌≡◌, ◌≤◌, ◌<◌, ◌+◌, ◌++◌, ◌∷◌, [], List, ℕ, Option, Some, None, Result, Ok, Err, refl, ap, sym, ◌∙◌, append_assoc, arith, inl, inr, ◌⊎◌, length, length-append, option_map, Bool, true}
+use Rattle.std.specs.Prelude.{IfSome, OnOk, OnErr, is_ok}
+use Rattle.std.proofs.lemmas.List.Elements.{All-append, All-cons, All-nil}
 use Rattle.reg_outside.specs.Connections.{Accepts, Arrival, Connections, HasOut, HasTurn, Seen, back_of, gives_back, next_turn, opens, sends}
 use Rattle.reg_outside.specs.declared.listener.Accepted.{Accepted}
 use Rattle.reg_outside.specs.Faults.{Rose}
@@ -16,7 +17,7 @@ use Rattle.reg_service.specs.declared.service.Next.TheVariants as next
 use Rattle.reg_session.proofs.Halting.{halted_then}
 use Rattle.reg_serve.specs.Answered.{Outcome, goes, stops}
 use Rattle.reg_serve.specs.Keeping.{IsLeft}
-use Rattle.reg_serve.specs.Visits.{BreaksAt, CeasesAt, CeasesNext, CeasesServing, GivesBack, IsVisit, NoneComes, ServedSo, ServesVisits, Sessions, StopsAtLast, Visit, Visited, Visits, ceased_of}
+use Rattle.reg_serve.specs.Visits.{BreaksAt, CeasesAt, CeasesNext, CeasesServing, GivesBack, IsTaken, IsVisit, NoneComes, ServedSo, ServesVisits, Sessions, StopsAtLast, Visit, Visited, Visits, ceased_of}
 use Rattle.reg_serve.specs.declared.ended.Ceased.{Ceased}
 use Rattle.reg_serve.specs.declared.ended.Ceased.TheVariants as ceased
 use Rattle.reg_serve.specs.declared.ended.Ended.{Ended}
@@ -59,12 +60,12 @@ none_told {C = C} {E = E} see old new r a is = go old new (rw is at a)
     go (Some o) (Some n) a = (a.1, rw a.1 a.0)
 
 -- one was, and it was given back
-pub one_told : {C E : Type 0} (see : C → Seen) (old mid new : Option Connections) (accepted : Accepted C) (back : Seen) (left : Option (List ℕ)) (r : Result (Option (Accepted C)) E) → Accepts see old mid r → r ≡ Ok (Some accepted)
-    → new ≡ option_map (gives_back (back_of accepted.number back left)) mid → Visits old new ((record { number = accepted.number; came = see accepted.conn; back = back; unfinished = left }) ∷ [])
-one_told {E = E} see old mid new accepted back left r a is told = rw told (go old mid (rw is at a))
+pub one_told : {C E : Type 0} (see : C → Seen) (old mid new : Option Connections) (accepted : Accepted C) (back : Seen) (left : Option (List ℕ)) (given : Bool) (r : Result (Option (Accepted C)) E) → Accepts see old mid r → r ≡ Ok (Some accepted)
+    → new ≡ option_map (gives_back (back_of accepted.number back left)) mid → Visits old new ((record { number = accepted.number; came = see accepted.conn; back = back; unfinished = left; is_taken = given }) ∷ [])
+one_told {E = E} see old mid new accepted back left given r a is told = rw told (go old mid (rw is at a))
   where
     go : (old mid : Option Connections) → Accepts {E = E} see old mid (Ok (Some accepted))
-        → Visits old (option_map (gives_back (back_of accepted.number back left)) mid) ((record { number = accepted.number; came = see accepted.conn; back = back; unfinished = left }) ∷ [])
+        → Visits old (option_map (gives_back (back_of accepted.number back left)) mid) ((record { number = accepted.number; came = see accepted.conn; back = back; unfinished = left; is_taken = given }) ∷ [])
     go None None a = tt
     go None (Some m) a = absurd a
     go (Some o) None a = absurd a
@@ -91,9 +92,9 @@ sessions_then s mid last ms between later (x ∷ xs) ys a b = (a.0, a.1, a.2, a.
 
 -- a connection that no more bytes came of is open, or over where it couldn't be given back
 pub silent_back : {A E : Type 0} (r : Result A E) (end : Ended) (unfinished : List ℕ) (number : ℕ) (conn : Seen) (old new : Option Connections) → end ≡ ended.Silent → OnOk r (new ≡ option_map (gives_back (back_of number conn (Some unfinished))) old)
-    → OnErr r (new ≡ option_map (gives_back (back_of number conn None)) old) → (left : Option (List ℕ)) × IfSome left (λ bytes. (end ≡ ended.Silent) × (unfinished ≡ bytes)) × (new ≡ option_map (gives_back (back_of number conn left)) old)
-silent_back (Ok x) end unfinished number conn old new is back over = (Some unfinished, (is, refl), back)
-silent_back (Err e) end unfinished number conn old new is back over = (None, tt, over)
+    → OnErr r (new ≡ option_map (gives_back (back_of number conn None)) old) → (left : Option (List ℕ)) × IfSome left (λ bytes. (end ≡ ended.Silent) × (unfinished ≡ bytes)) × (is_ok r ≡ true → end ≡ ended.Silent → left ≡ Some unfinished) × (new ≡ option_map (gives_back (back_of number conn left)) old)
+silent_back (Ok x) end unfinished number conn old new is back over = (Some unfinished, (is, refl), (λ t e. refl), back)
+silent_back (Err e) end unfinished number conn old new is back over = (None, tt, (λ t e. absurd (cc)), over)
 
 -- what a connection may come again with is what was read of it last
 pub rests_so : (e : Ended) (rest held unfinished : List ℕ) (left : Option (List ℕ)) → (e ≡ ended.Silent → rest ≡ held) → unfinished ≡ held → IfSome left (λ bytes. (e ≡ ended.Silent) × (unfinished ≡ bytes))
@@ -101,30 +102,33 @@ pub rests_so : (e : Ended) (rest held unfinished : List ℕ) (left : Option (Lis
 rests_so e rest held unfinished None so is back = tt
 rests_so e rest held unfinished (Some bytes) so is back = (back.0, so back.0 ∙ (sym is ∙ back.1))
 
+pub kept_so : (e : Ended) (rest held unfinished : List ℕ) (left : Option (List ℕ)) (given : Bool) → (e ≡ ended.Silent → rest ≡ held) → unfinished ≡ held → (given ≡ true → e ≡ ended.Silent → left ≡ Some unfinished) → given ≡ true → e ≡ ended.Silent → left ≡ Some rest
+kept_so e rest held unfinished left given so is back taken silent = back taken silent ∙ ap Some (is ∙ sym (so silent))
+
 -- ---- one connection
 
 -- none was served
-unfoldable pub served_none : (s : State) (ms : Option (List ℕ)) (old new : Option Connections) → Visits old new [] → ServedSo 0 s ms old new s ms
-served_none s ms old new told = record { visits = []; told = told; counted = refl; sessions = (refl, refl) }
+unfoldable pub served_none : (s : State) (ms : Option (List ℕ)) (old new : Option Connections) → Visits old new [] → ServedSo true 0 s ms old new s ms
+served_none s ms old new told = record { visits = []; told = told; counted = refl; sessions = (refl, refl); taken = λ is. All-nil IsTaken }
 
 -- one was, after which the service goes on
-pub served_one : {C E K : Type 0} (see : C → Seen) (g : Ghosts K) (s : State) (k : K) (ms : Option (List ℕ)) (old mid new : Option Connections) (later : Option (List ℕ)) (accepted : Accepted C) (r : Result (Option (Accepted C)) E) (n : Next K) (after : Served K)
-    → Accepts see old mid r → r ≡ Ok (Some accepted) → GivesBack g s k ms accepted.number (see accepted.conn) mid new later n → n ≡ next.Go after
-    → ServedSo 1 s ms old new after.state later × KeptOn g s.history k after.state.history after.keeper
-served_one see g s k ms old mid new later accepted r n after a took b is = go b.to b.is (rw is at b.leaves)
+pub served_one : {C E K : Type 0} (see : C → Seen) (g : Ghosts K) (s : State) (k : K) (ms : Option (List ℕ)) (old mid new : Option Connections) (later : Option (List ℕ)) (accepted : Accepted C) (given : Bool) (r : Result (Option (Accepted C)) E) (n : Next K) (after : Served K)
+    → Accepts see old mid r → r ≡ Ok (Some accepted) → GivesBack g s k ms accepted.number (see accepted.conn) given mid new later n → n ≡ next.Go after
+    → ServedSo given 1 s ms old new after.state later × KeptOn g s.history k after.state.history after.keeper
+served_one see g s k ms old mid new later accepted given r n after a took b is = go b.to b.is (rw is at b.leaves)
   where
-    go : (to : Outcome) (v : IsVisit s ms (record { number = accepted.number; came = see accepted.conn; back = b.back; unfinished = b.unfinished }) b.end to later) → IsLeft g s.history k v.session.last.state.history to (next.Go after)
-        → ServedSo 1 s ms old new after.state later × KeptOn g s.history k after.state.history after.keeper
+    go : (to : Outcome) (v : IsVisit s ms (record { number = accepted.number; came = see accepted.conn; back = b.back; unfinished = b.unfinished; is_taken = given }) b.end to later) → IsLeft g s.history k v.session.last.state.history to (next.Go after)
+        → ServedSo given 1 s ms old new after.state later × KeptOn g s.history k after.state.history after.keeper
     go (goes t) v l = (
-      record { visits = (record { number = accepted.number; came = see accepted.conn; back = b.back; unfinished = b.unfinished }) ∷ []; told = one_told see old mid new accepted b.back b.unfinished r a took b.told; counted = refl; sessions = (b.end, t, later, v, (l.0, refl)) },
+      record { visits = (record { number = accepted.number; came = see accepted.conn; back = b.back; unfinished = b.unfinished; is_taken = given }) ∷ []; told = one_told see old mid new accepted b.back b.unfinished given r a took b.told; counted = refl; sessions = (b.end, t, later, v, (l.0, refl)); taken = λ is. All-cons IsTaken _ [] is (All-nil IsTaken) },
       rw l.0 l.1,
     )
     go (stops why h) v l = absurd l
 
 -- a call of the listener failed, before it or behind it
-unfoldable pub ceases_listener : {K : Type 0} (g : Ghosts K) (count : ℕ) (s last : State) (k keeper : K) (ms : Option (List ℕ)) (old new : Option Connections) (later : Option (List ℕ)) → ServedSo count s ms old new last later → count ≤ 1
+unfoldable pub ceases_listener : {K : Type 0} (g : Ghosts K) (given : Bool) (count : ℕ) (s last : State) (k keeper : K) (ms : Option (List ℕ)) (old new : Option Connections) (later : Option (List ℕ)) → ServedSo given count s ms old new last later → count ≤ 1
     → (h : Halted g s.history k keeper) → h.answered ≡ last.history → h.after ≡ last.history → CeasesNext g s k ms old new later ceased.Listener keeper
-ceases_listener g count s last k keeper ms old new later served one h answered after = record {
+ceases_listener g given count s last k keeper ms old new later served one h answered after = record {
   visits = served.visits;
   told = served.told;
   few = omega (arith, served.counted, one);
@@ -154,22 +158,22 @@ ceases_stopped g s k keeper ms old new later visit e why cause after v h same an
       ends = rw (same, kept) (breaks_stopped s ms (visit ∷ []) later h.answered after cause (stops_at_last s ms visit e later cause h.answered after v answered));
     }
 
-pub stopped_one : {C E K : Type 0} (see : C → Seen) (g : Ghosts K) (s : State) (k : K) (ms : Option (List ℕ)) (old mid new : Option Connections) (later : Option (List ℕ)) (accepted : Accepted C) (r : Result (Option (Accepted C)) E) (n : Next K) (why : Cause) (keeper : K)
-    → Accepts see old mid r → r ≡ Ok (Some accepted) → GivesBack g s k ms accepted.number (see accepted.conn) mid new later n → n ≡ next.Stop why keeper → CeasesNext g s k ms old new later (ceased_of why) keeper
-stopped_one see g s k ms old mid new later accepted r n why keeper a took b is = go b.to b.is (rw is at b.leaves)
+pub stopped_one : {C E K : Type 0} (see : C → Seen) (g : Ghosts K) (s : State) (k : K) (ms : Option (List ℕ)) (old mid new : Option Connections) (later : Option (List ℕ)) (accepted : Accepted C) (given : Bool) (r : Result (Option (Accepted C)) E) (n : Next K) (why : Cause) (keeper : K)
+    → Accepts see old mid r → r ≡ Ok (Some accepted) → GivesBack g s k ms accepted.number (see accepted.conn) given mid new later n → n ≡ next.Stop why keeper → CeasesNext g s k ms old new later (ceased_of why) keeper
+stopped_one see g s k ms old mid new later accepted given r n why keeper a took b is = go b.to b.is (rw is at b.leaves)
   where
     visit : Visit
-    visit = record { number = accepted.number; came = see accepted.conn; back = b.back; unfinished = b.unfinished }
+    visit = record { number = accepted.number; came = see accepted.conn; back = b.back; unfinished = b.unfinished; is_taken = given }
 
     go : (to : Outcome) (v : IsVisit s ms visit b.end to later) → IsLeft g s.history k v.session.last.state.history to (next.Stop why keeper) → CeasesNext g s k ms old new later (ceased_of why) keeper
     go (goes t) v l = absurd l
-    go (stops cause after) v l = ceases_stopped g s k keeper ms old new later visit b.end why cause after v l.1.0 l.0 l.1.1 l.1.2 (one_told see old mid new accepted b.back b.unfinished r a took b.told)
+    go (stops cause after) v l = ceases_stopped g s k keeper ms old new later visit b.end why cause after v l.1.0 l.0 l.1.1 l.1.2 (one_told see old mid new accepted b.back b.unfinished given r a took b.told)
 
-pub stop_rose : {K : Type 0} (g : Ghosts K) (s : State) (k : K) (ms : Option (List ℕ)) (number : ℕ) (came : Seen) (old new : Option Connections) (later : Option (List ℕ)) (n : Next K) (why : Cause) (keeper : K) → GivesBack g s k ms number came old new later n
+pub stop_rose : {K : Type 0} (g : Ghosts K) (s : State) (k : K) (ms : Option (List ℕ)) (number : ℕ) (came : Seen) (given : Bool) (old new : Option Connections) (later : Option (List ℕ)) (n : Next K) (why : Cause) (keeper : K) → GivesBack g s k ms number came given old new later n
     → n ≡ next.Stop why keeper → ceased_of why ≡ ceased.Disk → Rose (g.keep_faults k) (g.keep_faults keeper)
-stop_rose g s k ms number came old new later n why keeper b is disk = at why disk (go b.to b.is (rw is at b.leaves))
+stop_rose g s k ms number came given old new later n why keeper b is disk = at why disk (go b.to b.is (rw is at b.leaves))
   where
-    go : (to : Outcome) (v : IsVisit s ms (record { number = number; came = came; back = b.back; unfinished = b.unfinished }) b.end to later) → IsLeft g s.history k v.session.last.state.history to (next.Stop why keeper) → RoseAt why (g.keep_faults k) (g.keep_faults keeper)
+    go : (to : Outcome) (v : IsVisit s ms (record { number = number; came = came; back = b.back; unfinished = b.unfinished; is_taken = given }) b.end to later) → IsLeft g s.history k v.session.last.state.history to (next.Stop why keeper) → RoseAt why (g.keep_faults k) (g.keep_faults keeper)
     go (goes t) v l = absurd l
     go (stops cause after) v l = l.2
 
@@ -179,17 +183,18 @@ stop_rose g s k ms number came old new later n why keeper b is disk = at why dis
 
 -- ---- one after another
 
-unfoldable pub served_then : (m n : ℕ) (s mid last : State) (ms between later : Option (List ℕ)) (old told new : Option Connections) → ServedSo m s ms old told mid between → ServedSo n mid between told new last later → ServedSo (m + n) s ms old new last later
+unfoldable pub served_then : (m n : ℕ) (s mid last : State) (ms between later : Option (List ℕ)) (old told new : Option Connections) → ServedSo true m s ms old told mid between → ServedSo true n mid between told new last later → ServedSo true (m + n) s ms old new last later
 served_then m n s mid last ms between later old told new a b = record {
   visits = a.visits ++ b.visits;
   told = visits_then old told new a.visits b.visits a.told b.told;
   counted = omega (arith, length-append a.visits b.visits, a.counted, b.counted);
   sessions = sessions_then s mid last ms between later a.visits b.visits a.sessions b.sessions;
+  taken = λ is. All-append IsTaken a.visits b.visits (a.taken refl) (b.taken refl);
 }
 
 -- as many as were to be served, or all that were to come
-unfoldable pub serves_all : (count limit : ℕ) (s last : State) (ms later : Option (List ℕ)) (old new : Option Connections) → ServedSo count s ms old new last later → count ≤ limit → (count ≡ limit) ⊎ NoneComes new → ServesVisits limit s ms old new last later
-serves_all count limit s last ms later old new a few done = record { visits = a.visits; told = a.told; few = omega (arith, a.counted, few); done = ends done; sessions = a.sessions }
+unfoldable pub serves_all : (count limit : ℕ) (s last : State) (ms later : Option (List ℕ)) (old new : Option Connections) → ServedSo true count s ms old new last later → count ≤ limit → (count ≡ limit) ⊎ NoneComes new → ServesVisits limit s ms old new last later
+serves_all count limit s last ms later old new a few done = record { visits = a.visits; told = a.told; few = omega (arith, a.counted, few); done = ends done; sessions = a.sessions; taken = a.taken refl }
   where
     ends : (count ≡ limit) ⊎ NoneComes new → (length a.visits ≡ limit) ⊎ NoneComes new
     ends (inl e) = inl (a.counted ∙ e)
@@ -216,7 +221,7 @@ breaks_then s mid ms between later xs ys answered after ceased.Memory a b = inr 
 breaks_then s mid ms between later xs ys answered after ceased.Disk a b = stops_then s mid ms between later xs ys answered after cause.Disk a b
 
 -- no more were
-unfoldable pub ceases_then : {K : Type 0} (g : Ghosts K) (count limit : ℕ) (s mid : State) (k0 k1 keeper : K) (ms between later : Option (List ℕ)) (old told new : Option Connections) (why : Ceased) → ServedSo count s ms old told mid between
+unfoldable pub ceases_then : {K : Type 0} (g : Ghosts K) (count limit : ℕ) (s mid : State) (k0 k1 keeper : K) (ms between later : Option (List ℕ)) (old told new : Option Connections) (why : Ceased) → ServedSo true count s ms old told mid between
     → KeptOn g s.history k0 mid.history k1 → count < limit → CeasesNext g mid k1 between told new later why keeper → CeasesServing g limit s k0 ms old new later why keeper
 ceases_then g count limit s mid k0 k1 keeper ms between later old told new why a kept few b = record {
   visits = a.visits ++ b.visits;

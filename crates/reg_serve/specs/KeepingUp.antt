@@ -80,9 +80,10 @@ output_seen conn = record { written = conn.written; marks = conn.marks }
 
 -- an accepted connection was given back, and its responses keep up with what is left
 abbrev pub BackKeepsUp : {K : Type 0} → Ghosts K → State → K → Option (List ℕ) → (number : ℕ)
-    → Seen → Option Connections → Option Connections → Option (List ℕ) → Next K → Type 0
-BackKeepsUp g s keeper moments number came old new later n =
-    (b : GivesBack g s keeper moments number came old new later n)
+    → Seen → (is_taken : Bool) → Option Connections → Option Connections → Option (List ℕ) → Next K
+    → Type 0
+BackKeepsUp g s keeper moments number came is_taken old new later n =
+    (b : GivesBack g s keeper moments number came is_taken old new later n)
     × KeepsUpTo g keeper (output_seen came) (output_seen b.back) n b.to
 
 -- what was written in each of these visits, from its coming until it was given back, keeps up with

@@ -1,6 +1,6 @@
 -- Connections, one after another.
 use Rattle.std.specs.Prelude.{◌≡◌, ◌⊎◌, ◌≤◌, ◌++◌, ◌∷◌, ℕ, List, [], length, Option, Some, None}
-use Rattle.std.specs.Prelude.{option_map, IfSome}
+use Rattle.std.specs.Prelude.{option_map, All, Bool, IfSome, true}
 use Rattle.reg_outside.specs.Connections.{Connections, HasTurn, Seen, back_of, gives_back}
 use Rattle.reg_outside.specs.Connections.{next_turn}
 use Rattle.reg_outside.specs.Faults.{Rose}
@@ -19,13 +19,15 @@ use Rattle.reg_serve.specs.declared.ended.Ceased.TheVariants as ceased
 use Rattle.reg_serve.specs.declared.ended.Ended.{Ended}
 use Rattle.reg_serve.specs.declared.ended.Ended.TheVariants as ended
 
--- A turn of a connection: the connection's number, how it came and how it was given back, and what
--- was read of it last and is no whole message, where it may have another turn.
+-- A turn of a connection: the connection's number, how it came and how it was given back, what was
+-- read of it last and is no whole message, where it may have another turn, and whether the call
+-- succeeded by which it was given back.
 pub record Visit : Type 0 where
   pub number : ℕ
   pub came : Seen
   pub back : Seen
   pub unfinished : Option (List ℕ)
+  pub is_taken : Bool
 
 -- The next turn that was to come was had, and the connection given back.
 pub record HadTurn (v : Visit) (old new : Connections) : Type 0 where
@@ -50,7 +52,8 @@ abbrev pub NoneComes : Option Connections → Type 0
 NoneComes told = IfSome told (λ (c : Connections). next_turn c.given_back c.coming ≡ [])
 
 -- One visit was a session with this end, which left the registry so. Where a call of the connection
--- failed, a count of it rose. It may have another turn only where no more bytes came.
+-- failed, a count of it rose. It may have another turn just where no more bytes came, and the
+-- listener has taken it back.
 pub record IsVisit (s : State) (moments : Option (List ℕ)) (v : Visit) (e : Ended) (to : Outcome)
     (later : Option (List ℕ)) : Type 0 where
   pub session : Session (record {
@@ -62,6 +65,8 @@ pub record IsVisit (s : State) (moments : Option (List ℕ)) (v : Visit) (e : En
       → Rose v.came.read_faults v.back.read_faults ⊎ Rose v.came.write_faults v.back.write_faults
   pub open_still : IfSome v.unfinished (λ bytes. (e ≡ ended.Silent)
       × (session.reading.rest ≡ bytes))
+  pub kept : v.is_taken ≡ true → e ≡ ended.Silent
+      → v.unfinished ≡ Some session.reading.rest
 
 -- These visits were sessions, one after another, after each of which the service went on: from this
 -- state and these moments to come to those.
@@ -71,7 +76,12 @@ Sessions s moments (v ∷ visits) last later =
     (e : Ended) × (mid : State) × (between : Option (List ℕ))
     × IsVisit s moments v e (goes mid) between × Sessions mid between visits last later
 
--- At most so many turns were had, which led to that state: as many, or all that were to come.
+-- the listener has taken the connection back
+abbrev pub IsTaken : Visit → Type 0
+IsTaken v = v.is_taken ≡ true
+
+-- At most so many turns were had, which led to that state: as many, or all that were to come. Each
+-- connection was taken back.
 pub record ServesVisits (limit : ℕ) (s : State) (moments : Option (List ℕ))
     (old new : Option Connections) (last : State) (later : Option (List ℕ)) : Type 0 where
   pub visits : List Visit
@@ -79,6 +89,7 @@ pub record ServesVisits (limit : ℕ) (s : State) (moments : Option (List ℕ))
   pub few : length visits ≤ limit
   pub done : (length visits ≡ limit) ⊎ NoneComes new
   pub sessions : Sessions s moments visits last later
+  pub taken : All IsTaken visits
 
 -- all visits were sessions after which the service went on, and all that was answered is kept
 abbrev pub AllServed : State → Option (List ℕ) → List Visit → Option (List ℕ)
@@ -128,18 +139,19 @@ abbrev pub ceased_of : Cause → Ceased
 ceased_of cause.Memory = ceased.Memory
 ceased_of cause.Disk = ceased.Disk
 
--- so many turns were had, which led to that state
-pub record ServedSo (count : ℕ) (s : State) (moments : Option (List ℕ))
+-- so many turns were had, which led to that state; and all connections taken back, if that is so
+pub record ServedSo (is_taken : Bool) (count : ℕ) (s : State) (moments : Option (List ℕ))
     (old new : Option Connections) (last : State) (later : Option (List ℕ)) : Type 0 where
   pub visits : List Visit
   pub told : Visits old new visits
   pub counted : length visits ≡ count
   pub sessions : Sessions s moments visits last later
+  pub taken : is_taken ≡ true → All IsTaken visits
 
 -- an accepted connection was served and given back, and this is left of the service
 pub record GivesBack {K : Type 0} (g : Ghosts K) (s : State) (keeper : K)
-    (moments : Option (List ℕ)) (number : ℕ) (came : Seen) (old new : Option Connections)
-    (later : Option (List ℕ)) (n : Next K) : Type 0 where
+    (moments : Option (List ℕ)) (number : ℕ) (came : Seen) (is_taken : Bool)
+    (old new : Option Connections) (later : Option (List ℕ)) (n : Next K) : Type 0 where
   pub back : Seen
   pub unfinished : Option (List ℕ)
   pub told : new ≡ option_map (gives_back (back_of number back unfinished)) old
@@ -150,6 +162,7 @@ pub record GivesBack {K : Type 0} (g : Ghosts K) (s : State) (keeper : K)
     came = came;
     back = back;
     unfinished = unfinished;
+    is_taken = is_taken;
   }) end to later
   pub leaves : IsLeft g s.history keeper is.session.last.state.history to n
 

@@ -1,6 +1,6 @@
 // Connections, one after another.
-ghost use Rattle.std.specs.Prelude.{◌≡◌, ◌≤◌, ℕ, List, Option, option_map, is_some, true, false};
-ghost use Rattle.std.specs.Prelude.{if◌then◌else◌, IfOk, IfErr, IfSome, OnOk};
+ghost use Rattle.std.specs.Prelude.{◌≡◌, ◌≤◌, ℕ, List, Option, Some, option_map, is_some, is_ok};
+ghost use Rattle.std.specs.Prelude.{true, false, if◌then◌else◌, IfOk, IfErr, IfSome, OnOk};
 ghost use Rattle.reg_outside.specs.Connections.{HasOut, back_of, gives_back, seen};
 ghost use Rattle.reg_outside.specs.Faults.{HasCause, Rose};
 ghost use Rattle.reg_service.specs.Kept.{KeptOn};
@@ -37,6 +37,7 @@ fn return_connection<L: Listener>(
     requires { IfSome (L.connections net.old) HasOut }
     ensures back { (left : Option (List ℕ))
         × IfSome left (λ bytes. (ended ≡ Ended.Silent) × (unfinished.now ≡ bytes))
+        × (is_ok result ≡ true → ended ≡ Ended.Silent → left ≡ Some unfinished.now)
         × (L.connections net.new ≡ option_map (gives_back (back_of accepted.number
         (seen ⟦<L::Conn as Source>⟧ ⟦<L::Conn as Sink>⟧ accepted.conn) left))
         (L.connections net.old)) }
@@ -68,11 +69,12 @@ fn serve_accepted<K: Keeper, L: Listener, T: Clock>(
     requires { IfSome (L.connections net.old) HasOut }
     ensures back { GivesBack ⟦<K as Keeper>⟧ service.state service.keeper (T.moments clock.old)
         accepted.number (seen ⟦<L::Conn as Source>⟧ ⟦<L::Conn as Sink>⟧ accepted.conn)
-        (L.connections net.old) (L.connections net.new) (T.moments clock.new) result.0 }
+        (is_ok result.1) (L.connections net.old) (L.connections net.new) (T.moments clock.new)
+        result.0 }
     ensures keeps_up { BackKeepsUp ⟦<K as Keeper>⟧ service.state service.keeper
         (T.moments clock.old) accepted.number
-        (seen ⟦<L::Conn as Source>⟧ ⟦<L::Conn as Sink>⟧ accepted.conn) (L.connections net.old)
-        (L.connections net.new) (T.moments clock.new) result.0 }
+        (seen ⟦<L::Conn as Source>⟧ ⟦<L::Conn as Sink>⟧ accepted.conn) (is_ok result.1)
+        (L.connections net.old) (L.connections net.new) (T.moments clock.new) result.0 }
     ensures cause { HasCause (L.listener_faults net.old) (L.listener_faults net.new) result.1 }
     ensures port { L.listens net.new ≡ L.listens net.old }
 {
@@ -95,7 +97,7 @@ fn serve_next<K: Keeper, L: Listener, T: Clock>(
     clock: &mut T,
 ) -> Result<(Service<K>, bool), (Ceased, K)>
     requires { is_some (L.listens net.old) ≡ true }
-    ensures served { IfOk result (λ after. ServedSo (if after.1 then 1
+    ensures served { IfOk result (λ after. ServedSo true (if after.1 then 1
         else 0) service.state (T.moments clock.old) (L.connections net.old)
         (L.connections net.new) after.0.state (T.moments clock.new)) }
     ensures none { IfOk result (λ after. after.1 ≡ false → NoneComes (L.connections net.new)) }
@@ -105,7 +107,7 @@ fn serve_next<K: Keeper, L: Listener, T: Clock>(
     ensures ceased { IfErr result
         (λ e. CeasesNext ⟦<K as Keeper>⟧ service.state service.keeper (T.moments clock.old)
         (L.connections net.old) (L.connections net.new) (T.moments clock.new) e.0 e.1) }
-    ensures keeps_up { IfOk result (λ after. (s : ServedSo (if after.1 then 1
+    ensures keeps_up { IfOk result (λ after. (s : ServedSo true (if after.1 then 1
         else 0) service.state (T.moments clock.old) (L.connections net.old)
         (L.connections net.new) after.0.state (T.moments clock.new))
         × VisitsKeepUp ⟦<K as Keeper>⟧ service.keeper after.0.state.history after.0.keeper

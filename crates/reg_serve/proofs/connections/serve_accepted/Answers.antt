@@ -1,4 +1,4 @@
-use Rattle.reg_serve.proofs.Visiting.{rests_so}
+use Rattle.reg_serve.proofs.Visiting.{kept_so, rests_so}
 use Rattle.reg_serve.proofs.connections.serve_accepted.Goals as goal
 
 -- it was a session, and was given back as it stood after it
@@ -9,13 +9,14 @@ returns-clause-back g c =
     record {
       back = _;
       unfinished = back.0;
-      told = back.2;
+      told = back.3;
       end = _;
       to = s.0.to;
       is = record {
         session = s.0.session;
         failed = c.serve_bytes-ended.ensures.failed;
         open_still = rests_so _ _ _ _ back.0 s.1 c.unfinished.ensures back.1;
+        kept = kept_so _ _ _ _ back.0 _ s.1 c.unfinished.ensures back.2;
       };
       leaves = s.0.leaves;
     }
@@ -27,13 +28,14 @@ returns-clause-keeps_up g c =
       record {
         back = _;
         unfinished = back.0;
-        told = back.2;
+        told = back.3;
         end = _;
         to = s.0.0.to;
         is = record {
           session = s.0.0.session;
           failed = c.serve_bytes-ended.ensures.failed;
           open_still = rests_so _ _ _ _ back.0 s.0.1 c.unfinished.ensures back.1;
+          kept = kept_so _ _ _ _ back.0 _ s.0.1 c.unfinished.ensures back.2;
         };
         leaves = s.0.0.leaves;
       },

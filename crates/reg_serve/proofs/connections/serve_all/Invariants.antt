@@ -1,4 +1,4 @@
-use Rattle.std.proofs.Common.{◌≡◌, ◌≤◌, ◌-◌}
+use Rattle.std.proofs.Common.{true, ◌≡◌, ◌≤◌, ◌-◌}
 use Rattle.reg_service.specs.Kept.{KeptOn}
 use Rattle.reg_serve.specs.KeepingUp.{VisitsKeepUp}
 use Rattle.reg_serve.specs.Visits.{ServedSo}
@@ -10,8 +10,8 @@ invariant-loop-served g l =
     let told = g.L.Listener.connections in
     let moments = g.T.Clock.moments in
     record {
-      done : ServedSo l.served l.fn.service.state (moments l.fn.clock) (told l.fn.net) (told l.net) l.service.state (moments l.clock);
-      up : (x : ServedSo l.served l.fn.service.state (moments l.fn.clock) (told l.fn.net) (told l.net) l.service.state (moments l.clock)) × VisitsKeepUp g.K.Keeper l.fn.service.keeper l.service.state.history l.service.keeper x.visits;
+      done : ServedSo true l.served l.fn.service.state (moments l.fn.clock) (told l.fn.net) (told l.net) l.service.state (moments l.clock);
+      up : (x : ServedSo true l.served l.fn.service.state (moments l.fn.clock) (told l.fn.net) (told l.net) l.service.state (moments l.clock)) × VisitsKeepUp g.K.Keeper l.fn.service.keeper l.service.state.history l.service.keeper x.visits;
       few : l.served ≤ l.limit;
       kept : KeptOn g.K.Keeper l.fn.service.state.history l.fn.service.keeper l.service.state.history l.service.keeper;
       port : g.L.Listener.listens l.net ≡ g.L.Listener.listens l.fn.net;
