@@ -3,6 +3,7 @@ mod Conversing
 mod Cutting
 mod Exactly
 mod Joining
+mod OneList
 mod Turning
 mod Upkeep
 mod Upvisits

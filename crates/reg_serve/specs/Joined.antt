@@ -1,6 +1,7 @@
 -- The turns of a connection, put together.
 use Rattle.std.specs.Prelude.{◌≡◌, ◌==◌, ◌≤◌, ◌++◌, ◌∷◌, ℕ, List, [], All, Option, Some, None}
-use Rattle.std.specs.Prelude.{IfSome, if◌then◌else◌}
+use Rattle.std.specs.Prelude.{◌⊎◌, IfSome, if◌then◌else◌}
+use Rattle.std.proofs.Common.{inl}
 use Rattle.std.specs.List.{find}
 use Rattle.std.specs.Io.KnownBytes.{append_known, prepend_known}
 use Rattle.reg_outside.specs.Connections.{Arrival, Back, Connections, is_open_one, next_turn}
@@ -8,8 +9,12 @@ use Rattle.reg_outside.specs.Connections.{opens, sends}
 use Rattle.reg_machine.specs.History.{State}
 use Rattle.reg_http.specs.declared.call.Call.{Call}
 use Rattle.reg_http.specs.Runs.{AreMessages}
-use Rattle.reg_serve.specs.Answered.{Answer}
+use Rattle.reg_session.specs.Answered.{Point}
+use Rattle.reg_serve.specs.Answered.{Answer, Outcome, goes}
+use Rattle.reg_serve.specs.Sessions.{EndsAtMessage, EndsBetween, IsQuiet}
 use Rattle.reg_serve.specs.Visits.{Sessions, Visit, Visited}
+use Rattle.reg_serve.specs.declared.ended.Ended.{Ended}
+use Rattle.reg_serve.specs.declared.ended.Ended.TheVariants as ended
 
 -- a new connection comes with nothing written to it
 abbrev pub IsBlank : Arrival → Type 0
@@ -48,6 +53,28 @@ answers_to number s moments [] last later all = []
 answers_to number s moments (v ∷ visits) last later all =
     (if v.number == number then all.3.session.all.answers else [])
     ++ answers_to number all.1 all.2 visits last later all.4
+
+-- the message at which a turn ended and the service went on, with its reply, if there is one
+abbrev pub ended_with : (p : Point) (rest taken : List ℕ) (now w ms : Option (List ℕ)) (e : Ended)
+    (to : Outcome)
+    → EndsAtMessage p rest w ms e to ⊎ (IsQuiet p w ms to × EndsBetween taken now rest e)
+    → List Answer
+ended_with p rest taken now w ms ended.Closed (goes s) (inl (inl m)) = m.3.1.answers
+ended_with p rest taken now w ms ended.Failed (goes s) (inl (inl m)) =
+    record { call = m.0; at = m.3.at; told = m.3.told } ∷ []
+ended_with p rest taken now w ms ended.NoMemory (goes s) (inl (inl m)) =
+    record { call = m.0; at = m.3.0.at; told = m.3.0.told } ∷ []
+ended_with p rest taken now w ms e to ends = []
+
+-- all messages of these turns, whichever connections had them, each with its reply
+abbrev pub all_answers : (s : State) (moments : Option (List ℕ)) (visits : List Visit)
+    (last : State) (later : Option (List ℕ)) → Sessions s moments visits last later → List Answer
+all_answers s moments [] last later all = []
+all_answers s moments (v ∷ visits) last later all =
+    (all.3.session.all.answers
+    ++ ended_with all.3.session.last all.3.session.reading.rest all.3.session.taken v.back.left
+    v.back.written all.2 all.0 (goes all.1) all.3.session.ends)
+    ++ all_answers all.1 all.2 visits last later all.4
 
 -- What is so of a connection behind some turns, of which all its bytes, the messages answered and
 -- the responses are these. An open one has the bytes behind those messages left, and just these

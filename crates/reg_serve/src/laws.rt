@@ -9,9 +9,10 @@ ghost use Rattle.reg_serve.specs.Answered.{Answered};
 ghost use Rattle.reg_serve.specs.Exact.{replies_of, replies, last_state};
 ghost use Rattle.reg_outside.specs.Connections.{Connections, next_turn};
 ghost use Rattle.reg_machine.specs.History.{State};
-ghost use Rattle.reg_serve.specs.Answered.{calls_of, responses_of};
-ghost use Rattle.reg_serve.specs.Joined.{Continues, IsUnused, Joined, answers_to, came_of};
-ghost use Rattle.reg_serve.specs.Joined.{came_with, join_known};
+ghost use Rattle.reg_session.specs.Answered.{Gives};
+ghost use Rattle.reg_serve.specs.Answered.{MayAnswer, calls_of, responses_of, times_of};
+ghost use Rattle.reg_serve.specs.Joined.{Continues, IsUnused, Joined, all_answers, answers_to};
+ghost use Rattle.reg_serve.specs.Joined.{came_of, came_with, join_known};
 ghost use Rattle.reg_serve.specs.Visits.{HadTurn, Sessions, Visit, Visited};
 ghost use Rattle.reg_serve.specs.Whole.{Whole};
 
@@ -43,7 +44,8 @@ pub fn cutting_changes_no_response()
 /// The turns of a connection are one session, whatever turns of others come between them. In each
 /// it comes with what its earlier turns left of all its bytes by then, behind the messages that
 /// they answered, and just their responses are written to it. Behind its last turn the same is so
-/// of one that may have another. New connections come with nothing written to them.
+/// of one that may have another. New connections come with nothing written to them. All messages
+/// of all turns are answered as one list, one after another.
 pub fn turns_are_one_session()
     ensures continues { (start mid new : Connections) (earlier : List Visit) (v : Visit)
         (s last : State) (moments later : Option (List ℕ)) → IsUnused start
@@ -58,6 +60,10 @@ pub fn turns_are_one_session()
         → Joined new number (came_of number start new visits had)
         (calls_of (answers_to number s moments visits last later all))
         (responses_of (answers_to number s moments visits last later all)) }
+    ensures one_list { (visits : List Visit) (s last : State) (moments later : Option (List ℕ))
+        (all : Sessions s moments visits last later)
+        → MayAnswer s (all_answers s moments visits last later all) last
+        × Gives moments (times_of (all_answers s moments visits last later all)) later }
 {
     turns_are_of_all_bytes();
 }
